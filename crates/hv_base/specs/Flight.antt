@@ -1,0 +1,64 @@
+-- A flight of pictures as contracts see it: sizes in coding tree blocks, references, and units that break a rule.
+use Rattle.std.specs.Prelude.{ℕ, ◌*◌, ◌<◌, ◌≤◌, Bool, false, List, [], Option, Some, None, sum_by, length, slice_index_or, All}
+use Rattle.hv_base.specs.declared.row_range.Reference.{Reference}
+use Rattle.hv_base.specs.declared.row_range.Reference.TheVariants.{Base, Flight}
+use Rattle.hv_base.specs.declared.row_range.RowRange.{RowRange}
+
+-- a picture's coding tree units a row, its rows, whether entropy coding sync is on, the collocated picture, and the
+-- row ranges that each coding tree unit in raster order reads; one past the list's end reads none
+pub record PictureRows : Type 0 where
+  pub width : ℕ
+  pub rows : ℕ
+  pub sync : Bool
+  pub collocated : Option Reference
+  pub reach : List (List RowRange)
+
+-- the pictures in decoding order, and the numbers of the units at which a rule is broken
+pub record FlightRows : Type 0 where
+  pub pictures : List PictureRows
+  pub bad : List ℕ
+
+-- the coding tree units of a picture
+abbrev pub picture_units : PictureRows → ℕ
+picture_units p = p.rows * p.width
+
+-- the coding tree units of these pictures
+abbrev pub units_of : List PictureRows → ℕ
+units_of pictures = sum_by picture_units pictures
+
+-- a picture has from 1 to 512 rows of from 1 to 512 coding tree units
+pub record IsInRange (p : PictureRows) : Type 0 where
+  pub some_width : 1 ≤ p.width
+  pub width : p.width ≤ 512
+  pub some_rows : 1 ≤ p.rows
+  pub rows : p.rows ≤ 512
+
+-- a reference is to a base or to one of the first n pictures of the flight
+abbrev pub IsEarlier : ℕ → Reference → Type 0
+IsEarlier n (Base _) = Unit {0}
+IsEarlier n (Flight k) = k < n
+
+abbrev pub IsNoneOrEarlier : ℕ → Option Reference → Type 0
+IsNoneOrEarlier n None = Unit {0}
+IsNoneOrEarlier n (Some r) = IsEarlier n r
+
+-- all that a picture reads is in bases or in the first n pictures of the flight
+pub record ReadsEarlier (n : ℕ) (p : PictureRows) : Type 0 where
+  pub collocated : IsNoneOrEarlier n p.collocated
+  pub reach : All (λ ranges. All (λ (r : RowRange). IsEarlier n r.picture) ranges) p.reach
+
+-- what stands at a place that no picture has
+abbrev pub no_picture : PictureRows
+no_picture = record { width = 0; rows = 0; sync = false; collocated = None; reach = [] }
+
+-- the picture at a place of the flight
+abbrev pub picture_at : FlightRows → ℕ → PictureRows
+picture_at plan k = slice_index_or plan.pictures k no_picture
+
+-- a flight has at most 65,536 pictures, each of which reads bases and earlier pictures alone, and rules are broken at
+-- its units alone
+pub record IsFlight (plan : FlightRows) : Type 0 where
+  pub few : length plan.pictures ≤ 65536
+  pub sizes : All IsInRange plan.pictures
+  pub earlier : (k : ℕ) → k < length plan.pictures → ReadsEarlier k (picture_at plan k)
+  pub bad : All (λ unit. unit < units_of plan.pictures) plan.bad
