@@ -1,0 +1,13 @@
+-- What was read is taken, and the count of faults hasn't fallen.
+use Rattle.std.proofs.Common.{◌≤◌, ◌-◌, ◌^◌, vec_len}
+use Rattle.hv_io.specs.Streams.{Takes}
+use Rattle.hv_io.proofs.transfers.read_through.Given as goal
+
+abbrev pub invariant-loop-bytes : goal.invariant-loop-bytes
+invariant-loop-bytes g l = record {
+  taken : Takes (g.S.Source.left l.fn.src) (g.S.Source.left l.src) l.bytes.items;
+  grows : g.S.Source.faults l.fn.src ≤ g.S.Source.faults l.src;
+}
+
+abbrev pub decreases-loop-bytes : goal.decreases-loop-bytes
+decreases-loop-bytes g l = 2 ^ 64 - vec_len l.bytes
