@@ -1,0 +1,9 @@
+//! The arithmetic decoding engine (H.265 9.3.2.5, 9.3.4.3).
+#![tactic(auto)]
+
+mod interval;
+
+pub use interval::Interval;
+
+#[cfg(test)]
+mod tests;

@@ -1,0 +1,6 @@
+-- What the plain program's engine stands for.
+use Rattle.spec_cabac.specs.declared.plain.PlainEngine.{PlainEngine}
+use Rattle.spec_cabac.specs.Engine.{Engine}
+
+abbrev pub engine_of : PlainEngine → Engine
+engine_of e = record { range = e.range; offset = e.offset; left = e.left.now }
