@@ -1,0 +1,3 @@
+pub mod FixedLength
+pub mod Bins
+pub mod Spelling

@@ -1,0 +1,4 @@
+pub mod Reading
+pub mod Elements
+pub mod Grammar
+pub mod Plain
