@@ -1,0 +1,2 @@
+pub mod HeadlineLaws
+pub mod Trailing
