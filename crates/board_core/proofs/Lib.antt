@@ -1,0 +1,7 @@
+pub mod Counting
+pub mod Endings
+pub mod NeedList
+pub mod Order
+pub mod Progress
+pub mod Steps
+pub mod Units

@@ -1,0 +1,5 @@
+pub mod Places
+pub mod Needs
+pub mod States
+pub mod Runs
+pub mod Progress

@@ -1,0 +1,130 @@
+//! What must be counted before an event.
+
+ghost use Rattle.hv_base.specs.declared.line.Line.{Line};
+ghost use Rattle.std.specs.Prelude.{ℕ, ◌≡◌, ◌+◌, ◌*◌, ◌≤◌, ◌↔◌, [], slice_index_or, IfSome, None};
+ghost use Rattle.std.specs.Option.{option_to_list};
+ghost use Rattle.hv_base.specs.Flight.{picture_at, units_of};
+ghost use Rattle.board_core.specs.Needs.{above_needs, read_needs, row_needs, IsNeedsOf};
+ghost use Rattle.board_core.specs.Places.{IsLine, IsPlaceOf, width_of};
+
+use crate::event::Event;
+use crate::need_list::Needs;
+use crate::pictures::{collocated_at, rows_at, sync_at, width_at};
+use crate::places::row_and_column;
+use hv_base::{FlightPlan, Line, Phase, Reference, RowRange, Unit};
+
+/// What must be counted before `event`.
+pub fn needs<'a>(plan: &'a FlightPlan, event: Event) -> Needs<'a>
+    ensures { IsNeedsOf plan.now event result }
+{
+    match event {
+        Event::Draw => no_needs(plan),
+        Event::Filter(_) => no_needs(plan),
+        Event::Read(line, x) => read_list(plan, line, x),
+        Event::Build(line, x) => Needs::new(
+            plan,
+            above(plan, line, x),
+            whole_row(plan, collocated_at(plan, line.picture), line.row),
+            reach_at(plan, line, x),
+        ),
+        Event::Fault(unit) => fault_needs(plan, unit),
+    }
+}
+
+/// What parsing the unit of this number needs; nothing where the flight has no such unit.
+fn fault_needs<'a>(plan: &'a FlightPlan, unit: Unit) -> Needs<'a>
+    ensures at_place { (l : Line) (x : ℕ) → IsPlaceOf plan.now unit l x → result ≡ read_needs plan.now l x }
+    ensures none { units_of plan.now.pictures ≤ unit → result ≡ [] }
+{
+    match place_of(plan, unit) {
+        Some((line, x)) => read_list(plan, line, x),
+        None => no_needs(plan),
+    }
+}
+
+fn no_needs<'a>(plan: &'a FlightPlan) -> Needs<'a>
+    ensures { result ≡ [] }
+{
+    Needs::new(plan, None, None, &[])
+}
+
+fn read_list<'a>(plan: &'a FlightPlan, line: Line, x: u32) -> Needs<'a>
+    ensures { result ≡ read_needs plan.now line x }
+{
+    Needs::new(plan, above(plan, line, x), None, &[])
+}
+
+/// What is needed of the row above.
+pub fn above(plan: &FlightPlan, line: Line, x: u32) -> Option<(Line, u64)>
+    ensures value { option_to_list result ≡ above_needs plan.now line x }
+    ensures line { IsLine plan.now line → IfSome result (λ need. IsLine plan.now need.0) }
+{
+    if line.row == 0 {
+        return None;
+    }
+    let width = u64::from(width_at(plan, line.picture));
+    let count = if sync_at(plan, line.picture) {
+        (u64::from(x) + 2).min(width)
+    } else {
+        width
+    };
+    Some((b_line(line.picture, line.row - 1), count))
+}
+
+/// A whole row of a reference picture, where there is one and it has the row.
+pub fn whole_row(plan: &FlightPlan, reference: Option<Reference>, row: u32) -> Option<(Line, u64)>
+    ensures value { option_to_list result ≡ row_needs plan.now reference row }
+    ensures line { IfSome result (λ need. IsLine plan.now need.0) }
+{
+    match reference {
+        Some(Reference::Flight(picture)) => {
+            if row < rows_at(plan, picture) {
+                Some((b_line(picture, row), u64::from(width_at(plan, picture))))
+            } else {
+                None
+            }
+        }
+        Some(Reference::Base(_)) => None,
+        None => None,
+    }
+}
+
+/// The row ranges that the coding tree unit `x` of a line reads.
+pub fn reach_at<'a>(plan: &'a FlightPlan, line: Line, x: u32) -> &'a [RowRange]
+    ensures { result.now ≡ slice_index_or (picture_at plan.now line.picture).reach (line.row * width_of plan.now line + x) [] }
+{
+    match plan.pictures().get(line.picture as usize) {
+        Some(found) => found.reach(
+            (u64::from(line.row) * u64::from(found.width()) + u64::from(x)) as usize,
+        ),
+        None => &[],
+    }
+}
+
+/// The B line of a row of a picture.
+pub fn b_line(picture: u32, row: u32) -> Line
+    ensures { result ≡ record { phase = Phase.B; picture = picture; row = row } }
+{
+    Line {
+        phase: Phase::B,
+        picture,
+        row,
+    }
+}
+
+/// The line and the place there of a unit. `None` exactly where the flight has no such unit.
+fn place_of(plan: &FlightPlan, unit: Unit) -> Option<(Line, u32)>
+    ensures found { IfSome result (λ place. IsPlaceOf plan.now unit place.0 place.1) }
+    ensures none { result ≡ None ↔ (units_of plan.now.pictures ≤ unit) }
+{
+    let mut within = unit;
+    for (picture, found) in plan.pictures().iter().enumerate() {
+        let units = u64::from(found.rows()) * u64::from(found.width());
+        if within < units {
+            let (row, x) = row_and_column(found.rows(), found.width(), within);
+            return Some((b_line(picture as u32, row), x));
+        }
+        within -= units;
+    }
+    None
+}

@@ -1,0 +1,20 @@
+//! Which event of a flight must come before which: the pure core of row scheduling, a machine over events.
+#![tactic(auto)]
+
+mod core_state;
+mod event;
+mod event_needs;
+mod laws;
+mod need_list;
+mod pictures;
+mod places;
+mod search;
+
+pub use core_state::Core;
+pub use event::Event;
+pub use event_needs::needs;
+pub use laws::{ending_runs_agree, every_run_is_sound};
+pub use need_list::Needs;
+
+#[cfg(test)]
+mod tests;

@@ -1,0 +1,57 @@
+//! What a flight says of one of its pictures, by its place, also where there is none.
+
+ghost use Rattle.std.specs.Prelude.{◌≡◌, ◌+◌, ◌≤◌, min};
+ghost use Rattle.hv_base.specs.Flight.{picture_at};
+
+use hv_base::{FlightPlan, Reference};
+
+/// The rows of a picture, 0 where the flight has no such picture.
+pub fn rows_at(plan: &FlightPlan, picture: u32) -> u32
+    ensures value { result ≡ (picture_at plan.now picture).rows }
+    ensures small { result ≤ 512 }
+{
+    match plan.pictures().get(picture as usize) {
+        Some(found) => found.rows(),
+        None => 0,
+    }
+}
+
+/// The coding tree units of a row of a picture, 0 where the flight has no such picture.
+pub fn width_at(plan: &FlightPlan, picture: u32) -> u32
+    ensures value { result ≡ (picture_at plan.now picture).width }
+    ensures small { result ≤ 512 }
+{
+    match plan.pictures().get(picture as usize) {
+        Some(found) => found.width(),
+        None => 0,
+    }
+}
+
+/// Whether entropy coding sync is on in a picture; not where the flight has no such picture.
+pub fn sync_at(plan: &FlightPlan, picture: u32) -> bool
+    ensures { result ≡ (picture_at plan.now picture).sync }
+{
+    match plan.pictures().get(picture as usize) {
+        Some(found) => found.sync(),
+        None => false,
+    }
+}
+
+/// The collocated picture of a picture, where it has one.
+pub fn collocated_at(plan: &FlightPlan, picture: u32) -> Option<Reference>
+    ensures { result ≡ (picture_at plan.now picture).collocated }
+{
+    match plan.pictures().get(picture as usize) {
+        Some(found) => found.collocated(),
+        None => None,
+    }
+}
+
+/// The end of the rows up to `last` that a picture has.
+pub fn rows_end(plan: &FlightPlan, picture: u32, last: u32) -> u32
+    ensures value { result ≡ min (last + 1) (picture_at plan.now picture).rows }
+    ensures small { result ≤ 512 }
+{
+    let rows = rows_at(plan, picture);
+    if last < rows { last + 1 } else { rows }
+}

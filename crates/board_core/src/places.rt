@@ -1,0 +1,190 @@
+//! The tickets of lines and the numbers of units, by tables of what stands before each picture.
+
+ghost use Rattle.std.specs.Prelude.{◌≡◌, ◌<◌, ◌↔◌, IsTrue, IfOk, IfSome, None, length};
+ghost use Rattle.std.specs.Prelude.{ℕ, ◌≤◌, ◌+◌, ◌*◌, take, sum_by, slice_index, slice_index_or};
+ghost use Rattle.hv_base.specs.Flight.{IsFlight, no_picture, picture_units, picture_at, units_of};
+ghost use Rattle.board_core.specs.Places.{IsLine, IsPlaceOf, lines_of, rows_of, ticket_of, unit_of, width_of};
+
+use crate::pictures::{rows_at, width_at};
+use crate::search::last_at_most;
+use hv_base::{FlightPicture, FlightPlan, Line, Phase, Unit};
+use std::alloc::{AllocError, Global};
+use std::marker::Model;
+
+/// Where the lines and units of a flight stand. Contracts see the plan.
+#[derive(Drop)]
+pub struct Places<'a> {
+    plan: &'a FlightPlan,
+    /// By picture, the lines of the pictures before it.
+    first_lines: Vec<u64>,
+    /// By picture, the units of the pictures before it.
+    first_units: Vec<Unit>,
+    lines: usize,
+}
+
+impl<'a> Model for Places<'a> {
+    ghost use Rattle.std.specs.Prelude.{ℕ, ◌≡◌, ◌<◌, ◌≤◌, ◌*◌, ◌^◌, length, take, sum_by, slice_index};
+    ghost use Rattle.hv_base.specs.Flight.{FlightRows, IsFlight, picture_units};
+    ghost use Rattle.board_core.specs.Places.{rows_of};
+
+    ghost Value = { FlightRows };
+
+    ghost view = { λ p. p.plan.now };
+
+    ghost invariant = { λ p.
+        IsFlight p.plan.now
+        × (length p.first_lines.items ≡ length p.plan.now.pictures)
+        × (length p.first_units.items ≡ length p.plan.now.pictures)
+        × (p.lines ≡ sum_by rows_of p.plan.now.pictures)
+        × (sum_by rows_of p.plan.now.pictures ≤ 512 * length p.plan.now.pictures)
+        × (sum_by picture_units p.plan.now.pictures < 2 ^ 64)
+        × ((k : ℕ) → k < length p.plan.now.pictures → slice_index p.first_lines.items k ≡ sum_by rows_of (take k p.plan.now.pictures))
+        × ((k : ℕ) → k < length p.plan.now.pictures → slice_index p.first_units.items k ≡ sum_by picture_units (take k p.plan.now.pictures)) };
+}
+
+impl<'a> Places<'a> {
+    /// The places of a flight.
+    pub fn new(alloc: Global, plan: &'a FlightPlan) -> Result<Places<'a>, AllocError>
+        ensures { IfOk result (λ places. places ≡ plan.now) }
+    {
+        let mut first_lines = Vec::new(alloc);
+        let mut first_units = Vec::new(alloc);
+        let mut lines = 0;
+        let mut units = 0;
+        let _total = plan.units();
+        for picture in plan.pictures() {
+            first_lines.push(lines)?;
+            first_units.push(units)?;
+            lines += u64::from(picture.rows());
+            units += u64::from(picture.rows()) * u64::from(picture.width());
+        }
+        Ok(Places {
+            plan,
+            first_lines,
+            first_units,
+            lines: lines as usize,
+        })
+    }
+
+    /// The plan.
+    pub fn plan(&self) -> &'a FlightPlan
+        ensures { result.now ≡ self.now }
+    {
+        self.plan
+    }
+
+    /// How many lines the flight has.
+    pub fn lines(&self) -> usize
+        ensures { result ≡ lines_of self.now }
+    {
+        self.lines
+    }
+
+    /// The rows of a picture, 0 where the flight has no such picture.
+    pub fn rows(&self, picture: u32) -> u32
+        ensures value { result ≡ (picture_at self.now picture).rows }
+        ensures small { result ≤ 512 }
+    {
+        rows_at(self.plan, picture)
+    }
+
+    /// The coding tree units of a row of a picture, 0 where the flight has no such picture.
+    pub fn width(&self, picture: u32) -> u32
+        ensures value { result ≡ (picture_at self.now picture).width }
+        ensures small { result ≤ 512 }
+    {
+        width_at(self.plan, picture)
+    }
+
+    /// Whether the flight has the line.
+    pub fn is_line(&self, line: Line) -> bool
+        ensures { IsTrue result ↔ IsLine self.now line }
+    {
+        line.phase == Phase::B && line.row < self.rows(line.picture)
+    }
+
+    /// The ticket of a line.
+    #[tactic(auto, using(crate::proofs::Order::line_inside, crate::proofs::Order::ticket_inside))]
+    pub fn ticket(&self, line: Line) -> usize
+        requires { IsLine self.now line }
+        ensures value { result ≡ ticket_of self.now line }
+        ensures inside { result < lines_of self.now }
+    {
+        (self.first_lines[line.picture as usize] + u64::from(line.row)) as usize
+    }
+
+    /// The number of the coding tree unit `x` of a line.
+    #[tactic(auto, using(crate::proofs::Order::line_inside, crate::proofs::Order::unit_inside))]
+    pub fn unit(&self, line: Line, x: u32) -> Unit
+        requires line { IsLine self.now line }
+        requires inside { x < width_of self.now line }
+        ensures value { result ≡ unit_of self.now line x }
+    {
+        self.first_units[line.picture as usize] + self.within(line, x)
+    }
+
+    /// The number of the coding tree unit `x` of a line in its picture.
+    fn within(&self, line: Line, x: u32) -> u64
+        requires line { IsLine self.now line }
+        requires inside { x < width_of self.now line }
+        ensures value { result ≡ line.row * width_of self.now line + x }
+        ensures small { result < (picture_at self.now line.picture).rows * width_of self.now line }
+    {
+        u64::from(line.row) * u64::from(self.width(line.picture)) + u64::from(x)
+    }
+
+    /// The line that has a ticket.
+    pub fn line_at(&self, ticket: usize) -> Line
+        requires { ticket < lines_of self.now }
+        ensures line { IsLine self.now result }
+        ensures value { ticket_of self.now result ≡ ticket }
+    {
+        let picture = last_at_most(self.first_lines.as_slice(), ticket as u64);
+        Line {
+            phase: Phase::B,
+            picture: picture as u32,
+            row: (ticket as u64 - self.first_lines[picture]) as u32,
+        }
+    }
+
+    /// The line and the place there of a unit. `None` exactly where the flight has no such unit.
+    pub fn place(&self, unit: Unit) -> Option<(Line, u32)>
+        ensures found { IfSome result (λ place. IsPlaceOf self.now unit place.0 place.1) }
+        ensures none { result ≡ None ↔ (units_of self.now.pictures ≤ unit) }
+    {
+        if unit >= self.plan.units() {
+            return None;
+        }
+        let picture = last_at_most(self.first_units.as_slice(), unit);
+        Some(self.place_in(picture as u32, unit - self.first_units[picture]))
+    }
+
+    /// The line and the place there of a unit of a picture, by its place in raster order.
+    fn place_in(&self, picture: u32, within: u64) -> (Line, u32)
+        requires { within < (picture_at self.now picture).rows * (picture_at self.now picture).width }
+        ensures line { IsLine self.now result.0 }
+        ensures picture { result.0.picture ≡ picture }
+        ensures inside { result.1 < width_of self.now result.0 }
+        ensures within { result.0.row * width_of self.now result.0 + result.1 ≡ within }
+    {
+        let (row, x) = row_and_column(self.rows(picture), self.width(picture), within);
+        let line = Line {
+            phase: Phase::B,
+            picture,
+            row,
+        };
+        (line, x)
+    }
+}
+
+/// The row and the column of a place of a rectangle in raster order.
+#[tactic(auto, using(crate::proofs::Units::row_and_column))]
+pub fn row_and_column(rows: u32, width: u32, within: u64) -> (u32, u32)
+    requires { within < rows * width }
+    ensures row { result.0 < rows }
+    ensures column { result.1 < width }
+    ensures within { result.0 * width + result.1 ≡ within }
+{
+    let width = u64::from(width);
+    ((within / width) as u32, (within % width) as u32)
+}
