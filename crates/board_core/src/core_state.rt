@@ -50,7 +50,7 @@ impl<'a> Model for Core<'a> {
 }
 
 impl<'a> Core<'a> {
-    /// The state before any event.
+    /// The state before any event. It takes memory for each line and unit of the flight, so that events need none.
     #[tactic(auto, using(crate::proofs::Steps::opening_sound))]
     pub fn new(alloc: Global, plan: &'a FlightPlan) -> Result<Core<'a>, AllocError>
         ensures { IfOk result (λ core. core ≡ record { plan = plan.now; state = opening plan.now }) }
@@ -139,7 +139,7 @@ impl<'a> Core<'a> {
     fn is_bad(&self, unit: Unit) -> bool
         ensures { IsTrue result ↔ IsBad self.now.plan unit }
     {
-        self.places.plan().bad().contains(&unit)
+        self.places.is_bad(unit)
     }
 
     fn is_next(&self, line: Line, x: u32) -> bool

@@ -1,6 +1,7 @@
 //! Which event of a flight must come before which: the pure core of row scheduling, a machine over events.
 #![tactic(auto)]
 
+mod bad_units;
 mod core_state;
 mod event;
 mod event_needs;

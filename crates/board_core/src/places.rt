@@ -1,17 +1,19 @@
-//! The tickets of lines and the numbers of units, by tables of what stands before each picture.
+//! The tickets of lines and the numbers of units, by tables of what stands before each picture, and which units are bad.
 
 ghost use Rattle.std.specs.Prelude.{◌≡◌, ◌<◌, ◌↔◌, IsTrue, IfOk, IfSome, None, length};
 ghost use Rattle.std.specs.Prelude.{ℕ, ◌≤◌, ◌+◌, ◌*◌, take, sum_by, slice_index, slice_index_or};
 ghost use Rattle.hv_base.specs.Flight.{IsFlight, no_picture, picture_units, picture_at, units_of};
 ghost use Rattle.board_core.specs.Places.{IsLine, IsPlaceOf, lines_of, rows_of, ticket_of, unit_of, width_of};
+ghost use Rattle.board_core.specs.States.{IsBad};
 
+use crate::bad_units::bad_flags;
 use crate::pictures::{rows_at, width_at};
 use crate::search::last_at_most;
 use hv_base::{FlightPicture, FlightPlan, Line, Phase, Unit};
 use std::alloc::{AllocError, Global};
 use std::marker::Model;
 
-/// Where the lines and units of a flight stand. Contracts see the plan.
+/// Where the lines and units of a flight stand, and which units are bad. Contracts see the plan.
 #[derive(Drop)]
 pub struct Places<'a> {
     plan: &'a FlightPlan,
@@ -19,13 +21,16 @@ pub struct Places<'a> {
     first_lines: Vec<u64>,
     /// By picture, the units of the pictures before it.
     first_units: Vec<Unit>,
+    /// By unit, whether it is bad.
+    bad: Vec<bool>,
     lines: usize,
 }
 
 impl<'a> Model for Places<'a> {
-    ghost use Rattle.std.specs.Prelude.{ℕ, ◌≡◌, ◌<◌, ◌≤◌, ◌*◌, ◌^◌, length, take, sum_by, slice_index};
+    ghost use Rattle.std.specs.Prelude.{ℕ, ◌≡◌, ◌<◌, ◌≤◌, ◌*◌, ◌^◌, ◌↔◌, false, true, length, take, sum_by, slice_index, slice_index_or};
     ghost use Rattle.hv_base.specs.Flight.{FlightRows, IsFlight, picture_units};
     ghost use Rattle.board_core.specs.Places.{rows_of};
+    ghost use Rattle.board_core.specs.States.{IsBad};
 
     ghost Value = { FlightRows };
 
@@ -39,7 +44,8 @@ impl<'a> Model for Places<'a> {
         × (sum_by rows_of p.plan.now.pictures ≤ 512 * length p.plan.now.pictures)
         × (sum_by picture_units p.plan.now.pictures < 2 ^ 64)
         × ((k : ℕ) → k < length p.plan.now.pictures → slice_index p.first_lines.items k ≡ sum_by rows_of (take k p.plan.now.pictures))
-        × ((k : ℕ) → k < length p.plan.now.pictures → slice_index p.first_units.items k ≡ sum_by picture_units (take k p.plan.now.pictures)) };
+        × ((k : ℕ) → k < length p.plan.now.pictures → slice_index p.first_units.items k ≡ sum_by picture_units (take k p.plan.now.pictures))
+        × ((u : ℕ) → (slice_index_or p.bad.items u false ≡ true) ↔ IsBad p.plan.now u) };
 }
 
 impl<'a> Places<'a> {
@@ -49,6 +55,7 @@ impl<'a> Places<'a> {
     {
         let mut first_lines = Vec::new(alloc);
         let mut first_units = Vec::new(alloc);
+        let bad = bad_flags(alloc, plan)?;
         let mut lines = 0;
         let mut units = 0;
         let _total = plan.units();
@@ -62,6 +69,7 @@ impl<'a> Places<'a> {
             plan,
             first_lines,
             first_units,
+            bad,
             lines: lines as usize,
         })
     }
@@ -101,6 +109,16 @@ impl<'a> Places<'a> {
         ensures { IsTrue result ↔ IsLine self.now line }
     {
         line.phase == Phase::B && line.row < self.rows(line.picture)
+    }
+
+    /// Whether the unit is bad.
+    pub fn is_bad(&self, unit: Unit) -> bool
+        ensures { IsTrue result ↔ IsBad self.now unit }
+    {
+        match self.bad.get(unit as usize) {
+            Some(flag) => *flag,
+            None => false,
+        }
     }
 
     /// The ticket of a line.

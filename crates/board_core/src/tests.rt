@@ -241,33 +241,108 @@ fn random_lists_end_as_defined(rt: HostRuntime) -> Result<(), Fail> {
     Ok(())
 }
 
-/// Every list of events that ends: at each step Draw and one other event at most are ready, and a code picks.
-#[test]
-fn every_list_of_two_rows_ends_as_defined(rt: HostRuntime) -> Result<(), Fail> {
-    for first_is_bad in [false, true] {
-        let mut plan = FlightPlan::new(rt.alloc());
-        let picture = FlightPicture::new(2, 2, true, None, Vec::new(rt.alloc()));
-        assert!(rt; plan.takes(&picture));
-        plan.push(picture)?;
-        assert!(rt; 3 < plan.units());
-        plan.push_bad(3)?;
-        if first_is_bad {
-            plan.push_bad(1)?;
-        }
-        for code in 0..1024_u32 {
-            let mut starts = Vec::new(rt.alloc());
-            for bit in 0..10_u32 {
-                starts.push(if code >> bit & 1 == 0 { 0 } else { 12 })?;
+/// The place of Draw among the events of four units, which have three each.
+const DRAW: usize = 12;
+
+/// What every list of events of a plan is to show.
+#[derive(Clone, Copy)]
+struct Expected<'a> {
+    /// No event of this unit or a later one is ever ready.
+    silent: Unit,
+    /// When a list ends, these units are counted, and this is the least fault.
+    counted: &'a [Unit],
+    least: Unit,
+}
+
+/// Whether at most one event besides Draw is ready, and none of a unit that is to be silent.
+fn is_ready_as_expected(core: &Core, events: &[(Event, Unit)], expected: &Expected) -> bool {
+    let mut is_one_ready = false;
+    for (event, unit) in events {
+        if *event != Event::Draw && core.ready(*event) {
+            if *unit >= expected.silent || is_one_ready {
+                return false;
             }
-            match run_to_the_end(rt.alloc(), &plan, starts.as_slice())? {
-                Some(seen) => {
-                    assert!(rt; is_as_defined(&plan, &seen));
-                    assert!(rt; !first_is_bad || seen.built.len() == 1);
-                }
-                None => assert!(rt; false),
-            }
+            is_one_ready = true;
         }
     }
+    true
+}
+
+/// Whether a list that has ended has the units and the least fault that are expected.
+fn has_ended_as_expected(core: &Core, seen: &Seen, expected: &Expected) -> bool {
+    !core.done() || seen.built.as_slice() == expected.counted && seen.least == Some(expected.least)
+}
+
+/// Takes ten events, Draw before another that is ready where `code` has a 1. Says whether the list ends, with each state
+/// on the way as expected.
+fn is_list_as_expected(
+    alloc: Global,
+    plan: &FlightPlan,
+    code: u32,
+    expected: &Expected,
+) -> Result<bool, AllocError> {
+    let events = events_of(alloc, plan)?;
+    let mut core = Core::new(alloc, plan)?;
+    let mut seen = Seen {
+        built: Vec::new(alloc),
+        least: None,
+    };
+    let mut is_expected = is_ready_as_expected(&core, events.as_slice(), expected);
+    for bit in 0..10_u32 {
+        let start = if code >> bit & 1 == 0 { 0 } else { DRAW };
+        if let Some((event, unit)) = first_ready(&core, events.as_slice(), start) {
+            if take(&mut core, event) {
+                seen.see(event, unit)?;
+            }
+        }
+        is_expected = is_expected
+            && is_ready_as_expected(&core, events.as_slice(), expected)
+            && has_ended_as_expected(&core, &seen, expected);
+    }
+    Ok(is_expected && core.done())
+}
+
+/// Whether every list of ten events of two rows of two units is as expected. At each state Draw and one other event at
+/// most are ready, so that a code of ten bits picks each list.
+fn are_lists_as_expected(
+    alloc: Global,
+    bad: &[Unit],
+    expected: &Expected,
+) -> Result<bool, AllocError> {
+    let mut plan = FlightPlan::new(alloc);
+    plan.push(FlightPicture::new(2, 2, true, None, Vec::new(alloc)))?;
+    for unit in bad {
+        if *unit < plan.units() {
+            plan.push_bad(*unit)?;
+        }
+    }
+    for code in 0..1024_u32 {
+        if !is_list_as_expected(alloc, &plan, code, expected)? {
+            return Ok(false);
+        }
+    }
+    Ok(true)
+}
+
+#[test]
+fn every_list_with_a_bad_last_unit_counts_the_others(rt: HostRuntime) -> Result<(), Fail> {
+    let expected = Expected {
+        silent: 4,
+        counted: &[0, 1, 2],
+        least: 3,
+    };
+    assert!(rt; are_lists_as_expected(rt.alloc(), &[3], &expected)?);
+    Ok(())
+}
+
+#[test]
+fn no_event_behind_a_bad_unit_is_ready_in_any_list(rt: HostRuntime) -> Result<(), Fail> {
+    let expected = Expected {
+        silent: 2,
+        counted: &[0],
+        least: 1,
+    };
+    assert!(rt; are_lists_as_expected(rt.alloc(), &[1, 3], &expected)?);
     Ok(())
 }
 
