@@ -1,1 +1,4 @@
 pub mod Reading
+pub mod Writing
+pub mod Fields
+pub mod RoundTrip

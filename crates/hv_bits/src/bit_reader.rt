@@ -2,7 +2,7 @@
 
 ghost use Rattle.std.specs.Prelude.{◌≡◌, ℕ, ◌+◌, ◌-◌, ◌*◌, ◌^◌, ◌<◌, ◌≤◌, ◌∷◌, length, take, drop, IfSome};
 ghost use Rattle.std.specs.Prelude.{min};
-ghost use Rattle.spec_bits.specs.Bits.{bits, number_of, u_at, Gives};
+ghost use Rattle.spec_bits.specs.Bits.{bits, number_of, u_at, flag_at, Gives};
 ghost use Rattle.spec_bits.specs.Alignment.{up_to_boundary};
 
 use std::marker::Model;
@@ -64,6 +64,17 @@ impl<'a> BitReader<'a> {
             return None;
         }
         Some(self.number(n))
+    }
+
+    /// The next bit as a flag: u(1) of H.265 7.2. `None` where no bit is left.
+    #[tactic(auto, unfolding(spec_bits::specs::Bits::flag_at))]
+    pub fn flag(&mut self) -> Option<bool>
+        ensures { Gives result self.old self.new (flag_at self.old) }
+    {
+        match self.left() {
+            0 => None,
+            _ => Some(self.bit()),
+        }
     }
 
     #[tactic(auto, unfolding(spec_bits::specs::Bits::number_of))]

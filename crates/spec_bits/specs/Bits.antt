@@ -28,6 +28,11 @@ number_of bs = number_after 0 bs
 unfoldable pub u_at : ℕ → List Bool → Option (ℕ × List Bool)
 u_at n bs = if nat_lt (length bs) n then None else Some (number_of (take n bs), drop n bs)
 
+-- u(1) of a flag: whether the next bit is 1, and the bits after it
+unfoldable pub flag_at : List Bool → Option (Bool × List Bool)
+flag_at [] = None
+flag_at (b ∷ bs) = Some (b, bs)
+
 -- a step that may lack bits, and then another on what it found
 infixl 10 ◌>>=◌
 abbrev pub ◌>>=◌ : {A B : Type 0} → Option A → (A → Option B) → Option B

@@ -1,5 +1,5 @@
 -- 0-th order Exp-Golomb codes (9.2).
-use Rattle.std.specs.Prelude.{ℕ, suc, ◌+◌, ◌-◌, ◌/◌, ◌%◌, ℤ, pos, neg_ℤ, Bool, true, false, List, [], ◌∷◌, Option, Some, None, nat_lt, ◌==◌, if◌then◌else◌}
+use Rattle.std.specs.Prelude.{ℕ, suc, ◌+◌, ◌-◌, ◌/◌, ◌%◌, ◌^◌, ℤ, pos, neg_ℤ, Bool, true, false, List, [], ◌∷◌, Option, Some, None, nat_lt, ◌==◌, if◌then◌else◌}
 use Rattle.spec_bits.specs.Bits.{u_at, ◌>>=◌}
 
 -- leadingZeroBits: how many zeros stand before the next 1
@@ -19,6 +19,18 @@ ue_at bs =
       prefix ← u_at zeros bs
       code ← u_at (zeros + 1) prefix.1
       Some (code.0 - 1, code.1))
+
+-- the same in the words of 9.2: zeros up to a 1, and then leadingZeroBits bits, whose number is added to
+-- 2^leadingZeroBits - 1
+unfoldable pub code_num_at : List Bool → Option (ℕ × List Bool)
+code_num_at bs =
+    let zeros = leading_zero_bits bs in
+    if nat_lt 31 zeros
+    then None
+    else (do
+      prefix ← u_at (zeros + 1) bs
+      suffix ← u_at zeros prefix.1
+      Some (2 ^ zeros - 1 + suffix.0, suffix.1))
 
 -- the signed value of a code number: 0, 1, -1, 2, -2 .. (9.2.2)
 unfoldable pub signed_of : ℕ → ℤ

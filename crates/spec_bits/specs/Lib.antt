@@ -1,3 +1,4 @@
 pub mod Bits
 pub mod ExpGolomb
 pub mod Alignment
+pub mod Spelling

@@ -1,7 +1,7 @@
 //! The definitions as a program: slow, and as they are written.
 
 ghost use Rattle.std.specs.Prelude.{◌≡◌, ◌^◌, ◌<◌, ◌≤◌, ◌*◌, length, IfOk, IfSome};
-ghost use Rattle.spec_bits.specs.Bits.{bits, bit_of, number_of, u_at, Finds};
+ghost use Rattle.spec_bits.specs.Bits.{bits, bit_of, number_of, u_at, flag_at, Finds};
 
 use std::alloc::{AllocError, Global};
 
@@ -50,4 +50,13 @@ fn number(bits: &[bool]) -> u32
         value = 2 * value + u32::from(*bit);
     }
     value
+}
+
+/// The next bit as a flag, and the bits after it: u(1) of H.265 7.2. `None` where no bit is left.
+#[tactic(auto, unfolding(crate::specs::Bits::flag_at))]
+pub fn flag(bits: &[bool]) -> Option<(bool, &[bool])>
+    ensures { Finds (λ found. (found.0, found.1.now)) result (flag_at bits.now) }
+{
+    let (first, rest) = bits.split_first()?;
+    Some((*first, rest))
 }
