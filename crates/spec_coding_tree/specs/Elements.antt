@@ -80,7 +80,7 @@ is_stop [] = false
 is_stop (bit ∷ bits) = bit && list_all not bits
 
 -- whether what stands from the last bit that was read on is rbsp_slice_segment_trailing_bits: the last bit is the stop
--- bit, and zero bits follow it (7.3.2.11, 9.3.2.5)
+-- bit, and zero bits follow it (7.3.2.10, 9.3.2.5)
 unfoldable pub is_trailing : List Bool → List Bool → Bool
 is_trailing all left = is_stop (drop (length all - length left - 1) all)
 

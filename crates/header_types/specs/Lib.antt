@@ -1,0 +1,5 @@
+pub mod ReferencePictures
+pub mod SequenceParameterSets
+pub mod Content
+pub mod Scaling
+pub mod PictureParameterSet

@@ -1,0 +1,50 @@
+//! Plain types of parameter sets, slice segment headers and reference pictures (H.265 7.3, 8.3), with a field for each
+//! field of the grammar.
+#![tactic(auto)]
+
+mod content;
+mod copies;
+mod field_list;
+mod former;
+mod laws;
+mod picture_plan;
+mod pps;
+mod profile;
+mod ref_list;
+mod reference_pictures;
+mod scaling;
+mod set_copies;
+mod short_term_set;
+mod slice;
+mod sps;
+mod sps_ranges;
+mod substream;
+mod weights;
+
+pub use content::{same_content, same_references};
+pub use field_list::FieldList;
+pub use former::{Former, Sets};
+pub use laws::{same_content_is_equality, same_references_are_equality};
+pub use picture_plan::{PicturePlan, SegmentPlan};
+pub use pps::{DeblockingControl, Pps, PpsFields};
+pub use profile::{Profile, ProfileTierLevel, SubLayerProfile};
+pub use ref_list::RefList;
+pub use reference_pictures::{
+    DpbPicture, Lists, LongTermRef, Mark, NamedSets, PictureName, RefEntry, Rps,
+};
+pub use scaling::{ScalingList, ScalingLists};
+pub use short_term_set::{ShortTermRef, StRps};
+pub use slice::{
+    Collocated, InterFields, LongTermRefs, PictureKind, ReferenceFields, SegmentFields,
+    SliceDeblocking, SliceFields, SliceHeader, SliceHeaderFields, SliceType,
+};
+pub use sps::{
+    BlockSizes, ConformanceWindow, LongTermCandidate, PcmFormat, PictureFormat, SpsFields,
+    SubLayerOrdering,
+};
+pub use sps_ranges::Sps;
+pub use substream::Substream;
+pub use weights::{ChromaWeight, LumaWeight, PredWeightTable, RefWeights};
+
+#[cfg(test)]
+mod set_tests;

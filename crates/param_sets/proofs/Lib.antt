@@ -1,0 +1,2 @@
+mod ListLoops
+pub mod ShortTermSets

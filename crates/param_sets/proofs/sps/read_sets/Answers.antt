@@ -1,0 +1,28 @@
+use Rattle.std.proofs.Common.{◌+◌, arith}
+use Rattle.std.proofs.lemmas.Result.{err_from_is_err_and}
+use Rattle.header_types.proofs.ReferencePictures.{All-IsStRps-weaker}
+use Rattle.spec_fields.proofs.Lists.{length-push}
+use Rattle.param_sets.proofs.ShortTermSets.{sets_behind-goes_on, sets_behind-refuses, sets_behind-ends, near-push}
+use Rattle.param_sets.proofs.sps.read_sets.Goals as goal
+
+pub read_set-requires-clause-former : goal.read_set-requires-clause-former
+read_set-requires-clause-former c = rw c.as_slice.ensures (All-IsStRps-weaker (14 + c.loop-index.index) 78 (omega arith) c.loop-index.sets c.loop-index.invariant.in_range)
+
+pub loop-index-preserved : goal.loop-index-preserved
+loop-index-preserved c =
+    let told = rw c.as_slice.ensures at c.in_ok-set.ensures.value in
+    let near = rw c.as_slice.ensures at c.in_ok-set.ensures.near in
+    rw c.in_ok-push.ensures.ok (record {
+      told = sets_behind-goes_on c.args.count c.loop-index.index c.args.greatest _ _ _ _ _ c.loop-index.invariant.told c.loop-index.invariant.len c.loop-index-test.true told;
+      len = length-push c.loop-index.sets c.in_ok-set.set c.loop-index.index c.loop-index.invariant.len;
+      in_range = near-push c.loop-index.index c.loop-index.sets c.in_ok-set.set c.loop-index.invariant.in_range (near (14 + c.loop-index.index) (omega arith) c.loop-index.invariant.in_range);
+    })
+
+pub returns-in_err-set-clause-value : goal.returns-in_err-set-clause-value
+returns-in_err-set-clause-value c =
+    let told = rw c.as_slice.ensures at c.in_err-set.ensures.value in
+    let p = err_from_is_err_and c.from_residual.result c.from_residual.ensures.1 in
+    rw (p.1, p.2) (sets_behind-refuses c.args.count c.loop-index.index c.args.greatest _ _ _ _ c.loop-index.invariant.told c.loop-index.invariant.len c.loop-index-test.true told)
+
+pub returns-clause-value : goal.returns-clause-value
+returns-clause-value c = sets_behind-ends c.args.count c.loop-index.index c.args.greatest _ _ _ c.loop-index.invariant.told c.loop-index-test.false

@@ -1,0 +1,24 @@
+//! Reads sequence and picture parameter sets (H.265 7.3.2, 7.4.3).
+#![tactic(auto)]
+
+mod agreement;
+mod picture_scaling;
+mod pps;
+mod profile;
+mod scaling;
+mod sps;
+
+pub use agreement::fits;
+pub use picture_scaling::{default_scaling_lists, picture_scaling_lists};
+pub use pps::read_pps;
+pub use scaling::read_scaling_list_data;
+pub use sps::read_sps;
+
+#[cfg(test)]
+mod bit_string;
+#[cfg(test)]
+mod tests_pps;
+#[cfg(test)]
+mod tests_scaling;
+#[cfg(test)]
+mod tests_sps;

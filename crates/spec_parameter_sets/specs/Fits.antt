@@ -1,0 +1,29 @@
+-- Whether a picture parameter set agrees with the sequence parameter set that it names (7.4.3.3).
+use Rattle.std.specs.Prelude.{ℕ, ◌+◌, Bool, ◌&&◌, nat_le, Option, Some, None}
+use Rattle.header_types.specs.declared.pps.PpsFields.{PpsFields}
+use Rattle.header_types.specs.declared.sps.BlockSizes.{BlockSizes}
+use Rattle.header_types.specs.declared.sps.SpsFields.{SpsFields}
+
+-- MinCbLog2SizeY
+abbrev pub min_cb_log2_size : BlockSizes → ℕ
+min_cb_log2_size blocks = blocks.log2_min_luma_coding_block_size_minus3 + 3
+
+-- CtbLog2SizeY
+abbrev pub ctb_log2_size : BlockSizes → ℕ
+ctb_log2_size blocks = min_cb_log2_size blocks + blocks.log2_diff_max_min_luma_coding_block_size
+
+-- diff_cu_qp_delta_depth, which is inferred to be 0 where it isn't there
+abbrev pub qp_delta_depth : Option ℕ → ℕ
+qp_delta_depth None = 0
+qp_delta_depth (Some depth) = depth
+
+-- Log2ParMrgLevel
+abbrev pub log2_par_mrg_level : PpsFields → ℕ
+log2_par_mrg_level pps = pps.log2_parallel_merge_level_minus2 + 2
+
+-- quantization groups aren't smaller than the least coding block, and parallel merge regions not larger than the coding
+-- tree block
+unfoldable pub fits : SpsFields → PpsFields → Bool
+fits sps pps =
+    nat_le (qp_delta_depth pps.diff_cu_qp_delta_depth) sps.blocks.log2_diff_max_min_luma_coding_block_size
+    && nat_le (log2_par_mrg_level pps) (ctb_log2_size sps.blocks)

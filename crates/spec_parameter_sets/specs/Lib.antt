@@ -1,0 +1,6 @@
+pub mod Scaling
+pub mod PictureParameterSet
+pub mod SequenceParameterSet
+pub mod Fits
+pub mod ProfileTierLevel
+pub mod PictureScaling

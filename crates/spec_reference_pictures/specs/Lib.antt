@@ -1,0 +1,4 @@
+pub mod PictureOrderCount
+pub mod ReferenceLists
+pub mod ReferencePictureSet
+pub mod ShortTermSets

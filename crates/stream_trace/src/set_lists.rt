@@ -1,0 +1,44 @@
+//! The lists of parameter sets as lines: scaling lists and short-term reference picture sets, as they are derived.
+
+use crate::trace_error::TraceError;
+use header_types::{ScalingList, ScalingLists, ShortTermRef, StRps};
+use std::io::Write;
+
+/// The factors of each list and its DC factor, by sizeId and matrixId (7.3.4).
+pub(crate) fn scaling_lists<W: Write>(out: &mut W, lists: &ScalingLists) -> Result<(), TraceError> {
+    for (i, list) in lists.lists.as_slice().iter().enumerate() {
+        let (size, matrix) = (i / 6, i % 6);
+        write!(out, "scaling_list[{size}][{matrix}]=")?;
+        factors(out, list)?;
+    }
+    Ok(())
+}
+
+fn factors<W: Write>(out: &mut W, list: &ScalingList) -> Result<(), TraceError> {
+    for factor in list.factors.as_slice() {
+        let factor = *factor;
+        write!(out, "{factor},")?;
+    }
+    let dc = list.dc;
+    writeln!(out, "dc {dc}")?;
+    Ok(())
+}
+
+/// The entries of each set, as a difference of picture order counts and whether the entry is used (7.4.8).
+pub(crate) fn short_term_sets<W: Write>(out: &mut W, sets: &[StRps]) -> Result<(), TraceError> {
+    for (i, set) in sets.iter().enumerate() {
+        write!(out, "short_term_ref_pic_set[{i}]=")?;
+        entries(out, set.negative.as_slice())?;
+        entries(out, set.positive.as_slice())?;
+        writeln!(out)?;
+    }
+    Ok(())
+}
+
+fn entries<W: Write>(out: &mut W, entries: &[ShortTermRef]) -> Result<(), TraceError> {
+    for entry in entries {
+        let (delta, used) = (entry.delta_poc, u32::from(entry.used));
+        write!(out, "{delta}:{used},")?;
+    }
+    Ok(())
+}

@@ -1,0 +1,25 @@
+//! Why a trace stops early.
+
+use std::alloc::AllocError;
+use std::io;
+
+/// Why the trace stops early.
+#[derive(Debug, Drop)]
+pub(crate) enum TraceError {
+    Memory,
+    Io,
+    /// The words on the command line aren't none or `fields`.
+    Usage,
+}
+
+impl From<AllocError> for TraceError {
+    fn from(_: AllocError) -> TraceError {
+        TraceError::Memory
+    }
+}
+
+impl From<io::Error> for TraceError {
+    fn from(_: io::Error) -> TraceError {
+        TraceError::Io
+    }
+}
