@@ -1,0 +1,3 @@
+pub mod Logarithm
+pub mod Repeating
+pub mod EntryWeights

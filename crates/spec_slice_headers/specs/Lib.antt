@@ -1,0 +1,12 @@
+pub mod Context
+pub mod Rules
+pub mod NamedSets
+pub mod SegmentStart
+pub mod References
+pub mod Weights
+pub mod InterFields
+pub mod ReferenceRules
+pub mod SliceFields
+pub mod SegmentHeader
+pub mod Substreams
+pub mod UnitCuts

@@ -1,0 +1,6 @@
+//! The slice segment header (H.265 7.3.6, 7.4.7) and the substreams of slice segment data: definitions.
+#![tactic(auto)]
+
+mod laws;
+
+pub use laws::{places_are_found, substreams_are_cuts, substreams_join};
