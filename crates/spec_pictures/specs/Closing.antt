@@ -1,0 +1,61 @@
+-- What is judged over the slice segments of a picture once all of them are there (7.4.7.1).
+use Rattle.std.specs.Prelude.{ℕ, zero, suc, ◌+◌, ◌-◌, ◌/◌, ◌%◌, Bool, true, false, not, ◌&&◌, ◌||◌, List, [], ◌∷◌, length, sum, Option, Some, None, nat_lt, ◌==◌, if◌then◌else◌}
+use Rattle.hv_base.specs.declared.fault.FaultKind.{FaultKind}
+use Rattle.hv_base.specs.declared.fault.FaultKind.TheVariants as rule
+use Rattle.hv_base.specs.declared.fault.Fault.{Fault}
+use Rattle.header_types.specs.declared.slice.SliceHeaderFields.{SliceHeaderFields}
+use Rattle.header_types.specs.SequenceParameterSets.{width_in_ctbs, size_in_ctbs}
+use Rattle.spec_slice_headers.specs.Substreams.{data_size}
+use Rattle.header_types.specs.declared.picture_plan.SegmentPlan.{SegmentPlan}
+use Rattle.header_types.specs.declared.picture_plan.PicturePlan.{PicturePlan}
+
+-- a segment's first coding tree unit
+abbrev pub address_of : SegmentPlan → ℕ
+address_of s = s.header.segment.slice_segment_address
+
+-- the coding tree unit behind a segment's last: the next segment's first, or the picture's end
+abbrev pub end_of : ℕ → List SegmentPlan → ℕ
+end_of size [] = size
+end_of size (next ∷ later) = address_of next
+
+-- whether coding tree units from one inside a row (not its first) on reach a later row
+abbrev pub passes_row : ℕ → ℕ → ℕ → Bool
+passes_row width first end = not (first % width == 0) && nat_lt (first / width) ((end - 1) / width)
+
+-- whether the entry points of a segment fit: one for each row but its first, and all of them inside the data
+abbrev pub entry_points_fit : ℕ → ℕ → SegmentPlan → Bool
+entry_points_fit width end s =
+    (length s.header.entry_points == (end - 1) / width - address_of s / width)
+    && nat_lt (sum s.header.entry_points) (data_size s.payload s.removed s.header.data_place)
+
+abbrev pub broken_at : FaultKind → SegmentPlan → Option Fault
+broken_at kind s = Some (record { kind = kind; nal = s.header.nal; ctu = None })
+
+-- the first coding tree unit of the slice that a segment belongs to, where the slice before began at another
+abbrev pub slice_start : ℕ → SegmentPlan → ℕ
+slice_start before s = if s.header.segment.dependent_slice_segment_flag then before else address_of s
+
+-- the rule that a segment breaks which ends before `end`, with entropy coding sync: where it begins inside a row, or
+-- its slice, which begins at `start`, does, it ends in that row; and its entry points fit
+abbrev pub segment_breaks : ℕ → ℕ → ℕ → SegmentPlan → Option Fault
+segment_breaks width start end s =
+    if passes_row width (address_of s) end || passes_row width start end then broken_at rule.SliceOrder s
+    else (if not (entry_points_fit width end s) then broken_at rule.EntryPoints s
+    else None)
+
+abbrev pub or_later : Option Fault → Option Fault → Option Fault
+or_later None later = later
+or_later (Some f) later = Some f
+
+-- the rule that the first of these segments breaks; the slice before began at `before`
+abbrev pub broken_from : ℕ → ℕ → ℕ → List SegmentPlan → Option Fault
+broken_from width size before [] = None
+broken_from width size before (s ∷ later) =
+    or_later (segment_breaks width (slice_start before s) (end_of size later) s) (broken_from width size (slice_start before s) later)
+
+-- the first rule that the slice segments of a picture break together
+unfoldable pub broken_in : PicturePlan → Option Fault
+broken_in p =
+    if p.pps.entropy_coding_sync_enabled_flag
+    then broken_from (width_in_ctbs p.sps) (size_in_ctbs p.sps) 0 p.segments
+    else None

@@ -1,0 +1,5 @@
+pub mod UnitKinds
+pub mod Pictures
+pub mod Closing
+pub mod Steps
+pub mod Planned
