@@ -1,3 +1,4 @@
 pub mod Logarithm
 pub mod Repeating
 pub mod EntryWeights
+pub mod UnitPlaces

@@ -10,7 +10,7 @@ ghost use Rattle.spec_slice_headers.specs.Substreams.{
   substreams,
   unit_place,
 };
-ghost use Rattle.std.specs.Prelude.{◌≡◌, ◌+◌, ◌≤◌, ◌^◌, All, IfOk, drop, length, map};
+ghost use Rattle.std.specs.Prelude.{◌≡◌, ◌+◌, ◌<◌, ◌≤◌, ◌^◌, All, IfOk, drop, length, map};
 
 use header_types::{FieldList, Substream};
 use std::alloc::{AllocError, Global};
@@ -25,7 +25,7 @@ fn payload_before(removed: &[u32], place: usize) -> usize
 
 // Where a byte stands once the byte that was removed at a place is put back.
 fn put_back(place: usize, removed: u32) -> usize
-    requires { place ≤ 2 ^ 32 }
+    requires { place < usize.MAX }
     ensures value { result ≡ put_back place removed }
     ensures next { result ≤ place + 1 }
 {
@@ -38,8 +38,7 @@ fn put_back(place: usize, removed: u32) -> usize
 
 // The place in the unit of a byte of the payload.
 fn unit_place(removed: &[u32], i: usize) -> usize
-    requires few { length removed.now ≤ 2 ^ 27 }
-    requires small { i ≤ 2 ^ 27 }
+    requires { i + 2 + length removed.now ≤ usize.MAX }
     ensures value { result ≡ unit_place removed.now i }
     ensures near { result ≤ i + 2 + length removed.now }
 {
@@ -53,13 +52,15 @@ fn unit_place(removed: &[u32], i: usize) -> usize
 /// How many bytes of the NAL unit, as it stands in the stream, the slice segment data have that begin at the byte
 /// `first` of its payload: the emulation prevention bytes behind that byte are among them. `removed` has the places
 /// in the unit of its emulation prevention bytes, in ascending order.
-#[tactic(auto, unfolding(spec_slice_headers::specs::Substreams::data_size))]
+#[tactic(auto, using(crate::proofs::UnitPlaces::no_data), unfolding(spec_slice_headers::specs::Substreams::data_size))]
 pub fn data_size(payload: &[u8], removed: &[u32], first: usize) -> usize
-    requires sized { length payload.now + length removed.now ≤ 2 ^ 27 }
-    requires inside { first ≤ length payload.now }
     ensures { result ≡ data_size payload.now removed.now first }
 {
-    (2 + payload.len() + removed.len()).saturating_sub(unit_place(removed, first))
+    let size = payload.len() + removed.len();
+    if first >= size {
+        return 0;
+    }
+    (2 + size).saturating_sub(unit_place(removed, first))
 }
 
 // The payload's bytes from one place of the unit to another.

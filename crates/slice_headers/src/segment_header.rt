@@ -1,10 +1,12 @@
 //! slice_segment_header (7.3.6.1), and where the slice segment data begin.
 
-ghost use Rattle.std.specs.Prelude.{◌≡◌, ◌<◌, ◌≤◌, ◌^◌, length};
+ghost use Rattle.std.specs.Prelude.{◌≡◌, ◌<◌, ◌≤◌, ◌^◌, IfOk, IsErr, None, length};
 ghost use Rattle.std.specs.Option.{option_copied};
+ghost use Rattle.header_types.specs.SequenceParameterSets.{max_lsb};
 ghost use Rattle.spec_fields.specs.Fields.{Parses, Reads, optional, repeated, u};
 ghost use Rattle.spec_slice_headers.specs.Context.{first_of, rules};
 ghost use Rattle.spec_slice_headers.specs.SegmentHeader.{taken_fields, fields_of_slice, entry_point, some_entry_points, coded_entry_points, entry_points, coded_extension, alignment, slice_segment_header, slice_header_of, unit_context};
+ghost use Rattle.slice_headers.specs.Ranges.{AreReferences, IsInRange};
 ghost use Rattle.slice_headers.specs.Views.{context_of, front_of, named_of, place_of};
 
 use crate::context::{SegmentContext, first_of};
@@ -25,7 +27,8 @@ fn taken_fields<'a, 'b>(
     reader: &mut BitReader<'a>,
     context: SegmentContext<'b>,
 ) -> Result<SliceFields, Refusal>
-    ensures { Reads (λ x. x) result reader.new (taken_fields (context_of context.entry).former.slice reader.old) }
+    ensures value { Reads (λ x. x) result reader.new (taken_fields (context_of context.entry).former.slice reader.old) }
+    ensures none { (context_of context.entry).former.slice ≡ None → IsErr result }
 {
     match &context.former.slice {
         None => Err(Refusal::Fault(FaultKind::SliceOrder)),
@@ -43,7 +46,8 @@ fn read_fields_of_slice<'a, 'b, 'c>(
     place: SegmentPlace,
 ) -> Result<SliceFields, Refusal>
     requires few { length context.former.now.dpb < 2 ^ 32 }
-    ensures { Reads (λ x. x) result reader.new (fields_of_slice (context_of context.entry) is_first (named_of named.entry) (place_of place) reader.old) }
+    ensures value { Reads (λ x. x) result reader.new (fields_of_slice (context_of context.entry) is_first (named_of named.entry) (place_of place) reader.old) }
+    ensures in_range { (context_of context.entry).former.slice ≡ None → IfOk result (λ slice. AreReferences (max_lsb (named_of named.entry).sps) slice.references) }
 {
     if place.dependent_slice_segment_flag {
         return taken_fields(alloc, reader, context);
@@ -173,7 +177,8 @@ fn read_segment_header<'a, 'b>(
     context: SegmentContext<'b>,
 ) -> Result<SliceHeaderFields, Refusal>
     requires few { length context.former.now.dpb < 2 ^ 32 }
-    ensures { Reads (λ x. x) result reader.new (slice_segment_header (context_of context.entry) reader.old) }
+    ensures value { Reads (λ x. x) result reader.new (slice_segment_header (context_of context.entry) reader.old) }
+    ensures in_range { (context_of context.entry).former.slice ≡ None → IfOk result IsInRange }
 {
     let front = read_front(reader, context)?;
     let is_first = front.first_slice_segment_in_pic_flag;
@@ -219,6 +224,7 @@ pub fn read_slice_header(
 ) -> Result<SliceHeader, Refusal>
     requires { length former.now.dpb < 2 ^ 32 }
     ensures value { Parses (λ x. x) result (slice_header_of (unit_context nal.now sets.now former.now) nal.now.rbsp) }
+    ensures in_range { former.now.slice ≡ None → IfOk result IsInRange }
 {
     let payload = nal.rbsp.as_slice();
     let mut reader = BitReader::new(payload);

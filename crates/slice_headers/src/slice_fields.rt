@@ -1,6 +1,6 @@
 //! The fields of a slice, from slice_reserved_flag to slice_loop_filter_across_slices_enabled_flag (7.3.6.1, 7.4.7.1).
 
-ghost use Rattle.std.specs.Prelude.{◌≡◌, ◌<◌, ◌≤◌, ◌^◌, length};
+ghost use Rattle.std.specs.Prelude.{◌≡◌, ◌<◌, ◌≤◌, ◌^◌, IfOk, length};
 ghost use Rattle.std.specs.Option.{option_copied};
 ghost use Rattle.header_types.specs.SequenceParameterSets.{max_lsb};
 ghost use Rattle.spec_fields.specs.Fields.{Reads};
@@ -276,7 +276,8 @@ fn read_later_fields<'a, 'b, 'c>(
     front: FrontFields,
 ) -> Result<SliceFields, Refusal>
     requires references { AreReferences (max_lsb named.sps.now) front.references }
-    ensures { Reads (λ x. x) result reader.new (later_fields (context_of context.entry) (option_copied former.entry) (named_of named.entry) front.slice_type front.pic_output_flag front.references reader.old) }
+    ensures value { Reads (λ x. x) result reader.new (later_fields (context_of context.entry) (option_copied former.entry) (named_of named.entry) front.slice_type front.pic_output_flag front.references reader.old) }
+    ensures in_range { IfOk result (λ slice. AreReferences (max_lsb (named_of named.entry).sps) slice.references) }
 {
     let has_sao = named.sps.fields().sample_adaptive_offset_enabled_flag;
     let slice_temporal_mvp_enabled_flag = read_temporal(reader, context, former, named.sps)?;
@@ -322,7 +323,8 @@ pub fn read_slice_fields<'a, 'b, 'c>(
     named: SliceSets<'c>,
 ) -> Result<SliceFields, Refusal>
     requires few { length context.former.now.dpb < 2 ^ 32 }
-    ensures { Reads (λ x. x) result reader.new (slice_fields (context_of context.entry) (option_copied former.entry) (named_of named.entry) reader.old) }
+    ensures value { Reads (λ x. x) result reader.new (slice_fields (context_of context.entry) (option_copied former.entry) (named_of named.entry) reader.old) }
+    ensures in_range { IfOk result (λ slice. AreReferences (max_lsb (named_of named.entry).sps) slice.references) }
 {
     u(
         reader,
