@@ -1,11 +1,11 @@
 -- What a run owes: the pictures of sequential decoding up to the first broken rule or stated limit, and that rule or
 -- limit; less only for want of memory or a counted read or write fault.
-use Rattle.std.specs.Prelude.{◌≡◌, ℕ, List, take, Option, IfSome, ◌⊎◌}
+use Rattle.std.specs.Prelude.{◌≡◌, ℕ, true, false, List, take, Option, IfSome, ◌⊎◌}
 use Rattle.std.specs.List.{concat}
 use Rattle.hv_base.specs.declared.outcome.Outcome.{Outcome}
 use Rattle.hv_base.specs.declared.outcome.Outcome.TheVariants as outcome
 use Rattle.hv_io.specs.Streams.{Rose, IsSpent, Takes, Gains, GainsPrefix}
-use Rattle.spec_decoder.specs.Decoder.{decoded, bytes_of, open_bytes}
+use Rattle.spec_decoder.specs.Decoder.{IsDecided, decoded, bytes_of}
 
 -- what a source or a sink tells, its bytes and its count of faults, before and after a run
 pub record Change : Type 0 where
@@ -25,19 +25,21 @@ Failed c = Rose c.faults_before c.faults_after
 
 -- where the source told its bytes, the outcome and the bytes that the sink gained are those of sequential decoding
 abbrev pub IsDecoded : Change → Change → Outcome → Type 0
-IsDecoded src out o = IfSome src.before (λ b. (o ≡ (decoded b).outcome) × Gains out.before out.after (bytes_of (decoded b)))
+IsDecoded src out o = IfSome src.before (λ b. (o ≡ (decoded true b).outcome) × Gains out.before out.after (bytes_of (decoded true b)))
 
--- where the source told its bytes, the sink gained what the bytes that were read show to be owed
+-- where the source told its bytes, the sink gained what the bytes that were read show to be owed, however the input
+-- goes on; they break no rule and meet no limit
 abbrev pub IsOpen : Change → Change → Type 0
-IsOpen src out = IfSome src.before (λ b. (read : List ℕ) × Takes src.before src.after read × Gains out.before out.after (open_bytes read))
+IsOpen src out =
+    IfSome src.before (λ b. (read : List ℕ) × Takes src.before src.after read × Gains out.before out.after (bytes_of (decoded false read)) × ((decoded false read).outcome ≡ outcome.Ok))
 
 -- where the source told its bytes, the sink gained a prefix of what is owed
 abbrev pub IsCut : Change → Change → Type 0
-IsCut src out = IfSome src.before (λ b. GainsPrefix out.before out.after (bytes_of (decoded b)))
+IsCut src out = IfSome src.before (λ b. GainsPrefix out.before out.after (bytes_of (decoded true b)))
 
 -- where the source told its bytes, the sink gained whole pictures, the first of those that are owed
 abbrev pub IsWhole : Change → Change → Type 0
-IsWhole src out = IfSome src.before (λ b. (n : ℕ) × Gains out.before out.after (concat (take n (decoded b).pictures)))
+IsWhole src out = IfSome src.before (λ b. (n : ℕ) × Gains out.before out.after (concat (take n (decoded true b).pictures)))
 
 -- what holds after each outcome
 abbrev pub Headline : Change → Change → Outcome → Type 0
@@ -50,7 +52,7 @@ Headline src out outcome.WriteFault = Failed out × IsCut src out
 
 -- where neither count rose, the outcome is that of sequential decoding, or there was no memory
 abbrev pub IsComplete : Change → Change → Outcome → Type 0
-IsComplete src out o = ¬ Failed src → ¬ Failed out → IfSome src.before (λ b. (o ≡ (decoded b).outcome) ⊎ (o ≡ outcome.Memory))
+IsComplete src out o = ¬ Failed src → ¬ Failed out → IfSome src.before (λ b. (o ≡ (decoded true b).outcome) ⊎ (o ≡ outcome.Memory))
 
 -- the sink for lines gained the line, or a prefix of it where its count of faults rose
 abbrev pub Tells : Change → List ℕ → Type 0
@@ -59,20 +61,6 @@ Tells err line = (¬ Failed err → Gains err.before err.after line) × GainsPre
 -- a run did nothing to a source or a sink
 abbrev pub IsUntouched : Change → Type 0
 IsUntouched c = (c.after ≡ c.before) × (c.faults_after ≡ c.faults_before)
-
--- what decoding a whole stream answers: its outcome with all its bytes, or a write fault with a prefix of them
-abbrev pub IsAnswered : List ℕ → Change → Outcome → Type 0
-IsAnswered b out outcome.WriteFault = Failed out × GainsPrefix out.before out.after (bytes_of (decoded b))
-IsAnswered b out o = (o ≡ (decoded b).outcome) × Gains out.before out.after (bytes_of (decoded b))
-
--- an outcome that a stream alone decides
-abbrev pub IsDecided : Outcome → Type 0
-IsDecided outcome.Ok = Unit {0}
-IsDecided (outcome.Fault f) = Unit {0}
-IsDecided (outcome.Limit l) = Unit {0}
-IsDecided outcome.Memory = ⊥
-IsDecided outcome.ReadFault = ⊥
-IsDecided outcome.WriteFault = ⊥
 
 -- an outcome is told as it is, or as want of memory where there was none for its line
 abbrev pub IsToldAs : Outcome → Outcome → Type 0

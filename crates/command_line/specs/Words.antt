@@ -1,12 +1,91 @@
--- The command line.
-use Rattle.std.specs.Prelude.{ℕ, Bool, false, List, [], ◌∷◌, ◌++◌, codes, bytes_eq, string_bytes, String}
+-- The command line: which words are taken, and what they ask for.
+use Rattle.std.specs.Prelude.{ℕ, ◌≤◌, ◌+◌, ◌-◌, ◌*◌, ◌&&◌, Bool, true, false, List, [], ◌∷◌, ◌++◌, not, map, codes, bytes_eq, Option, Some, None, option_map, option_and_then, if◌then◌else◌, nat_le, string_bytes, String}
 use Rattle.std.specs.Global.{Global}
+use Rattle.clap.specs.Words.{App, Kinds, Row, Rule, Text, fault_of, first_of, new_app, new_rule, subcommand_of, with_rule, with_subcommand}
+use Rattle.clap.specs.Simple.{on_top}
+use Rattle.clap.specs.declared.builder.action.ArgAction.TheVariants.{SetTrue}
+use Rattle.clap.specs.declared.builder.value_parser.ValueParser.TheVariants as vp
+use Rattle.command_line.specs.declared.words.Options.{Options}
 
--- whether the words are the one word decode
-abbrev pub is_decode : List (String Global) → Bool
-is_decode [] = false
-is_decode (word ∷ []) = bytes_eq (string_bytes word) (codes "decode")
-is_decode (word ∷ other ∷ words) = false
+-- the option of a name whose value is a whole number from 1 to most
+abbrev pub number_rule : List ℕ → ℕ → Rule
+number_rule name most = record (new_rule name) { long = Some name; parser = Some (vp.Unsigned 1 most) }
+
+-- the option of a name that has no value
+abbrev pub flag_rule : List ℕ → Rule
+flag_rule name = record (new_rule name) { long = Some name; action = Some SetTrue }
+
+-- the command decode and its options
+unfoldable pub decode_command : App
+decode_command =
+    with_rule
+    (with_rule
+    (with_rule (new_app (codes "decode")) (number_rule (codes "workers") 64))
+    (number_rule (codes "ahead") 16))
+    (flag_rule (codes "no-hash"))
+
+-- the program's command line: words with no program's name before them, of which the first is a command
+unfoldable pub program_command : App
+program_command = with_subcommand
+    (on_top (λ s. record s { no_binary_name = true; subcommand_required = true }) (new_app (codes "hevcdec")))
+    decode_command.top
+
+-- whether a byte is a decimal digit, and whether it is one that a number of two digits may begin with
+abbrev pub is_digit : ℕ → Bool
+is_digit byte = nat_le 48 byte && nat_le byte 57
+
+abbrev pub is_first_digit : ℕ → Bool
+is_first_digit byte = nat_le 49 byte && nat_le byte 57
+
+-- the number from 1 to 99 that decimal digits spell, with no sign and no zero before it
+abbrev pub number_of : List ℕ → Option ℕ
+number_of (a ∷ []) = if is_first_digit a then Some (a - 48) else None
+number_of (a ∷ b ∷ []) = if is_first_digit a && is_digit b then Some (10 * (a - 48) + (b - 48)) else None
+number_of _ = None
+
+-- a number that is at most so much
+abbrev pub at_most : ℕ → ℕ → Option ℕ
+at_most most n = if nat_le n most then Some n else None
+
+-- what the option of a number says: 4 where it isn't given
+abbrev pub number_given : ℕ → Option (List ℕ) → Option ℕ
+number_given most None = Some 4
+number_given most (Some text) = option_and_then (at_most most) (number_of text)
+
+-- whether the flag no-hash is given
+abbrev pub is_set : Option (List ℕ) → Bool
+is_set None = false
+is_set (Some text) = bytes_eq text (codes "true")
+
+-- what the matches of decode ask for
+abbrev pub options_of : List Row → Option Options
+options_of rows =
+    option_and_then (λ workers. option_and_then (λ ahead. Some (record {
+      workers = workers;
+      ahead = ahead;
+      hash = not (is_set (first_of (codes "no-hash") rows));
+    })) (number_given 16 (first_of (codes "ahead") rows))) (number_given 64 (first_of (codes "workers") rows))
+
+-- the numbers are those that may be given
+abbrev pub IsInRange : Options → Type 0
+IsInRange o = (1 ≤ o.workers) × (o.workers ≤ 64) × (1 ≤ o.ahead) × (o.ahead ≤ 16)
+
+-- why the words are refused before their numbers are looked at; nothing where they aren't
+unfoldable pub faults_of : List (List ℕ) → Kinds
+faults_of words = fault_of program_command words
+
+-- the matches of the command that the words name
+unfoldable pub matches_of : List (List ℕ) → Option (List Row)
+matches_of words = option_map (λ p. p.1) (subcommand_of program_command words)
+
+abbrev pub unless_refused : Kinds → Option Options → Option Options
+unless_refused [] options = options
+unless_refused (kind ∷ kinds) options = None
+
+-- what the words ask for; nothing where they are a faulty command line
+abbrev pub words_taken : List (String Global) → Option Options
+words_taken words =
+    unless_refused (faults_of (map string_bytes words)) (option_and_then options_of (matches_of (map string_bytes words)))
 
 -- the line that a faulty command line is answered by
 abbrev pub usage_line : List ℕ

@@ -1,44 +1,45 @@
-//! From the bytes of a stream to those of its pictures.
+//! One decoding: from a source to a sink.
 
-ghost use Rattle.command_line.specs.Headline.{Headline, IsAnswered, change_of};
+ghost use Rattle.std.specs.Prelude.{◌≡◌};
+ghost use Rattle.command_line.specs.Headline.{Headline, change_of};
+ghost use Rattle.command_line.specs.Reading.{behind_fault};
+ghost use Rattle.command_line.specs.Words.{IsInRange};
 
-use crate::segment::read_segment;
-use hv_base::{Feature, Limit, LimitKind, Outcome};
-use hv_io::{ReadError, Sink, Source, read_to_end, write_all};
-use spec_decoder::{GREY_PICTURE, grey_form, outcome_of};
+use crate::stream::decode_bytes;
+use crate::words::Options;
+use hv_base::Outcome;
+use hv_io::{InputEnd, Sink, Source, read_available};
 use std::alloc::Global;
 
-/// SliceQpY: 26 + init_qp_minus26 + slice_qp_delta.
-const SLICE_QP: u32 = 26;
-
-/// Reads the whole source, writes the pictures of its stream in output order, and answers how decoding ended.
-pub(crate) fn decode<S: Source, O: Sink>(alloc: Global, src: &mut S, out: &mut O) -> Outcome
+/// Reads the source, writes the pictures of its stream in output order, and answers how decoding ended.
+///
+/// Where a read failed, what came before it is decoded: the pictures that are over are written.
+pub(crate) fn decode<S: Source, O: Sink>(
+    alloc: Global,
+    options: Options,
+    src: &mut S,
+    out: &mut O,
+) -> Outcome
+    requires { IsInRange options }
     ensures headline { Headline (change_of S.left S.faults src.old src.new) (change_of O.contents O.faults out.old out.new) result }
 {
-    match read_to_end(alloc, src) {
-        Err(ReadError::Memory) => Outcome::Memory,
-        Err(ReadError::Failed) => Outcome::ReadFault,
-        Ok(stream) => decode_stream(&stream, out),
+    let input = read_available(alloc, src);
+    match input.end {
+        InputEnd::Memory => Outcome::Memory,
+        InputEnd::Ended => decode_bytes(alloc, &input.bytes, true, options, out),
+        InputEnd::Failed => {
+            let outcome = decode_bytes(alloc, &input.bytes, false, options, out);
+            behind_fault(outcome)
+        }
     }
 }
 
-/// Writes the pictures of a stream in output order, and answers how decoding ended.
-#[tactic(auto, unfolding(spec_decoder::specs::Decoder::decoded, spec_decoder::specs::Decoder::grey_picture))]
-fn decode_stream<O: Sink>(stream: &[u8], out: &mut O) -> Outcome
-    ensures { IsAnswered stream.now (change_of O.contents O.faults out.old out.new) result }
+/// The outcome where a read failed behind what ended so: the read fault, unless decoding had ended before.
+fn behind_fault(outcome: Outcome) -> Outcome
+    ensures { result ≡ behind_fault outcome }
 {
-    let Some(data) = grey_form(stream) else {
-        let form = Limit {
-            kind: LimitKind::Unbuilt(Feature::Form),
-            nal: 0,
-        };
-        return Outcome::Limit(form);
-    };
-    match read_segment(SLICE_QP, data) {
-        Err(breach) => outcome_of(breach),
-        Ok(_) => match write_all(out, &GREY_PICTURE) {
-            Ok(()) => Outcome::Ok,
-            Err(_) => Outcome::WriteFault,
-        },
+    match outcome {
+        Outcome::Ok => Outcome::ReadFault,
+        other => other,
     }
 }

@@ -2,7 +2,7 @@
 
 ghost use Rattle.std.specs.Prelude.{◌≡◌, ℕ, ◌-◌, ◌^◌, ◌<◌, ◌≤◌, length, IfOk, OnOk, false};
 ghost use Rattle.spec_coding_tree.specs.Reading.{decision, bypass, terminate, fixed_after};
-ghost use Rattle.spec_coding_tree.specs.Elements.{mpm_idx, luma_mode, intra_chroma_pred_mode, coding_tree_unit};
+ghost use Rattle.spec_coding_tree.specs.Elements.{mpm_idx, luma_mode, intra_chroma_pred_mode, pcm_flag_where, coding_tree_unit};
 ghost use Rattle.spec_coding_tree.specs.Plain.{AreContexts, IsReady};
 ghost use Rattle.command_line.specs.Reads.{Reads};
 
@@ -42,20 +42,18 @@ impl<'a> Reader<'a> {
         self.interval.state()[2]
     }
 
-    /// The coding tree unit and the end_of_slice_segment_flag after it (7.3.8.1 to 7.3.8.8).
+    /// The coding tree unit and the end_of_slice_segment_flag after it (7.3.8.1 to 7.3.8.8), where `has_pcm_flag` says
+    /// whether its coding unit has a pcm_flag.
     #[tactic(auto, unfolding(spec_coding_tree::specs::Elements::coding_tree_unit))]
-    pub(crate) fn coding_tree_unit(&mut self) -> Result<CodingUnit, Breach>
+    pub(crate) fn coding_tree_unit(&mut self, has_pcm_flag: bool) -> Result<CodingUnit, Breach>
         requires { IsReady (self.old.interval, self.old.contexts) }
-        ensures { Reads result (self.new.interval, self.new.contexts) (coding_tree_unit (self.old.interval, self.old.contexts)) }
+        ensures { Reads result (self.new.interval, self.new.contexts) (coding_tree_unit has_pcm_flag (self.old.interval, self.old.contexts)) }
     {
         let part_mode = self.decision(PART_MODE)?;
         if !part_mode {
             return Err(OTHER_INTRA);
         }
-        let pcm_flag = self.terminate()?;
-        if pcm_flag {
-            return Err(OTHER_INTRA);
-        }
+        self.pcm_flag_where(has_pcm_flag)?;
         let luma = self.luma_mode()?;
         let chroma = self.intra_chroma_pred_mode()?;
         let cbf_cb = self.decision(CBF_CHROMA)?;
@@ -75,6 +73,22 @@ impl<'a> Reader<'a> {
             return Err(Breach::Fault(FaultKind::SliceEnd));
         }
         Ok(CodingUnit { luma, chroma })
+    }
+
+    /// pcm_flag, where it is there (7.3.8.5).
+    fn pcm_flag_where(&mut self, has_pcm_flag: bool) -> Result<bool, Breach>
+        requires { IsReady (self.old.interval, self.old.contexts) }
+        ensures value { Reads result (self.new.interval, self.new.contexts) (pcm_flag_where has_pcm_flag (self.old.interval, self.old.contexts)) }
+        ensures ready { OnOk result (IsReady (self.new.interval, self.new.contexts)) }
+    {
+        if !has_pcm_flag {
+            return Ok(false);
+        }
+        let pcm_flag = self.terminate()?;
+        if pcm_flag {
+            return Err(OTHER_INTRA);
+        }
+        Ok(false)
     }
 
     /// prev_intra_luma_pred_flag, and then mpm_idx or rem_intra_luma_pred_mode (7.3.8.5).

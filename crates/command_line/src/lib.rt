@@ -3,12 +3,23 @@
 
 mod decode;
 mod elements;
+mod features;
 mod line;
+mod picture;
 mod program;
 mod segment;
+mod stream;
 mod words;
+mod writing;
 
 pub use program::run;
+pub use words::Options;
 
 #[cfg(test)]
+mod row_tests;
+#[cfg(test)]
+mod rows;
+#[cfg(test)]
 mod tests;
+#[cfg(test)]
+mod word_tests;

@@ -31,7 +31,8 @@ pub(crate) fn tell<E: Sink>(alloc: Global, outcome: Outcome, err: &mut E) -> Out
     outcome
 }
 
-fn tell_memory<E: Sink>(err: &mut E) -> Outcome
+/// Tells that there is no memory left, and answers that outcome.
+pub(crate) fn tell_memory<E: Sink>(err: &mut E) -> Outcome
     ensures told { result ≡ Outcome.Memory }
     ensures line { Tells (change_of E.contents E.faults err.old err.new) (outcome_line result) }
 {

@@ -1,14 +1,15 @@
 //! One run of the program: its words, its source, its sinks and its exit status.
 
-ghost use Rattle.std.specs.Prelude.{◌≡◌, true, false, ◌↔◌};
+ghost use Rattle.std.specs.Prelude.{◌≡◌, ◌⊎◌, ◌∷◌, [], ◌++◌, None, Some, codes};
 ghost use Rattle.hv_base.specs.declared.outcome.Outcome.{Outcome};
 ghost use Rattle.hv_base.specs.Text.{status_of, outcome_line};
 ghost use Rattle.command_line.specs.Headline.{Headline, IsComplete, IsUntouched, Tells, change_of};
-ghost use Rattle.command_line.specs.Words.{is_decode, usage_line};
+ghost use Rattle.command_line.specs.Words.{IsInRange, usage_line, words_taken};
+ghost use Rattle.command_line.specs.declared.words.Options.{Options};
 
 use crate::decode::decode;
-use crate::line::{tell, tell_line};
-use crate::words::{USAGE, is_decode};
+use crate::line::{tell, tell_line, tell_memory};
+use crate::words::{Options, USAGE, WordsError, parse_words};
 use hv_base::Status;
 use hv_io::{Gate, Sink, Source};
 use std::alloc::Global;
@@ -18,8 +19,8 @@ use std::thread::Threads;
 /// Runs the program on its words, those after its name: reads the stream of `src`, writes its pictures to `out`, tells
 /// on `err` how it ended unless all went well, and answers the exit status.
 ///
-/// The one word that is taken is `decode`. The pictures are I420: the planes Y, Cb and Cr of each picture, a byte a
-/// sample, in output order.
+/// The command that is taken is `decode`, with the options `--workers N` (1 to 64), `--ahead N` (1 to 16) and
+/// `--no-hash`. The pictures are I420: the planes Y, Cb and Cr of each picture, a byte a sample, in output order.
 pub fn run<R: Threads + Wait + Sync, S: Source, O: Sink, E: Sink, G: Gate + Sync>(
     _rt: &R,
     alloc: Global,
@@ -29,23 +30,47 @@ pub fn run<R: Threads + Wait + Sync, S: Source, O: Sink, E: Sink, G: Gate + Sync
     err: &mut E,
     _gate: &G,
 ) -> Status
-    ensures usage { (result.0 ≡ 1) ↔ (is_decode words.now ≡ false) }
+    // Status 1 comes only for a faulty command line, and else that is answered by want of memory alone.
+    ensures usage { result.0 ≡ 1 → words_taken words.now ≡ None }
+    ensures refused { words_taken words.now ≡ None → (result.0 ≡ 1) ⊎ (result.0 ≡ 4) }
 
-    // After a faulty command line nothing was read or written, and the usage line was told.
-    ensures unread { result.0 ≡ 1 → IsUntouched (change_of S.left S.faults src.old src.new) }
-    ensures unwritten { result.0 ≡ 1 → IsUntouched (change_of O.contents O.faults out.old out.new) }
+    // Then nothing was read or written, and the usage line was told, or the want of memory.
+    ensures unread { words_taken words.now ≡ None → IsUntouched (change_of S.left S.faults src.old src.new) }
+    ensures unwritten { words_taken words.now ≡ None → IsUntouched (change_of O.contents O.faults out.old out.new) }
     ensures usage_told { result.0 ≡ 1 → Tells (change_of E.contents E.faults err.old err.new) usage_line }
+    ensures memory_told { words_taken words.now ≡ None → result.0 ≡ 4
+        → Tells (change_of E.contents E.faults err.old err.new) (outcome_line Outcome.Memory) }
 
     // Else there is an outcome that the status and the line tell, and for which the headline holds.
-    ensures decodes { is_decode words.now ≡ true → (o : Outcome) × (result.0 ≡ status_of o)
+    ensures decodes { (options : Options) → words_taken words.now ≡ Some options → (o : Outcome) × (result.0 ≡ status_of o)
         × Headline (change_of S.left S.faults src.old src.new) (change_of O.contents O.faults out.old out.new) o
         × IsComplete (change_of S.left S.faults src.old src.new) (change_of O.contents O.faults out.old out.new) o
         × Tells (change_of E.contents E.faults err.old err.new) (outcome_line o) }
 {
-    if !is_decode(words) {
-        tell_line(err, USAGE);
-        return Status(1);
+    match parse_words(alloc, words) {
+        Ok(options) => run_decode(alloc, options, src, out, err),
+        Err(WordsError::Usage) => {
+            tell_line(err, USAGE);
+            Status(1)
+        }
+        Err(WordsError::Memory) => tell_memory(err).status(),
     }
-    let outcome = decode(alloc, src, out);
+}
+
+/// Decodes, and tells how it ended.
+fn run_decode<S: Source, O: Sink, E: Sink>(
+    alloc: Global,
+    options: Options,
+    src: &mut S,
+    out: &mut O,
+    err: &mut E,
+) -> Status
+    requires { IsInRange options }
+    ensures { (o : Outcome) × (result.0 ≡ status_of o)
+        × Headline (change_of S.left S.faults src.old src.new) (change_of O.contents O.faults out.old out.new) o
+        × IsComplete (change_of S.left S.faults src.old src.new) (change_of O.contents O.faults out.old out.new) o
+        × Tells (change_of E.contents E.faults err.old err.new) (outcome_line o) }
+{
+    let outcome = decode(alloc, options, src, out);
     tell(alloc, outcome, err).status()
 }

@@ -11,16 +11,17 @@ use cabac_engine::Interval;
 use hv_base::{Breach, FaultKind};
 use spec_coding_tree::{CodingUnit, first_contexts};
 
-/// Reads the one coding tree unit and the trailing bits after it, where `qp` is SliceQpY.
+/// Reads the one coding tree unit and the trailing bits after it, where `has_pcm_flag` says whether its coding unit has a
+/// pcm_flag and `qp` is SliceQpY.
 #[tactic(auto, unfolding(spec_coding_tree::specs::Elements::segment_data))]
-pub(crate) fn read_segment(qp: u32, bytes: &[u8]) -> Result<CodingUnit, Breach>
+pub(crate) fn read_segment(has_pcm_flag: bool, qp: u32, bytes: &[u8]) -> Result<CodingUnit, Breach>
     requires qp { qp ≤ 51 }
     requires short { length bytes.now < 2 ^ 60 }
-    ensures { Answers (λ x. x) result (segment_data qp bytes.now) }
+    ensures { Answers (λ x. x) result (segment_data has_pcm_flag qp bytes.now) }
 {
     let interval = Interval::start(bytes).ok_or(DATA_END)?;
     let mut reader = Reader::new(interval, first_contexts(qp));
-    let unit = reader.coding_tree_unit()?;
+    let unit = reader.coding_tree_unit(has_pcm_flag)?;
     if is_trailing(bytes, reader.left()) {
         Ok(unit)
     } else {

@@ -13,6 +13,8 @@ const SPS: [u8; 26] = [
 ];
 /// SliceQpY 26 in each slice.
 const PPS: [u8; 6] = [0x44, 0x01, 0xC0, 0x71, 0x80, 0x12];
+
+const START: [u8; 4] = [0, 0, 0, 1];
 /// The header of an IDR slice, before its data.
 const IDR: [u8; 3] = [0x26, 0x01, 0xAF];
 /// The data of a grey coding tree unit.
@@ -21,25 +23,29 @@ const GREY: [u8; 2] = [0x05, 0xF7];
 const USAGE: &str = "usage: hevcdec decode|hash|list|make [options]\n";
 
 #[derive(Drop)]
-struct Run {
-    status: u8,
-    out: Vec<u8>,
-    err: Vec<u8>,
+pub(crate) struct Run {
+    pub(crate) status: u8,
+    pub(crate) out: Vec<u8>,
+    pub(crate) err: Vec<u8>,
 }
 
-/// The two parameter sets and an IDR slice with these data, each after a start code.
-fn stream(alloc: Global, slice_data: &[u8]) -> Result<Vec<u8>, AllocError> {
+/// The two parameter sets and IDR slices with these data, each after a start code.
+fn stream(alloc: Global, slices: &[&[u8]]) -> Result<Vec<u8>, AllocError> {
     let mut bytes = Vec::new(alloc);
-    for unit in [SPS.as_slice(), PPS.as_slice(), IDR.as_slice()] {
-        bytes.extend_from_slice(&[0, 0, 0, 1])?;
+    for unit in [SPS.as_slice(), PPS.as_slice()] {
+        bytes.extend_from_slice(&START)?;
         bytes.extend_from_slice(unit)?;
     }
-    bytes.extend_from_slice(slice_data)?;
+    for data in slices {
+        bytes.extend_from_slice(&START)?;
+        bytes.extend_from_slice(&IDR)?;
+        bytes.extend_from_slice(data)?;
+    }
     Ok(bytes)
 }
 
 /// Runs the program on words and a source, of which the calls of these numbers fail, as do those of the sink.
-fn run_on<R: Threads + Wait + Sync>(
+pub(crate) fn run_on<R: Threads + Wait + Sync>(
     rt: &R,
     alloc: Global,
     words: &str,
@@ -66,7 +72,7 @@ fn run_on<R: Threads + Wait + Sync>(
 
 #[test]
 fn the_grey_picture_is_written(rt: HostRuntime) -> Result<(), Fail> {
-    let input = stream(rt.alloc(), &GREY)?;
+    let input = stream(rt.alloc(), &[&GREY])?;
     let ran = run_on(&rt, rt.alloc(), "decode", &input, &[], &[])?;
     assert_eq!(rt; ran.status, 0);
     assert_eq!(rt; ran.out.as_slice(), [0x80; 96].as_slice());
@@ -91,24 +97,19 @@ fn what_is_broken_or_not_built_is_named(rt: HostRuntime) -> Result<(), Fail> {
         ),
         ([].as_slice(), 2, "fault 20 DataEnd nal 2 ctu 0\n"),
         (pcm.as_slice(), 3, "limit 6 Unbuilt nal 2 Intra\n"),
-        (
-            [0x05, 0xF7, 0x00].as_slice(),
-            3,
-            "limit 6 Unbuilt nal 0 Form\n",
-        ),
     ] {
-        let input = stream(rt.alloc(), data)?;
+        let input = stream(rt.alloc(), &[data])?;
         let ran = run_on(&rt, rt.alloc(), "decode", &input, &[], &[])?;
         assert_eq!(rt; ran.status, status, "{line}");
         assert!(rt; ran.out.is_empty(), "{line}");
         assert_eq!(rt; ran.err.as_slice(), line.as_bytes());
     }
     let ran = run_on(&rt, rt.alloc(), "decode", &[], &[], &[])?;
-    assert_eq!(rt; ran.status, 3);
+    assert_eq!(rt; ran.status, 2);
     assert!(rt; ran.out.is_empty());
     assert_eq!(rt;
         ran.err.as_slice(),
-        b"limit 6 Unbuilt nal 0 Form\n".as_slice()
+        b"fault 1 NoNal nal 0 ctu -\n".as_slice()
     );
     Ok(())
 }
@@ -125,7 +126,7 @@ fn pcm_data(alloc: Global) -> Result<Vec<u8>, AllocError> {
 
 #[test]
 fn other_words_are_answered_by_the_usage(rt: HostRuntime) -> Result<(), Fail> {
-    let input = stream(rt.alloc(), &GREY)?;
+    let input = stream(rt.alloc(), &[&GREY])?;
     for words in [
         "",
         "decode --workers 0",
@@ -144,7 +145,7 @@ fn other_words_are_answered_by_the_usage(rt: HostRuntime) -> Result<(), Fail> {
 
 #[test]
 fn failing_ends_are_told(rt: HostRuntime) -> Result<(), Fail> {
-    let input = stream(rt.alloc(), &GREY)?;
+    let input = stream(rt.alloc(), &[&GREY])?;
     for (read_fails, write_fails, status, written, line) in [
         ([0].as_slice(), [].as_slice(), 5, 0, "read fault\n"),
         ([2].as_slice(), [].as_slice(), 5, 0, "read fault\n"),
@@ -160,25 +161,93 @@ fn failing_ends_are_told(rt: HostRuntime) -> Result<(), Fail> {
     Ok(())
 }
 
+#[test]
+fn pictures_before_a_broken_one_are_written(rt: HostRuntime) -> Result<(), Fail> {
+    for (slices, status, written, line) in [
+        (
+            [GREY.as_slice(), GREY.as_slice(), GREY.as_slice()],
+            0,
+            288,
+            "",
+        ),
+        (
+            [GREY.as_slice(), [0x05].as_slice(), GREY.as_slice()],
+            2,
+            96,
+            "fault 20 DataEnd nal 3 ctu 0\n",
+        ),
+        (
+            [GREY.as_slice(), GREY.as_slice(), [].as_slice()],
+            2,
+            192,
+            "fault 20 DataEnd nal 4 ctu 0\n",
+        ),
+    ] {
+        let input = stream(rt.alloc(), &slices)?;
+        let ran = run_on(&rt, rt.alloc(), "decode", &input, &[], &[])?;
+        assert_eq!(rt; ran.status, status, "{line}");
+        assert_eq!(rt; ran.out.len(), written, "{line}");
+        assert_eq!(rt; ran.err.as_slice(), line.as_bytes());
+    }
+    Ok(())
+}
+
+/// The first unit behind a picture closes it once that unit's own end is seen.
+#[test]
+fn a_read_fault_leaves_the_open_picture(rt: HostRuntime) -> Result<(), Fail> {
+    for (slices, status, written, line) in [
+        (
+            [GREY.as_slice(), GREY.as_slice()].as_slice(),
+            5,
+            0,
+            "read fault\n",
+        ),
+        (
+            [GREY.as_slice(), GREY.as_slice(), GREY.as_slice()].as_slice(),
+            5,
+            96,
+            "read fault\n",
+        ),
+        (
+            [[0x05].as_slice(), GREY.as_slice(), GREY.as_slice()].as_slice(),
+            2,
+            0,
+            "fault 20 DataEnd nal 2 ctu 0\n",
+        ),
+    ] {
+        let input = stream(rt.alloc(), slices)?;
+        let calls = input.len().div_ceil(20) as u64;
+        let ran = run_on(&rt, rt.alloc(), "decode", &input, &[calls], &[])?;
+        assert_eq!(rt; ran.status, status, "{line}");
+        assert_eq!(rt; ran.out.len(), written, "{line}");
+        assert_eq!(rt; ran.err.as_slice(), line.as_bytes());
+    }
+    Ok(())
+}
+
+/// The data without a zero byte at their end, which is padding of the stream.
+fn without_padding(data: &[u8]) -> &[u8] {
+    match data {
+        [front @ .., 0] => front,
+        _ => data,
+    }
+}
+
 /// Each answer is that of the plain program, whose contract is the definition.
 #[test]
-fn every_two_bytes_of_data_are_answered_as_defined(rt: HostRuntime) -> Result<(), Fail> {
-    for first in 0..=255 {
-        for second in 0..=255 {
-            let input = stream(rt.alloc(), &[first, second])?;
-            let (pictures, outcome) = spec_decoder::decode(rt.alloc(), &input)?;
+fn two_bytes_of_data_are_answered_as_defined(rt: HostRuntime) -> Result<(), Fail> {
+    for byte in 0..=255 {
+        for data in [[byte, GREY[1]], [GREY[0], byte]] {
+            let coded = without_padding(&data);
+            if coded.len() > 2 {
+                return Err("more data than there were".into());
+            }
+            let bits = spec_bits::bits_of(rt.alloc(), coded)?;
+            let is_grey = spec_coding_tree::segment_data(true, 26, &bits).is_ok();
+            let input = stream(rt.alloc(), &[&data])?;
             let ran = run_on(&rt, rt.alloc(), "decode", &input, &[], &[])?;
-            assert_eq!(rt; ran.status, outcome.status().0, "{first:02x} {second:02x}");
-            assert_eq!(rt;
-                ran.out.as_slice(),
-                pictures.as_slice(),
-                "{first:02x} {second:02x}"
-            );
-            assert_eq!(rt;
-                ran.status == 0,
-                [first, second] == GREY,
-                "{first:02x} {second:02x}"
-            );
+            assert_eq!(rt; ran.status == 0, is_grey, "{byte:02x}");
+            assert_eq!(rt; ran.out.is_empty(), !is_grey, "{byte:02x}");
         }
     }
     Ok(())

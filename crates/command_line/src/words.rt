@@ -1,17 +1,221 @@
 //! The words of the command line.
 
-ghost use Rattle.std.specs.Prelude.{◌≡◌};
-ghost use Rattle.command_line.specs.Words.{is_decode};
+ghost use Rattle.std.specs.Prelude.{◌≡◌, ◌≢◌, ◌-◌, ◌≤◌, None, Some, Err, IfOk, IfSome, false, option_and_then, option_map};
+ghost use Rattle.clap.specs.Words.{app_of, first_of, found_of, kind_of, rows_of, rule_of, subcommand_rows_of};
+ghost use Rattle.clap.specs.declared.builder.command.Command.TheViews.{out-Command};
+ghost use Rattle.command_line.specs.Words.{IsInRange, decode_command, flag_rule, is_digit, is_first_digit, is_set, number_given, number_of, number_rule, options_of, program_command, words_taken};
+
+use clap::builder::ValueParser;
+use clap::error::ErrorKind;
+use clap::{Arg, ArgAction, ArgMatches, Command, Error};
+use std::alloc::{AllocError, Global};
 
 /// What a faulty command line is answered by.
 pub(crate) const USAGE: &str = "usage: hevcdec decode|hash|list|make [options]\n";
 
-/// Whether the words are the one word `decode`.
-pub(crate) fn is_decode(words: &[String]) -> bool
-    ensures { result ≡ is_decode words.now }
-{
-    match words {
-        [word] => word.as_str() == "decode",
-        _ => false,
+/// The number of workers and of pictures ahead where the words give none.
+const DEFAULT: u32 = 4;
+/// The most workers.
+const MOST_WORKERS: u32 = 64;
+/// The most pictures that are decoded at once.
+const MOST_AHEAD: u32 = 16;
+
+/// What the words ask for.
+#[derive(Clone, Copy, Debug, PartialEq, Eq)]
+pub struct Options {
+    /// How many threads decode, 1 to 64.
+    pub workers: u32,
+    /// How many pictures are decoded at once, 1 to 16.
+    pub ahead: u32,
+    /// Whether planes are compared with the hashes that the stream states.
+    pub hash: bool,
+}
+
+/// Why the words weren't read.
+#[derive(Clone, Copy, Debug, PartialEq, Eq)]
+pub(crate) enum WordsError {
+    /// They are a faulty command line.
+    Usage,
+    /// There was no memory left.
+    Memory,
+}
+
+impl From<AllocError> for WordsError {
+    ghost use Rattle.std.specs.Prelude.{◌≡◌};
+    ghost use Rattle.command_line.specs.declared.words.WordsError.{WordsError};
+
+    ghost from_gives = { λ _ e. e ≡ WordsError.Memory };
+
+    fn from(_error: AllocError) -> Self {
+        WordsError::Memory
     }
+}
+
+/// What the words ask for: those after the program's name.
+///
+/// `Usage` exactly where they are a faulty command line, if there is memory.
+pub(crate) fn parse_words(alloc: Global, words: &[String]) -> Result<Options, WordsError>
+    ensures taken { IfOk result (λ o. words_taken words.now ≡ Some o) }
+    ensures refused { result ≡ Err WordsError.Usage → words_taken words.now ≡ None }
+    ensures in_range { IfOk result IsInRange }
+{
+    let command = program_command(alloc)?;
+    match command.try_get_matches_from(words) {
+        Ok(matches) => options_or_usage(&matches),
+        Err(error) => Err(cause_of(&error)),
+    }
+}
+
+/// Want of memory, or else a faulty command line.
+fn cause_of(error: &Error) -> WordsError
+    ensures { result ≡ WordsError.Usage → kind_of error.now ≢ ErrorKind.OutOfMemory }
+{
+    match error.kind() {
+        ErrorKind::OutOfMemory => WordsError::Memory,
+        _ => WordsError::Usage,
+    }
+}
+
+/// What the matches of the command line ask for.
+fn options_or_usage(matches: &ArgMatches<'_>) -> Result<Options, WordsError>
+    ensures taken { IfOk result (λ o.
+        option_and_then options_of (option_map (λ p. p.1) (subcommand_rows_of matches.now)) ≡ Some o) }
+    ensures refused { result ≡ Err WordsError.Usage →
+        option_and_then options_of (option_map (λ p. p.1) (subcommand_rows_of matches.now)) ≡ None }
+    ensures in_range { IfOk result IsInRange }
+{
+    subcommand_options(matches).ok_or(WordsError::Usage)
+}
+
+/// The program's command line.
+#[tactic(auto, unfolding(crate::specs::Words::program_command))]
+fn program_command<'a>(alloc: Global) -> Result<Command<'a>, AllocError>
+    ensures { IfOk result (λ c. app_of c ≡ program_command) }
+{
+    let decode = decode_command(alloc)?;
+    Command::new(alloc, "hevcdec")
+        .no_binary_name(true)
+        .subcommand_required(true)
+        .subcommand(decode)
+}
+
+/// The command `decode`.
+#[tactic(auto, unfolding(crate::specs::Words::decode_command))]
+fn decode_command<'a>(alloc: Global) -> Result<Command<'a>, AllocError>
+    ensures app { IfOk result (λ c. app_of c ≡ decode_command) }
+    ensures local { IfOk result (λ c. (out-Command c).has_globals ≡ false) }
+{
+    let workers = number_option(alloc, "workers", 64);
+    let ahead = number_option(alloc, "ahead", 16);
+    let no_hash = flag(alloc, "no-hash");
+    Command::new(alloc, "decode")
+        .arg(workers)?
+        .arg(ahead)?
+        .arg(no_hash)
+}
+
+/// An option whose value is a whole number from 1 to `most`.
+fn number_option<'a>(alloc: Global, name: &'a str, most: u64) -> Arg<'a>
+    ensures rule { rule_of result ≡ number_rule name.entry.now most }
+    ensures local { result.global ≡ false }
+{
+    Arg::new(alloc, name)
+        .long(name)
+        .value_parser(ValueParser::unsigned(1, most))
+}
+
+/// An option that has no value.
+fn flag<'a>(alloc: Global, name: &'a str) -> Arg<'a>
+    ensures rule { rule_of result ≡ flag_rule name.entry.now }
+    ensures local { result.global ≡ false }
+{
+    Arg::new(alloc, name).long(name).action(ArgAction::SetTrue)
+}
+
+/// What the matches of the command ask for.
+fn subcommand_options(matches: &ArgMatches<'_>) -> Option<Options>
+    ensures value { result ≡ option_and_then options_of (option_map (λ p. p.1) (subcommand_rows_of matches.now)) }
+    ensures in_range { IfSome result IsInRange }
+{
+    let (_, decode) = matches.subcommand()?;
+    options_of(decode)
+}
+
+/// What the matches of `decode` ask for.
+fn options_of(decode: &ArgMatches<'_>) -> Option<Options>
+    ensures value { result ≡ options_of (rows_of (found_of decode.now)) }
+    ensures in_range { IfSome result IsInRange }
+{
+    let workers = number_given(MOST_WORKERS, text_of(decode, "workers"))?;
+    let ahead = number_given(MOST_AHEAD, text_of(decode, "ahead"))?;
+    let hash = !is_set(text_of(decode, "no-hash"));
+    Some(Options {
+        workers,
+        ahead,
+        hash,
+    })
+}
+
+/// The first value of an option.
+fn text_of<'a>(decode: &ArgMatches<'a>, id: &str) -> Option<&'a str>
+    ensures { option_map (λ t. t.now) result ≡ first_of id.now (rows_of (found_of decode.now)) }
+{
+    decode.get_str(id)
+}
+
+/// Whether a flag was given.
+fn is_set(text: Option<&str>) -> bool
+    ensures { result ≡ is_set (option_map (λ t. t.now) text.entry) }
+{
+    match text {
+        Some(text) => text == "true",
+        None => false,
+    }
+}
+
+/// The number that was given, or the one that stands for none.
+fn number_given(most: u32, text: Option<&str>) -> Option<u32>
+    requires { 4 ≤ most }
+    ensures value { result ≡ number_given most (option_map (λ t. t.now) text.entry) }
+    ensures in_range { IfSome result (λ n. (1 ≤ n) × (n ≤ most)) }
+{
+    let Some(text) = text else {
+        return Some(DEFAULT);
+    };
+    let n = number_of(text.as_bytes())?;
+    if n <= most { Some(n) } else { None }
+}
+
+/// The number from 1 to 99 that decimal digits spell, with no sign and no zero before it.
+fn number_of(text: &[u8]) -> Option<u32>
+    ensures value { result ≡ number_of text.now }
+    ensures some { IfSome result (λ n. 1 ≤ n) }
+{
+    match text {
+        [a] if is_first_digit(*a) => Some(digit(*a)),
+        [a, b] if is_first_digit(*a) && is_digit(*b) => Some(10 * digit(*a) + digit(*b)),
+        _ => None,
+    }
+}
+
+/// The value of a decimal digit.
+fn digit(byte: u8) -> u32
+    requires { 48 ≤ byte }
+    ensures { result ≡ byte - 48 }
+{
+    u32::from(byte - b'0')
+}
+
+/// Whether a byte is a decimal digit.
+fn is_digit(byte: u8) -> bool
+    ensures { result ≡ is_digit byte }
+{
+    b'0' <= byte && byte <= b'9'
+}
+
+/// Whether a byte is a decimal digit that a number may begin with.
+fn is_first_digit(byte: u8) -> bool
+    ensures { result ≡ is_first_digit byte }
+{
+    b'1' <= byte && byte <= b'9'
 }

@@ -81,8 +81,9 @@ fault_text f =
 
 -- the name of a feature that isn't built
 abbrev pub feature_name : Feature → List ℕ
-feature_name feature.Form = codes "Form"
+feature_name feature.Inter = codes "Inter"
 feature_name feature.Intra = codes "Intra"
+feature_name feature.Filters = codes "Filters"
 
 -- the number of a limit
 abbrev pub limit_number : LimitKind → ℕ

@@ -8,10 +8,12 @@ use std::fmt;
 /// What a valid stream may need and this version doesn't decode.
 #[derive(Clone, Copy, Debug, PartialEq, Eq)]
 pub enum Feature {
-    /// Another stream than the one grey picture that this version reads.
-    Form,
-    /// Another intra coding unit than one whole prediction block without residual.
+    /// A picture that refers to others, or that isn't put out where it was decoded.
+    Inter,
+    /// An intra picture that isn't one coding unit of 8x8 luma samples in one prediction block without residual.
     Intra,
+    /// A picture whose samples a loop filter changes.
+    Filters,
 }
 
 impl Feature {
@@ -20,8 +22,9 @@ impl Feature {
         ensures { result.now ≡ feature_name self }
     {
         match self {
-            Feature::Form => "Form",
+            Feature::Inter => "Inter",
             Feature::Intra => "Intra",
+            Feature::Filters => "Filters",
         }
     }
 }

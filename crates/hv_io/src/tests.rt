@@ -60,8 +60,9 @@ fn a_failed_write_leaves_a_front_of_the_piece(rt: HostRuntime) -> Result<(), Fai
 fn a_whole_source_is_read_in_pieces(rt: HostRuntime) -> Result<(), Fail> {
     for piece in [1, 7] {
         let mut src = MemSource::new(HELLO, piece, &[]);
-        let bytes = read_to_end(rt.alloc(), &mut src).expect(&rt, "no call fails");
-        assert_eq!(rt; bytes.as_slice(), HELLO);
+        let input = read_available(rt.alloc(), &mut src);
+        assert_eq!(rt; input.end, InputEnd::Ended);
+        assert_eq!(rt; input.bytes.as_slice(), HELLO);
     }
     Ok(())
 }
@@ -73,26 +74,46 @@ fn a_source_longer_than_a_read_is_read_whole(rt: HostRuntime) -> Result<(), Fail
         long.push((i % 251) as u8)?;
     }
     let mut src = MemSource::new(long.as_slice(), 100_000, &[]);
-    let bytes = read_to_end(rt.alloc(), &mut src).expect(&rt, "no call fails");
-    assert!(rt; bytes.as_slice() == long.as_slice());
+    let input = read_available(rt.alloc(), &mut src);
+    assert_eq!(rt; input.end, InputEnd::Ended);
+    assert!(rt; input.bytes.as_slice() == long.as_slice());
+    Ok(())
+}
+
+#[test]
+fn what_was_read_before_a_failed_read_is_kept(rt: HostRuntime) -> Result<(), Fail> {
+    for (call, front) in [
+        (0, b"".as_slice()),
+        (1, b"hello".as_slice()),
+        (2, b"hello, wor".as_slice()),
+        (3, HELLO),
+    ] {
+        let fails = [call];
+        let mut src = MemSource::new(HELLO, 5, &fails);
+        let input = read_available(rt.alloc(), &mut src);
+        assert_eq!(rt; input.end, InputEnd::Failed, "call {call}");
+        assert_eq!(rt; input.bytes.as_slice(), front, "call {call}");
+    }
     Ok(())
 }
 
 #[test]
 fn a_failed_read_leaves_what_comes_after_it(rt: HostRuntime) -> Result<(), Fail> {
     let mut src = MemSource::new(HELLO, 5, &[1]);
-    let answer = read_to_end(rt.alloc(), &mut src);
-    assert_eq!(rt; answer.err(), Some(ReadError::Failed));
-    let rest = read_to_end(rt.alloc(), &mut src).expect(&rt, "the next calls don't fail");
-    assert_eq!(rt; rest.as_slice(), b", world".as_slice());
+    let first = read_available(rt.alloc(), &mut src);
+    assert_eq!(rt; first.end, InputEnd::Failed);
+    let rest = read_available(rt.alloc(), &mut src);
+    assert_eq!(rt; rest.end, InputEnd::Ended);
+    assert_eq!(rt; rest.bytes.as_slice(), b", world".as_slice());
     Ok(())
 }
 
 #[test]
 fn a_reader_is_a_source(rt: HostRuntime) -> Result<(), Fail> {
     let mut src = FileSource::new(HELLO);
-    let bytes = read_to_end(rt.alloc(), &mut src).expect(&rt, "a slice doesn't fail");
-    assert_eq!(rt; bytes.as_slice(), HELLO);
+    let input = read_available(rt.alloc(), &mut src);
+    assert_eq!(rt; input.end, InputEnd::Ended);
+    assert_eq!(rt; input.bytes.as_slice(), HELLO);
     Ok(())
 }
 

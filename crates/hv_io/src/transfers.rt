@@ -1,6 +1,6 @@
 //! Writing a whole piece, and reading a whole source, in as many calls as it takes.
 
-ghost use Rattle.std.specs.Prelude.{◌≡◌, ◌<◌, ◌≤◌, Err, IfOk, OnOk, OnErr, length, vec_len};
+ghost use Rattle.std.specs.Prelude.{◌≡◌, ◌<◌, ◌≤◌, IfOk, OnOk, OnErr, length, vec_len};
 ghost use Rattle.hv_io.specs.Streams.{Rose, Takes, TakesSome, IsSpent, Gains, GainsPrefix};
 
 use crate::failed::Failed;
@@ -11,35 +11,24 @@ use std::alloc::{AllocError, Global};
 /// How many bytes a read asks for.
 const CHUNK: usize = 65_536;
 
-/// Why a source wasn't read to its end.
+/// How the reading of a source ended.
 #[derive(Clone, Copy, Debug, PartialEq, Eq)]
-pub enum ReadError {
-    /// There was no memory left.
-    Memory,
+pub enum InputEnd {
+    /// The source had no more bytes.
+    Ended,
     /// A read failed, which the source counted.
     Failed,
+    /// There was no memory left.
+    Memory,
 }
 
-impl From<Failed> for ReadError {
-    ghost use Rattle.std.specs.Prelude.{◌≡◌};
-    ghost use Rattle.hv_io.specs.declared.transfers.ReadError.{ReadError};
-
-    ghost from_gives = { λ _ e. e ≡ ReadError.Failed };
-
-    fn from(_failed: Failed) -> Self {
-        ReadError::Failed
-    }
-}
-
-impl From<AllocError> for ReadError {
-    ghost use Rattle.std.specs.Prelude.{◌≡◌};
-    ghost use Rattle.hv_io.specs.declared.transfers.ReadError.{ReadError};
-
-    ghost from_gives = { λ _ e. e ≡ ReadError.Memory };
-
-    fn from(_error: AllocError) -> Self {
-        ReadError::Memory
-    }
+/// What was read of a source, and how the reading ended.
+#[derive(Drop)]
+pub struct Input {
+    /// The bytes that were read, in their order.
+    pub bytes: Vec<u8>,
+    /// Why no more were read.
+    pub end: InputEnd,
 }
 
 /// Writes the whole piece.
@@ -59,41 +48,59 @@ pub fn write_all<O: Sink>(out: &mut O, piece: &[u8]) -> Result<(), Failed>
     Ok(())
 }
 
-/// Reads the source to its end, and answers all the bytes that were left.
+/// Reads the source until it ends, a read fails or there is no memory left, and answers the bytes that were read and
+/// which of these it was.
 ///
-/// An error leaves the bytes that were read until then taken: `Failed` where a read failed, `Memory` where there was
-/// no memory for the bytes.
-pub fn read_to_end<S: Source>(alloc: Global, src: &mut S) -> Result<Vec<u8>, ReadError>
-    ensures whole { IfOk result (λ v. Takes (S.left src.old) (S.left src.new) v.items) }
-    ensures spent { OnOk result (IsSpent (S.left src.new)) }
-    ensures failed { result ≡ Err ReadError.Failed → Rose (S.faults src.old) (S.faults src.new) }
+/// After `Ended` and `Failed` exactly these bytes were taken from the source. After `Memory` the source may have given
+/// more than these.
+pub fn read_available<S: Source>(alloc: Global, src: &mut S) -> Input
+    ensures whole { result.end ≡ InputEnd.Ended → Takes (S.left src.old) (S.left src.new) result.bytes.items }
+    ensures spent { result.end ≡ InputEnd.Ended → IsSpent (S.left src.new) }
+    ensures read { result.end ≡ InputEnd.Failed → Takes (S.left src.old) (S.left src.new) result.bytes.items }
+    ensures failed { result.end ≡ InputEnd.Failed → Rose (S.faults src.old) (S.faults src.new) }
     ensures some { TakesSome (S.left src.old) (S.left src.new) }
     ensures grows { S.faults src.old ≤ S.faults src.new }
 {
-    let mut chunk = zeros(alloc, CHUNK)?;
-    read_through(alloc, src, &mut chunk)
+    match zeros(alloc, CHUNK) {
+        Ok(mut chunk) => read_through(alloc, src, &mut chunk),
+        Err(_) => Input {
+            bytes: Vec::new(alloc),
+            end: InputEnd::Memory,
+        },
+    }
 }
 
-// Reads the source to its end, through this buffer.
-fn read_through<S: Source>(
-    alloc: Global,
-    src: &mut S,
-    chunk: &mut [u8],
-) -> Result<Vec<u8>, ReadError>
+// Reads the source as far as it goes, through this buffer.
+fn read_through<S: Source>(alloc: Global, src: &mut S, chunk: &mut [u8]) -> Input
     requires { 0 < length chunk.old }
-    ensures whole { IfOk result (λ v. Takes (S.left src.old) (S.left src.new) v.items) }
-    ensures spent { OnOk result (IsSpent (S.left src.new)) }
-    ensures failed { result ≡ Err ReadError.Failed → Rose (S.faults src.old) (S.faults src.new) }
+    ensures whole { result.end ≡ InputEnd.Ended → Takes (S.left src.old) (S.left src.new) result.bytes.items }
+    ensures spent { result.end ≡ InputEnd.Ended → IsSpent (S.left src.new) }
+    ensures read { result.end ≡ InputEnd.Failed → Takes (S.left src.old) (S.left src.new) result.bytes.items }
+    ensures failed { result.end ≡ InputEnd.Failed → Rose (S.faults src.old) (S.faults src.new) }
     ensures some { TakesSome (S.left src.old) (S.left src.new) }
     ensures grows { S.faults src.old ≤ S.faults src.new }
 {
     let mut bytes = Vec::new(alloc);
     loop {
-        let n = src.read(chunk)?;
+        let n = match src.read(chunk) {
+            Ok(n) => n,
+            Err(Failed) => return Input {
+                bytes,
+                end: InputEnd::Failed,
+            },
+        };
         if n == 0 {
-            return Ok(bytes);
+            return Input {
+                bytes,
+                end: InputEnd::Ended,
+            };
         }
-        bytes.extend_from_slice(&chunk[..n])?;
+        if bytes.extend_from_slice(&chunk[..n]).is_err() {
+            return Input {
+                bytes,
+                end: InputEnd::Memory,
+            };
+        }
     }
 }
 

@@ -9,8 +9,8 @@ use Rattle.spec_coding_tree.specs.declared.tree.CodingUnit.{CodingUnit}
 use Rattle.spec_coding_tree.specs.declared.tree.LumaMode.{LumaMode}
 use Rattle.spec_coding_tree.specs.declared.tree.LumaMode.TheVariants as mode
 use Rattle.spec_coding_tree.specs.Reading.{State, Reading, ◌>>=◌, give, decision, bypass, terminate, fixed_after}
-use Rattle.spec_coding_tree.specs.Elements.{wanted, other_intra, mpm_idx, luma_mode, intra_chroma_pred_mode, coding_tree_unit}
-use Rattle.spec_coding_tree.specs.Grammar.{Bin, Decision, Bypass, Terminate, Has, SpellsFixed, SpellsIndex, SpellsLuma, SpellsChroma, Spells}
+use Rattle.spec_coding_tree.specs.Elements.{wanted, pcm_flag_where, other_intra, mpm_idx, luma_mode, intra_chroma_pred_mode, coding_tree_unit}
+use Rattle.spec_coding_tree.specs.Grammar.{Bin, Decision, Bypass, Terminate, Has, SpellsFixed, SpellsIndex, SpellsLuma, SpellsChroma, pcm_bins, Spells}
 use Rattle.spec_coding_tree.proofs.Bins.{bind_ok, bind_is, ok_is, Fixed, fixed_found, fixed_only, wanted_found, wanted_only, Has-append, Has-split}
 
 -- bins that spell a value and that the data have
@@ -135,11 +135,21 @@ chroma_only chroma bins s t (inr spells) has =
     bind_is (decision INTRA_CHROMA_PRED_MODE s) chroma_after true h.0 (Ok (chroma, t)) h.1
     (number_only 2 chroma spells.0 h.0 t spells.1 h.2)
 
+-- ---- pcm_flag
+
+pcm_found : (has_pcm_flag : Bool) (s : State) (x : Bool × State) → pcm_flag_where has_pcm_flag s ≡ Ok x → Has s (pcm_bins has_pcm_flag) x.1
+pcm_found true s x h = (x.1, wanted_found terminate false other_intra s x h, refl)
+pcm_found false s x h = ap (λ (p : Bool × State). p.1) (ok_is (false, s) x h)
+
+pcm_only : (has_pcm_flag : Bool) (s t : State) → Has s (pcm_bins has_pcm_flag) t → pcm_flag_where has_pcm_flag s ≡ Ok (false, t)
+pcm_only true s t has = wanted_only terminate false other_intra s t (subst (λ (u : State). terminate s ≡ Ok (false, u)) has.2 has.1)
+pcm_only false s t has = ap (λ (u : State). Ok (false, u)) has
+
 -- ---- the coding tree unit
 
 -- the bins in front of the luma mode, and those after the chroma mode
-abbrev pub front_bins : List Bin
-front_bins = Decision PART_MODE true ∷ Terminate false ∷ []
+abbrev pub front_bins : Bool → List Bin
+front_bins has_pcm_flag = Decision PART_MODE true ∷ pcm_bins has_pcm_flag
 
 abbrev pub back_bins : List Bin
 back_bins = Decision CBF_CHROMA false ∷ Decision CBF_CHROMA false ∷ Decision CBF_LUMA false ∷ Terminate true ∷ []
@@ -163,25 +173,25 @@ after_luma luma = intra_chroma_pred_mode >>= λ chroma. after_chroma luma chroma
 abbrev after_pcm : Reading CodingUnit
 after_pcm = luma_mode >>= λ luma. after_luma luma
 
-abbrev after_part_mode : Reading CodingUnit
-after_part_mode = wanted terminate false other_intra >>= λ pcm_flag. after_pcm
+abbrev after_part_mode : Bool → Reading CodingUnit
+after_part_mode has_pcm_flag = pcm_flag_where has_pcm_flag >>= λ pcm_flag. after_pcm
 
 -- what is read is spelled by the bins of the data
-pub unit_found : (s : State) (x : CodingUnit × State) → coding_tree_unit s ≡ Ok x → Spelled Spells s x
+pub unit_found : (has_pcm_flag : Bool) (s : State) (x : CodingUnit × State) → coding_tree_unit has_pcm_flag s ≡ Ok x → Spelled (Spells has_pcm_flag) s x
 unfolding coding_tree_unit
-unit_found s x h =
-    let a = bind_ok (wanted (decision PART_MODE) true other_intra s) (λ part_mode. after_part_mode) x h in
-    let b = bind_ok (wanted terminate false other_intra a.state) (λ pcm_flag. after_pcm) x a.then_read in
+unit_found has_pcm_flag s x h =
+    let a = bind_ok (wanted (decision PART_MODE) true other_intra s) (λ part_mode. after_part_mode has_pcm_flag) x h in
+    let b = bind_ok (pcm_flag_where has_pcm_flag a.state) (λ pcm_flag. after_pcm) x a.then_read in
     let c = bind_ok (luma_mode b.state) after_luma x b.then_read in
     let d = bind_ok (intra_chroma_pred_mode c.state) (after_chroma c.value) x c.then_read in
     let e = bind_ok (wanted (decision CBF_CHROMA) false other_intra d.state) (λ cbf_cb. after_cb c.value d.value) x d.then_read in
     let f = bind_ok (wanted (decision CBF_CHROMA) false other_intra e.state) (λ cbf_cr. after_cr c.value d.value) x e.then_read in
     let g = bind_ok (wanted (decision CBF_LUMA) false other_intra f.state) (λ cbf_luma. ended c.value d.value) x f.then_read in
     let i = bind_ok (wanted terminate true (breach.Fault rule.SliceEnd) g.state) (λ e. give (record { luma = c.value; chroma = d.value })) x g.then_read in
-    let front : Has s front_bins b.state = (
+    let front : Has s (front_bins has_pcm_flag) b.state = (
       a.state,
       wanted_found (decision PART_MODE) true other_intra s (a.value, a.state) a.read,
-      (b.state, wanted_found terminate false other_intra a.state (b.value, b.state) b.read, refl),
+      pcm_found has_pcm_flag a.state (b.value, b.state) b.read,
     ) in
     let back : Has d.state back_bins i.state = (
       e.state,
@@ -198,25 +208,25 @@ unit_found s x h =
     ) in
     let luma = luma_found b.state (c.value, c.state) c.read in
     let chroma = chroma_found c.state (d.value, d.state) d.read in
-    let has = Has-append front_bins (luma.bins ++ (chroma.bins ++ back_bins)) s b.state i.state front
+    let has = Has-append (front_bins has_pcm_flag) (luma.bins ++ (chroma.bins ++ back_bins)) s b.state i.state front
     (Has-append luma.bins (chroma.bins ++ back_bins) b.state c.state i.state luma.has
     (Has-append chroma.bins back_bins c.state d.state i.state chroma.has back)) in
     let made : CodingUnit × State = (record { luma = c.value; chroma = d.value }, i.state) in
-    subst (Spelled Spells s) (ok_is made x i.then_read)
-    (record { bins = front_bins ++ (luma.bins ++ (chroma.bins ++ back_bins)); spells = (luma.bins, chroma.bins, luma.spells, chroma.spells, refl); has = has })
+    subst (Spelled (Spells has_pcm_flag) s) (ok_is made x i.then_read)
+    (record { bins = front_bins has_pcm_flag ++ (luma.bins ++ (chroma.bins ++ back_bins)); spells = (luma.bins, chroma.bins, luma.spells, chroma.spells, refl); has = has })
 
 -- what the bins of the data spell is read
-pub unit_only : (unit : CodingUnit) (bins : List Bin) (s t : State) → Spells unit bins → Has s bins t → coding_tree_unit s ≡ Ok (unit, t)
+pub unit_only : (has_pcm_flag : Bool) (unit : CodingUnit) (bins : List Bin) (s t : State) → Spells has_pcm_flag unit bins → Has s bins t → coding_tree_unit has_pcm_flag s ≡ Ok (unit, t)
 unfolding coding_tree_unit
-unit_only unit bins s t spells has =
+unit_only has_pcm_flag unit bins s t spells has =
     let all = subst (λ (b : List Bin). Has s b t) spells.4 has in
-    let front = Has-split front_bins (spells.0 ++ (spells.1 ++ back_bins)) s t all in
+    let front = Has-split (front_bins has_pcm_flag) (spells.0 ++ (spells.1 ++ back_bins)) s t all in
     let luma = Has-split spells.0 (spells.1 ++ back_bins) front.0 t front.2 in
     let chroma = Has-split spells.1 back_bins luma.0 t luma.2 in
     let a = front.1 in
     let e = chroma.2 in
-    bind_is (wanted (decision PART_MODE) true other_intra s) (λ part_mode. after_part_mode) true a.0 (Ok (unit, t)) (wanted_only (decision PART_MODE) true other_intra s a.0 a.1)
-    (bind_is (wanted terminate false other_intra a.0) (λ pcm_flag. after_pcm) false front.0 (Ok (unit, t)) (wanted_only terminate false other_intra a.0 front.0 (subst (λ (u : State). terminate a.0 ≡ Ok (false, u)) a.2.2 a.2.1))
+    bind_is (wanted (decision PART_MODE) true other_intra s) (λ part_mode. after_part_mode has_pcm_flag) true a.0 (Ok (unit, t)) (wanted_only (decision PART_MODE) true other_intra s a.0 a.1)
+    (bind_is (pcm_flag_where has_pcm_flag a.0) (λ pcm_flag. after_pcm) false front.0 (Ok (unit, t)) (pcm_only has_pcm_flag a.0 front.0 a.2)
     (bind_is (luma_mode front.0) after_luma unit.luma luma.0 (Ok (unit, t)) (luma_only unit.luma spells.0 front.0 luma.0 spells.2 luma.1)
     (bind_is (intra_chroma_pred_mode luma.0) (after_chroma unit.luma) unit.chroma chroma.0 (Ok (unit, t)) (chroma_only unit.chroma spells.1 luma.0 chroma.0 spells.3 chroma.1)
     (bind_is (wanted (decision CBF_CHROMA) false other_intra chroma.0) (λ cbf_cb. after_cb unit.luma unit.chroma) false e.0 (Ok (unit, t)) (wanted_only (decision CBF_CHROMA) false other_intra chroma.0 e.0 e.1)

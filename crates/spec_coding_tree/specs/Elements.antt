@@ -57,11 +57,16 @@ intra_chroma_pred_mode = do
   listed ← decision INTRA_CHROMA_PRED_MODE
   if listed then fixed_after 0 2 else give 4
 
+-- pcm_flag, where it is there: where pulse code modulation is enabled and takes blocks of this size (7.3.8.5)
+abbrev pub pcm_flag_where : Bool → Reading Bool
+pcm_flag_where true = wanted terminate false other_intra
+pcm_flag_where false = give false
+
 -- the coding tree unit and the end_of_slice_segment_flag after it (7.3.8.1 to 7.3.8.8)
-unfoldable pub coding_tree_unit : Reading CodingUnit
-coding_tree_unit = do
+unfoldable pub coding_tree_unit : Bool → Reading CodingUnit
+coding_tree_unit has_pcm_flag = do
   part_mode ← wanted (decision PART_MODE) true other_intra
-  pcm_flag ← wanted terminate false other_intra
+  pcm_flag ← pcm_flag_where has_pcm_flag
   luma ← luma_mode
   chroma ← intra_chroma_pred_mode
   cbf_cb ← wanted (decision CBF_CHROMA) false other_intra
@@ -89,10 +94,11 @@ abbrev pub trailed : List Bool → Result (CodingUnit × State) Breach → Resul
 trailed all (Err e) = Err e
 trailed all (Ok x) = if is_trailing all x.1.0.left then Ok x.0 else Err (breach.Fault rule.TrailingBits)
 
-abbrev pub started : List Bool → ℕ → Option Engine → Result CodingUnit Breach
-started all qp None = Err data_end
-started all qp (Some e) = trailed all (coding_tree_unit (e, contexts_at qp))
+abbrev pub started : Bool → List Bool → ℕ → Option Engine → Result CodingUnit Breach
+started has_pcm_flag all qp None = Err data_end
+started has_pcm_flag all qp (Some e) = trailed all (coding_tree_unit has_pcm_flag (e, contexts_at qp))
 
--- slice_segment_data of the one coding tree unit, and rbsp_slice_segment_trailing_bits (7.3.8.1, 7.3.2.9)
-unfoldable pub segment_data : ℕ → List ℕ → Result CodingUnit Breach
-segment_data qp bytes = started (bits bytes) qp (start_at (bits bytes))
+-- slice_segment_data of the one coding tree unit, and rbsp_slice_segment_trailing_bits (7.3.8.1, 7.3.2.9): whether its
+-- coding unit has a pcm_flag, SliceQpY and the bytes
+unfoldable pub segment_data : Bool → ℕ → List ℕ → Result CodingUnit Breach
+segment_data has_pcm_flag qp bytes = started has_pcm_flag (bits bytes) qp (start_at (bits bytes))

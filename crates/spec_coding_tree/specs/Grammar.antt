@@ -48,9 +48,14 @@ SpellsChroma chroma bins =
     ((chroma ≡ 4) × (bins ≡ Decision INTRA_CHROMA_PRED_MODE false ∷ []))
     ⊎ ((mode_bins : List Bin) × SpellsFixed 2 chroma mode_bins × (bins ≡ Decision INTRA_CHROMA_PRED_MODE true ∷ mode_bins))
 
+-- the bins of pcm_flag, where it is there
+abbrev pub pcm_bins : Bool → List Bin
+pcm_bins true = Terminate false ∷ []
+pcm_bins false = []
+
 -- the coding unit and the end of its slice segment
-abbrev pub Spells : CodingUnit → List Bin → Type 0
-Spells unit bins =
+abbrev pub Spells : Bool → CodingUnit → List Bin → Type 0
+Spells has_pcm_flag unit bins =
     (luma_bins chroma_bins : List Bin) × SpellsLuma unit.luma luma_bins × SpellsChroma unit.chroma chroma_bins
-    × (bins ≡ (Decision PART_MODE true ∷ Terminate false ∷ []) ++ (luma_bins ++ (chroma_bins
+    × (bins ≡ (Decision PART_MODE true ∷ pcm_bins has_pcm_flag) ++ (luma_bins ++ (chroma_bins
     ++ (Decision CBF_CHROMA false ∷ Decision CBF_CHROMA false ∷ Decision CBF_LUMA false ∷ Terminate true ∷ []))))

@@ -6,7 +6,7 @@ ghost use Rattle.spec_bits.specs.Bits.{bits};
 ghost use Rattle.spec_cabac.specs.Engine.{IsLive};
 ghost use Rattle.spec_cabac.specs.Plain.{engine_of};
 ghost use Rattle.spec_coding_tree.specs.Reading.{decision, bypass, terminate, fixed_after};
-ghost use Rattle.spec_coding_tree.specs.Elements.{wanted, mpm_idx, luma_mode, intra_chroma_pred_mode, coding_tree_unit, contexts_at, is_stop, is_trailing, segment_data};
+ghost use Rattle.spec_coding_tree.specs.Elements.{wanted, mpm_idx, luma_mode, intra_chroma_pred_mode, pcm_flag_where, coding_tree_unit, contexts_at, is_stop, is_trailing, segment_data};
 ghost use Rattle.spec_coding_tree.specs.Plain.{state_of, Answers, AreContexts, IsReady};
 
 use crate::contexts::{
@@ -137,20 +137,40 @@ fn intra_chroma_pred_mode<'a>(s: PlainState<'a>) -> Result<(u8, PlainState<'a>),
     }
 }
 
-/// The coding tree unit and the end_of_slice_segment_flag after it (7.3.8.1 to 7.3.8.8).
-#[tactic(auto, unfolding(crate::specs::Elements::coding_tree_unit))]
-pub fn coding_tree_unit<'a>(s: PlainState<'a>) -> Result<(CodingUnit, PlainState<'a>), Breach>
+/// pcm_flag, where it is there.
+fn pcm_flag_where<'a>(
+    has_pcm_flag: bool,
+    s: PlainState<'a>,
+) -> Result<(bool, PlainState<'a>), Breach>
     requires { IsReady (state_of s) }
-    ensures { Answers (λ x. (x.0, state_of x.1)) result (coding_tree_unit (state_of s.entry)) }
+    ensures value { Answers (λ x. (x.0, state_of x.1)) result (pcm_flag_where has_pcm_flag (state_of s.entry)) }
+    ensures ready { IfOk result (λ x. IsReady (state_of x.1)) }
 {
-    let (part_mode, s) = decision(s, PART_MODE)?;
-    if !part_mode {
-        return Err(OTHER_INTRA);
+    if !has_pcm_flag {
+        return Ok((false, s));
     }
     let (pcm_flag, s) = terminate(s)?;
     if pcm_flag {
         return Err(OTHER_INTRA);
     }
+    Ok((false, s))
+}
+
+/// The coding tree unit and the end_of_slice_segment_flag after it (7.3.8.1 to 7.3.8.8), where `has_pcm_flag` says
+/// whether its coding unit has a pcm_flag.
+#[tactic(auto, unfolding(crate::specs::Elements::coding_tree_unit))]
+pub fn coding_tree_unit<'a>(
+    has_pcm_flag: bool,
+    s: PlainState<'a>,
+) -> Result<(CodingUnit, PlainState<'a>), Breach>
+    requires { IsReady (state_of s) }
+    ensures { Answers (λ x. (x.0, state_of x.1)) result (coding_tree_unit has_pcm_flag (state_of s.entry)) }
+{
+    let (part_mode, s) = decision(s, PART_MODE)?;
+    if !part_mode {
+        return Err(OTHER_INTRA);
+    }
+    let (_, s) = pcm_flag_where(has_pcm_flag, s)?;
     let (luma, s) = luma_mode(s)?;
     let (chroma, s) = intra_chroma_pred_mode(s)?;
     let (cbf_cb, s) = decision(s, CBF_CHROMA)?;
@@ -172,16 +192,16 @@ pub fn coding_tree_unit<'a>(s: PlainState<'a>) -> Result<(CodingUnit, PlainState
     Ok((CodingUnit { luma, chroma }, s))
 }
 
-/// slice_segment_data of the one coding tree unit and the trailing bits after it (7.3.8.1, 7.3.2.9), where `qp` is
-/// SliceQpY and `all` are the bits of the data.
+/// slice_segment_data of the one coding tree unit and the trailing bits after it (7.3.8.1, 7.3.2.9), where
+/// `has_pcm_flag` says whether its coding unit has a pcm_flag, `qp` is SliceQpY and `all` are the bits of the data.
 #[tactic(auto, unfolding(crate::specs::Elements::segment_data))]
-pub fn segment_data(qp: u32, all: &[bool]) -> Result<CodingUnit, Breach>
+pub fn segment_data(has_pcm_flag: bool, qp: u32, all: &[bool]) -> Result<CodingUnit, Breach>
     requires { qp ≤ 51 }
-    ensures { (bytes : List ℕ) → all.now ≡ bits bytes → Answers (λ x. x) result (segment_data qp bytes) }
+    ensures { (bytes : List ℕ) → all.now ≡ bits bytes → Answers (λ x. x) result (segment_data has_pcm_flag qp bytes) }
 {
     let engine = spec_cabac::start(all).ok_or(DATA_END)?;
     let contexts = first_contexts(qp);
-    let (unit, s) = coding_tree_unit(PlainState { engine, contexts })?;
+    let (unit, s) = coding_tree_unit(has_pcm_flag, PlainState { engine, contexts })?;
     if is_trailing(all, s.engine.left) {
         Ok(unit)
     } else {

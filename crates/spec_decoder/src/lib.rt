@@ -1,8 +1,8 @@
-//! The sequential decoder: which pictures and which answer a byte string has, with a plain program that computes them.
+//! The sequential decoder: which pictures and which answer a byte string has.
 #![tactic(auto)]
 
-mod form;
-mod plain;
+mod laws;
+mod samples;
 
-pub use form::{STREAM_FRONT, grey_form};
-pub use plain::{GREY_PICTURE, decode, outcome_of};
+pub use laws::{data_are_whole, open_prefixes_stay, streams_decide};
+pub use samples::{GREY_PICTURE, grey_samples};

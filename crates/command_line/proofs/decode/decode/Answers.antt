@@ -1,17 +1,26 @@
-use Rattle.std.proofs.Common.{refl}
-use Rattle.command_line.specs.Headline.{Change, IsAnswered}
-use Rattle.command_line.proofs.HeadlineLaws.{open_after, headline_answered}
+use Rattle.std.proofs.Common.{true, false, sym, subst}
+use Rattle.hv_base.specs.declared.outcome.Outcome.{Outcome}
+use Rattle.spec_decoder.specs.Decoder.{decoded}
+use Rattle.command_line.specs.Headline.{Change, Headline, change_of}
+use Rattle.command_line.specs.Writing.{IsAnswered}
+use Rattle.command_line.proofs.HeadlineLaws.{headline_ended, headline_failed}
 use Rattle.command_line.proofs.decode.decode.Goals as goal
 
-pub returns-in-Err-Failed : goal.returns-in-Err-Failed
-returns-in-Err-Failed g c =
-    let src : Change = record { before = g.S.Source.left c.args.src.now; after = g.S.Source.left c.read_to_end.new.src; faults_before = g.S.Source.faults c.args.src.now; faults_after = g.S.Source.faults c.read_to_end.new.src } in
-    let out : Change = record { before = g.O.Sink.contents c.args.out.now; after = g.O.Sink.contents c.args.out.now; faults_before = g.O.Sink.faults c.args.out.now; faults_after = g.O.Sink.faults c.args.out.now } in
-    record { headline = (c.in-Err-Failed.ensures.failed (cc), open_after src out c.in-Err-Failed.ensures.some refl) }
+pub returns-in-Ended : goal.returns-in-Ended
+returns-in-Ended g c =
+    let src : Change = change_of g.S.Source.left g.S.Source.faults c.args.src.now c.read_available-input.new.src in
+    let out : Change = change_of g.O.Sink.contents g.O.Sink.faults c.args.out.now c.decode_bytes.new.out in
+    let answered : IsAnswered (decoded true c.read_available-input.result.bytes.items) out c.decode_bytes.result = rw (← c.deref.ensures.value) c.decode_bytes.ensures.answered in
+    record {
+      headline = headline_ended src out c.read_available-input.result.bytes.items c.decode_bytes.result (c.read_available-input.ensures.whole c.in-Ended.is) (c.read_available-input.ensures.spent c.in-Ended.is) answered;
+    }
 
-pub returns-in-Ok : goal.returns-in-Ok
-returns-in-Ok g c =
-    let src : Change = record { before = g.S.Source.left c.args.src.now; after = g.S.Source.left c.read_to_end.new.src; faults_before = g.S.Source.faults c.args.src.now; faults_after = g.S.Source.faults c.read_to_end.new.src } in
-    let out : Change = record { before = g.O.Sink.contents c.args.out.now; after = g.O.Sink.contents c.decode_stream.new.out; faults_before = g.O.Sink.faults c.args.out.now; faults_after = g.O.Sink.faults c.decode_stream.new.out } in
-    let answered : IsAnswered c.in-Ok.stream.items out c.decode_stream.result = rw (← c.deref.ensures.value) c.decode_stream.ensures in
-    record { headline = headline_answered src out c.in-Ok.stream.items c.decode_stream.result c.in-Ok.ensures.whole c.in-Ok.ensures.spent answered }
+pub returns : goal.returns
+returns g c =
+    let src : Change = change_of g.S.Source.left g.S.Source.faults c.args.src.now c.read_available-input.new.src in
+    let out : Change = change_of g.O.Sink.contents g.O.Sink.faults c.args.out.now c.decode_bytes-outcome.new.out in
+    let answered : IsAnswered (decoded false c.read_available-input.result.bytes.items) out c.decode_bytes-outcome.result = rw (← c.deref-in-Failed.ensures.value) c.decode_bytes-outcome.ensures.answered in
+    record {
+      headline = subst (λ (o : Outcome). Headline src out o) (sym c.behind_fault.ensures)
+          (headline_failed src out c.read_available-input.result.bytes.items c.decode_bytes-outcome.result (c.read_available-input.ensures.read c.in-Failed.is) (c.read_available-input.ensures.failed c.in-Failed.is) answered);
+    }

@@ -3,11 +3,11 @@ use Rattle.std.proofs.Common.{◌≤◌, ◌-◌, ◌^◌, vec_len}
 use Rattle.hv_io.specs.Streams.{Takes}
 use Rattle.hv_io.proofs.transfers.read_through.Given as goal
 
-abbrev pub invariant-loop-bytes : goal.invariant-loop-bytes
-invariant-loop-bytes g l = record {
+abbrev pub invariant-loop-n : goal.invariant-loop-n
+invariant-loop-n g l = record {
   taken : Takes (g.S.Source.left l.fn.src) (g.S.Source.left l.src) l.bytes.items;
   grows : g.S.Source.faults l.fn.src ≤ g.S.Source.faults l.src;
 }
 
-abbrev pub decreases-loop-bytes : goal.decreases-loop-bytes
-decreases-loop-bytes g l = 2 ^ 64 - vec_len l.bytes
+abbrev pub decreases-loop-n : goal.decreases-loop-n
+decreases-loop-n g l = 2 ^ 64 - vec_len l.bytes

@@ -3,6 +3,6 @@ use Rattle.spec_coding_tree.proofs.laws.read_as_spelled.Goals as goal
 
 pub returns : goal.returns
 returns c = record {
-  found = λ s t u h. let f = unit_found s (u, t) h in (f.bins, f.spells, f.has);
-  only = λ s t u bins spells has. unit_only u bins s t spells has;
+  found = λ p s t u h. let f = unit_found p s (u, t) h in (f.bins, f.spells, f.has);
+  only = λ p s t u bins spells has. unit_only p u bins s t spells has;
 }

@@ -1,0 +1,18 @@
+use Rattle.std.proofs.Common.{arith}
+use Rattle.picture_plan.specs.Flights.{pictures_of}
+use Rattle.command_line.specs.Headline.{change_of}
+use Rattle.command_line.proofs.Writes.{exits, passes-flight, over-flight}
+use Rattle.command_line.proofs.writing.write_flights.Goals as goal
+
+pub loop-flight-preserved : goal.loop-flight-preserved
+loop-flight-preserved g c = record {
+  wrote = passes-flight g.O.Sink.contents g.O.Sink.faults c.args.out.now c.loop-flight.out c.write_pictures.new.out (pictures_of c.args.flights) c.loop-flight.left c.next.new.self c.in-Some.flight c.as_slice.result.now
+      c.in-Some.ensures.value c.as_slice.ensures c.loop-flight.invariant.wrote c.in_ok-write_pictures.ensures.wrote;
+  grows = omega (arith, c.loop-flight.invariant.grows, c.write_pictures.ensures.grows);
+}
+
+pub returns-in_err-write_pictures-clause-wrote : goal.returns-in_err-write_pictures-clause-wrote
+returns-in_err-write_pictures-clause-wrote g c =
+    exits (change_of g.O.Sink.contents g.O.Sink.faults c.args.out.now c.write_pictures.new.out) (pictures_of c.args.flights) c.from_residual.result c.in_err-write_pictures.field-0.0 c.from_residual.ensures.1
+    (over-flight g.O.Sink.contents g.O.Sink.faults c.args.out.now c.loop-flight.out c.write_pictures.new.out (pictures_of c.args.flights) c.loop-flight.left c.next.new.self c.in-Some.flight c.as_slice.result.now c.in_err-write_pictures.field-0.0
+    c.in-Some.ensures.value c.as_slice.ensures c.loop-flight.invariant.wrote c.loop-flight.invariant.grows c.write_pictures.ensures.grows c.in_err-write_pictures.ensures.wrote)

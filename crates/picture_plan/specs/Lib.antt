@@ -1,0 +1,9 @@
+pub mod Flights
+pub mod Plans
+pub mod Changes
+pub mod Openings
+pub mod Bounds
+pub mod Held
+pub mod Taken
+pub mod Continuing
+pub mod Runs

@@ -1,0 +1,60 @@
+-- What a planner holds, and what each of its calls gives and leaves.
+use Rattle.std.specs.Prelude.{ℕ, List, [], ◌∷◌, Option, Some, None, Result, Ok, Err}
+use Rattle.hv_base.specs.declared.refusal.Stop.{Stop}
+use Rattle.header_types.specs.declared.picture_plan.PicturePlan.{PicturePlan}
+use Rattle.spec_units.specs.Judged.{Told}
+use Rattle.spec_pictures.specs.declared.between.Between.{Between}
+use Rattle.spec_pictures.specs.Steps.{Stepped, close, step}
+use Rattle.picture_plan.specs.Flights.{Gathered, waiting, cut, with_pictures, cut_at_stop}
+
+-- how many pictures a flight has at most, the pictures that wait for their flight's end, and what is known behind the
+-- units so far, or what stopped the stream
+pub record Plans : Type 0 where
+  pub ahead : ℕ
+  pub pending : List PicturePlan
+  pub next : Result Between Stop
+
+-- the flights that a call gives, and what it leaves
+pub record Given : Type 0 where
+  pub flights : List (List PicturePlan)
+  pub left : Plans
+
+abbrev pub given_of : ℕ → Result Between Stop → Gathered → Given
+given_of ahead next g = record { flights = g.flights; left = record { ahead = ahead; pending = g.pending; next = next } }
+
+abbrev pub after_step : Plans → Stepped → Given
+after_step p t = given_of p.ahead t.next (cut_at_stop t.next (with_pictures p.ahead (waiting p.pending) t.closed))
+
+-- what a unit tells is one step, and where it tells nothing nothing changes
+abbrev pub stepped : Between → List Told → Stepped
+stepped s [] = record { closed = []; next = Ok s }
+stepped s (t ∷ later) = step s t
+
+-- nothing follows a stop
+abbrev pub going_on : Plans → Result Between Stop → (Between → Given) → Given
+going_on p (Err e) f = given_of p.ahead (Err e) (waiting p.pending)
+going_on p (Ok s) f = f s
+
+-- behind what a unit tells, if anything
+unfoldable pub behind_unit : Plans → List Told → Given
+behind_unit p told = going_on p p.next (λ s. after_step p (stepped s told))
+
+abbrev pub all_cut : Given → Given
+all_cut g = given_of g.left.ahead g.left.next (cut (record { flights = g.flights; pending = g.left.pending }))
+
+-- the input ends: the open picture is closed, and the flight that is pending ends
+unfoldable pub at_end : Plans → Given
+at_end p = all_cut (going_on p p.next (λ s. after_step p (close s)))
+
+-- the flight that is pending ends, and no picture is closed
+unfoldable pub halted : Plans → Given
+halted p = all_cut (given_of p.ahead p.next (waiting p.pending))
+
+abbrev pub stop_of : Result Between Stop → Option Stop
+stop_of (Ok s) = None
+stop_of (Err e) = Some e
+
+-- where the stream stops, what is pending ends too
+abbrev pub cut_of : Option Stop → Gathered → Gathered
+cut_of None g = g
+cut_of (Some e) g = cut g

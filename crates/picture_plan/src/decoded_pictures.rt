@@ -1,0 +1,130 @@
+//! What a picture leaves behind (8.3.1, 8.3.2).
+
+ghost use Rattle.std.specs.Prelude.{◌≡◌, ◌≤◌, IfOk, length};
+ghost use Rattle.spec_pictures.specs.Pictures.{all_kept, dpb_after, former_after, kept, prev_after};
+ghost use Rattle.spec_pictures.specs.UnitKinds.{
+  is_order_base,
+  is_radl,
+  is_rasl,
+  is_sub_layer_non_reference,
+};
+ghost use Rattle.picture_plan.specs.Bounds.{KeepsFew, kept_count};
+
+use header_types::{DpbPicture, FieldList, Former, Mark, PicturePlan};
+use std::alloc::{AllocError, Global};
+
+/// What came before the next slice segment, once a picture is over: its order count may be the base of later ones, and
+/// it is marked as a short-term reference picture.
+#[tactic(auto, unfolding(spec_pictures::specs::Pictures::former_after))]
+pub(crate) fn former_after(
+    alloc: Global,
+    former: &Former,
+    picture: &PicturePlan,
+) -> Result<Former, AllocError>
+    requires { KeepsFew picture.now }
+    ensures value { IfOk result (λ f. f ≡ former_after former.now picture.now) }
+    ensures few { IfOk result (λ f. length f.dpb ≤ 113) }
+{
+    Ok(Former {
+        first: None,
+        slice: None,
+        address: None,
+        active: Some(picture.sps.try_clone(alloc)?),
+        fresh: false,
+        prev: prev_after(former.prev, picture),
+        dpb: dpb_after(alloc, former.dpb.as_slice(), picture)?,
+    })
+}
+
+/// The order count that later ones may be based on, behind a picture.
+fn prev_after(prev: i32, picture: &PicturePlan) -> i32
+    ensures { result ≡ prev_after prev picture.now }
+{
+    if is_order_base(picture.kind.nal_type, picture.kind.temporal_id) {
+        picture.poc
+    } else {
+        prev
+    }
+}
+
+/// Whether a picture may be prevTid0Pic of later ones (8.3.1).
+fn is_order_base(nal_type: u8, temporal_id: u8) -> bool
+    ensures { result ≡ is_order_base nal_type temporal_id }
+{
+    temporal_id == 0
+        && !(is_rasl(nal_type) || (is_radl(nal_type) || is_sub_layer_non_reference(nal_type)))
+}
+
+/// Whether a unit is of a random access skipped leading picture (7.4.2.2).
+fn is_rasl(nal_type: u8) -> bool
+    ensures { result ≡ is_rasl nal_type }
+{
+    nal_type == 8 || nal_type == 9
+}
+
+/// Whether a unit is of a random access decodable leading picture (7.4.2.2).
+fn is_radl(nal_type: u8) -> bool
+    ensures { result ≡ is_radl nal_type }
+{
+    nal_type == 6 || nal_type == 7
+}
+
+/// Whether a unit is of a sub-layer non-reference picture (7.4.2.2).
+fn is_sub_layer_non_reference(nal_type: u8) -> bool
+    ensures { result ≡ is_sub_layer_non_reference nal_type }
+{
+    nal_type <= 14 && nal_type % 2 == 0
+}
+
+/// The decoded picture buffer behind a picture.
+#[tactic(auto, unfolding(spec_pictures::specs::Pictures::dpb_after))]
+fn dpb_after(
+    alloc: Global,
+    dpb: &[DpbPicture],
+    picture: &PicturePlan,
+) -> Result<FieldList<DpbPicture>, AllocError>
+    requires { KeepsFew picture.now }
+    ensures value { IfOk result (λ d. d ≡ dpb_after dpb.now picture.now) }
+    ensures few { IfOk result (λ d. length d ≤ 113) }
+{
+    let mut pictures = all_kept(alloc, dpb, picture.rps.marks.as_slice())?;
+    let itself = DpbPicture {
+        poc: picture.poc,
+        mark: Mark::Short,
+        waiting: false,
+    };
+    pictures.push(itself)?;
+    Ok(pictures)
+}
+
+/// The pictures that these marks keep.
+fn all_kept(
+    alloc: Global,
+    dpb: &[DpbPicture],
+    marks: &[Mark],
+) -> Result<FieldList<DpbPicture>, AllocError>
+    ensures value { IfOk result (λ d. d ≡ all_kept dpb.now marks.now) }
+    ensures few { IfOk result (λ d. length d ≤ kept_count marks.now) }
+{
+    let mut pictures = FieldList::new(alloc);
+    for i in 0..dpb.len().min(marks.len()) {
+        if let Some(picture) = kept(&dpb[i], marks[i]) {
+            pictures.push(picture)?;
+        }
+    }
+    Ok(pictures)
+}
+
+/// A picture of the buffer as this mark keeps it, which waits for no output.
+fn kept(picture: &DpbPicture, mark: Mark) -> Option<DpbPicture>
+    ensures { result ≡ kept picture.now mark }
+{
+    match mark {
+        Mark::Unused => None,
+        Mark::Short | Mark::Long => Some(DpbPicture {
+            poc: picture.poc,
+            mark,
+            waiting: false,
+        }),
+    }
+}

@@ -1,0 +1,24 @@
+//! Plans the pictures of a stream: which units make a picture, in which order pictures come, what each refers to, and
+//! which are decoded together (H.265 7.4.2.4.4, 8.1, 8.3).
+#![tactic(auto)]
+
+mod change;
+mod closing;
+mod decoded_pictures;
+mod flight;
+mod gathering;
+mod headers;
+mod laws;
+mod opening;
+mod planner;
+mod slices;
+mod step;
+mod unit_kinds;
+mod units;
+
+pub use flight::{Flight, Flights};
+pub use laws::{flights_are_of_one_set, flights_are_the_pictures};
+pub use planner::{Planned, Planner};
+
+#[cfg(test)]
+mod closing_tests;
