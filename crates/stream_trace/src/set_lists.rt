@@ -28,10 +28,16 @@ fn factors<W: Write>(out: &mut W, list: &ScalingList) -> Result<(), TraceError> 
 pub(crate) fn short_term_sets<W: Write>(out: &mut W, sets: &[StRps]) -> Result<(), TraceError> {
     for (i, set) in sets.iter().enumerate() {
         write!(out, "short_term_ref_pic_set[{i}]=")?;
-        entries(out, set.negative.as_slice())?;
-        entries(out, set.positive.as_slice())?;
-        writeln!(out)?;
+        short_term_set(out, set)?;
     }
+    Ok(())
+}
+
+/// The entries of a set and the line's end.
+pub(crate) fn short_term_set<W: Write>(out: &mut W, set: &StRps) -> Result<(), TraceError> {
+    entries(out, set.negative.as_slice())?;
+    entries(out, set.positive.as_slice())?;
+    writeln!(out)?;
     Ok(())
 }
 
