@@ -5,11 +5,11 @@ ghost use Rattle.spec_pictures.specs.Pictures.{all_kept, dpb_after, former_after
 ghost use Rattle.spec_pictures.specs.UnitKinds.{
   is_order_base,
   is_radl,
-  is_rasl,
   is_sub_layer_non_reference,
 };
 ghost use Rattle.picture_plan.specs.Bounds.{KeepsFew, kept_count};
 
+use crate::unit_kinds::is_rasl;
 use header_types::{DpbPicture, FieldList, Former, Mark, PicturePlan};
 use std::alloc::{AllocError, Global};
 
@@ -53,13 +53,6 @@ fn is_order_base(nal_type: u8, temporal_id: u8) -> bool
 {
     temporal_id == 0
         && !(is_rasl(nal_type) || (is_radl(nal_type) || is_sub_layer_non_reference(nal_type)))
-}
-
-/// Whether a unit is of a random access skipped leading picture (7.4.2.2).
-fn is_rasl(nal_type: u8) -> bool
-    ensures { result ≡ is_rasl nal_type }
-{
-    nal_type == 8 || nal_type == 9
 }
 
 /// Whether a unit is of a random access decodable leading picture (7.4.2.2).
