@@ -1,6 +1,6 @@
 -- The substreams of slice segment data, which entry points cut in bytes of the unit as it stands in the stream, its
 -- emulation prevention bytes among them (7.4.7.1).
-use Rattle.std.specs.Prelude.{ℕ, ◌+◌, ◌-◌, ◌≤◌, List, [], ◌∷◌, length, take, drop, fold, nat_lt, nat_le, if◌then◌else◌}
+use Rattle.std.specs.Prelude.{◌≡◌, ℕ, ◌+◌, ◌-◌, ◌≤◌, List, [], ◌∷◌, All, length, take, drop, map, min, fold, nat_lt, nat_le, if◌then◌else◌}
 use Rattle.std.specs.List.{count_by}
 use Rattle.header_types.specs.declared.substream.Substream.{Substream}
 
@@ -44,3 +44,32 @@ bytes_of payload s = drop s.start (take s.end payload)
 pub record IsInside (payload : List ℕ) (s : Substream) : Type 0 where
   pub ordered : s.start ≤ s.end
   pub inside : s.end ≤ length payload
+
+-- the range of the payload from one place of the unit to another, or to the payload's end where a place is behind it
+abbrev pub range_between : List ℕ → List ℕ → ℕ → ℕ → Substream
+range_between payload removed from to =
+    let behind = min (payload_before removed to) (length payload) in
+    record { start = min (payload_before removed from) behind; end = behind }
+
+-- the range of the payload from a place of the unit on
+abbrev pub range_from : List ℕ → List ℕ → ℕ → Substream
+range_from payload removed from = record { start = min (payload_before removed from) (length payload); end = length payload }
+
+-- the ranges of the substreams from a place of the unit on
+unfoldable pub ranges_from : List ℕ → List ℕ → ℕ → List ℕ → List Substream
+ranges_from payload removed place [] = range_from payload removed place ∷ []
+ranges_from payload removed place (offset ∷ offsets) =
+    range_between payload removed place (place + offset) ∷ ranges_from payload removed (place + offset) offsets
+
+-- the ranges of the substreams of the data that begin at a byte of the payload
+unfoldable pub substream_ranges : List ℕ → List ℕ → ℕ → List ℕ → List Substream
+substream_ranges payload removed first offsets = ranges_from payload removed (unit_place removed first) offsets
+
+-- the bytes of the ranges are the substreams
+abbrev pub RangesHoldSubstreams : Type 0
+RangesHoldSubstreams = (payload removed : List ℕ) (first : ℕ) (offsets : List ℕ)
+    → map (bytes_of payload) (substream_ranges payload removed first offsets) ≡ substreams payload removed first offsets
+
+-- each of them is a range of the payload
+abbrev pub RangesAreInside : Type 0
+RangesAreInside = (payload removed : List ℕ) (first : ℕ) (offsets : List ℕ) → All (IsInside payload) (substream_ranges payload removed first offsets)

@@ -1,5 +1,6 @@
 //! Laws of the definitions.
 
+ghost use Rattle.spec_slice_headers.specs.Substreams.{RangesAreInside, RangesHoldSubstreams};
 ghost use Rattle.spec_slice_headers.specs.UnitCuts.{
   DataReachTheEnd,
   PlaceIsFound,
@@ -22,4 +23,10 @@ pub fn substreams_are_cuts()
 /// However entry points cut slice segment data, the substreams joined are the whole data.
 pub fn substreams_join()
     ensures { SubstreamsJoin }
+{}
+
+/// The ranges of the substreams are ranges of the payload, and their bytes are the substreams.
+pub fn ranges_hold_substreams()
+    ensures value { RangesHoldSubstreams }
+    ensures inside { RangesAreInside }
 {}

@@ -3,4 +3,4 @@
 
 mod laws;
 
-pub use laws::{places_are_found, substreams_are_cuts, substreams_join};
+pub use laws::{places_are_found, ranges_hold_substreams, substreams_are_cuts, substreams_join};
