@@ -1,5 +1,3 @@
-ghost use Rattle.std.specs.Prelude.{◌+◌, ◌≤◌, ◌^◌, length};
-
 use super::*;
 use std::alloc::{AllocError, Global};
 use std::test::Fail;
@@ -11,16 +9,9 @@ fn told(
     removed: &[u32],
     first: usize,
     offsets: &[u64],
-) -> Result<String, AllocError>
-    requires sized { length payload.now + length removed.now ≤ 2 ^ 27 }
-    requires inside { first ≤ length payload.now }
-    requires few { length offsets.now ≤ 2 ^ 16 }
-{
+) -> Result<String, AllocError> {
     let size = data_size(payload, removed, first);
     let mut text = format!(in alloc; "{size}:")?;
-    if !offsets.iter().all(|o| *o <= 4_294_967_296) {
-        return Ok(text);
-    }
     for s in substreams(alloc, payload, removed, first, offsets)?.as_slice() {
         let bytes = payload.get(s.start..s.end);
         let told = format!(in alloc; " {bytes:?}")?;
@@ -86,6 +77,27 @@ fn bytes_removed_before_the_data_are_not_theirs(rt: HostRuntime) -> Result<(), F
     ] {
         assert_eq!(rt;
             told(rt.alloc(), payload, &[4, 9, 12], first, offsets)?.as_str(),
+            wanted
+        );
+    }
+    Ok(())
+}
+
+#[test]
+fn places_behind_the_unit_give_the_end_of_the_payload(rt: HostRuntime) -> Result<(), Fail> {
+    // The unit behind its header's two bytes: 80 AA 00 00 03 01 BB.
+    let payload = &[0x80, 0xAA, 0, 0, 1, 0xBB];
+    for (first, offsets, wanted) in [
+        (
+            1,
+            &[u64::MAX, u64::MAX] as &[u64],
+            "6: Some([170, 0, 0, 1, 187]) Some([]) Some([])",
+        ),
+        (6, &[1], "0: Some([]) Some([])"),
+        (usize::MAX, &[1, u64::MAX], "0: Some([]) Some([]) Some([])"),
+    ] {
+        assert_eq!(rt;
+            told(rt.alloc(), payload, &[6], first, offsets)?.as_str(),
             wanted
         );
     }

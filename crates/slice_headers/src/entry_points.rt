@@ -2,15 +2,17 @@
 
 ghost use Rattle.spec_slice_headers.specs.Substreams.{
   IsInside,
-  bytes_between,
   bytes_of,
   data_size,
   payload_before,
   put_back,
+  range_between,
+  range_from,
+  substream_ranges,
   substreams,
   unit_place,
 };
-ghost use Rattle.std.specs.Prelude.{◌≡◌, ◌+◌, ◌<◌, ◌≤◌, ◌^◌, All, IfOk, drop, length, map};
+ghost use Rattle.std.specs.Prelude.{◌≡◌, ◌+◌, ◌≤◌, ◌<◌, All, IfOk, length, map, min};
 
 use header_types::{FieldList, Substream};
 use std::alloc::{AllocError, Global};
@@ -49,24 +51,44 @@ fn unit_place(removed: &[u32], i: usize) -> usize
     place
 }
 
+// The place in the unit behind its last byte.
+fn unit_end(payload: &[u8], removed: &[u32]) -> usize
+    ensures value { result ≡ 2 + length payload.now + length removed.now }
+    ensures few { result + 2 + length removed.now ≤ usize.MAX }
+{
+    2 + payload.len() + removed.len()
+}
+
+// The place in the unit of a byte of the payload, or `end` where that place is behind it.
+#[tactic(auto, using(crate::proofs::UnitPlaces::up_to))]
+fn place_up_to(removed: &[u32], i: usize, end: usize) -> usize
+    requires { end + 2 + length removed.now ≤ usize.MAX }
+    ensures { result ≡ min (unit_place removed.now i) end }
+{
+    unit_place(removed, i.min(end)).min(end)
+}
+
+// The place so many bytes behind another, or `end` where that place is behind it.
+fn next_place(place: usize, offset: u64, end: usize) -> usize
+    ensures { result ≡ min (place + offset) end }
+{
+    place.saturating_add(offset as usize).min(end)
+}
+
 /// How many bytes of the NAL unit, as it stands in the stream, the slice segment data have that begin at the byte
 /// `first` of its payload: the emulation prevention bytes behind that byte are among them. `removed` has the places
 /// in the unit of its emulation prevention bytes, in ascending order.
-#[tactic(auto, using(crate::proofs::UnitPlaces::no_data), unfolding(spec_slice_headers::specs::Substreams::data_size))]
+#[tactic(auto, unfolding(spec_slice_headers::specs::Substreams::data_size))]
 pub fn data_size(payload: &[u8], removed: &[u32], first: usize) -> usize
     ensures { result ≡ data_size payload.now removed.now first }
 {
-    let size = payload.len() + removed.len();
-    if first >= size {
-        return 0;
-    }
-    (2 + size).saturating_sub(unit_place(removed, first))
+    let end = unit_end(payload, removed);
+    end - place_up_to(removed, first, end)
 }
 
-// The payload's bytes from one place of the unit to another.
-fn bytes_between(payload: &[u8], removed: &[u32], from: usize, to: usize) -> Substream
-    ensures value { bytes_of payload.now result ≡ bytes_between payload.now removed.now from to }
-    ensures inside { IsInside payload.now result }
+// The range of the payload from one place of the unit to another.
+fn range_between(payload: &[u8], removed: &[u32], from: usize, to: usize) -> Substream
+    ensures { result ≡ range_between payload.now removed.now from to }
 {
     let end = payload_before(removed, to).min(payload.len());
     Substream {
@@ -75,10 +97,9 @@ fn bytes_between(payload: &[u8], removed: &[u32], from: usize, to: usize) -> Sub
     }
 }
 
-// The payload's bytes from a place of the unit on.
-fn bytes_from(payload: &[u8], removed: &[u32], from: usize) -> Substream
-    ensures value { bytes_of payload.now result ≡ drop (payload_before removed.now from) payload.now }
-    ensures inside { IsInside payload.now result }
+// The range of the payload from a place of the unit on.
+fn range_from(payload: &[u8], removed: &[u32], from: usize) -> Substream
+    ensures { result ≡ range_from payload.now removed.now from }
 {
     Substream {
         start: payload_before(removed, from).min(payload.len()),
@@ -86,10 +107,10 @@ fn bytes_from(payload: &[u8], removed: &[u32], from: usize) -> Substream
     }
 }
 
-/// The substreams of the slice segment data that begin at the byte `first` of a payload, as ranges of the payload.
-/// `offsets` says how many bytes of the NAL unit, as it stands in the stream, each substream but the last has, and
-/// `removed` has the places in the unit of its emulation prevention bytes, in ascending order.
-#[tactic(auto, unfolding(spec_slice_headers::specs::Substreams::substreams, spec_slice_headers::specs::Substreams::substreams_from))]
+/// The substreams of the slice segment data that begin at the byte `first` of a payload, as ranges of the payload: for
+/// any data, since a place behind the payload's end gives its end. `offsets` says how many bytes of the NAL unit, as it
+/// stands in the stream, each substream but the last has, and `removed` has the places in the unit of its emulation
+/// prevention bytes, in ascending order.
 pub fn substreams(
     alloc: Global,
     payload: &[u8],
@@ -97,21 +118,19 @@ pub fn substreams(
     first: usize,
     offsets: &[u64],
 ) -> Result<FieldList<Substream>, AllocError>
-    requires sized { length payload.now + length removed.now ≤ 2 ^ 27 }
-    requires inside { first ≤ length payload.now }
-    requires few { length offsets.now ≤ 2 ^ 16 }
-    requires small { All (λ o. o ≤ 2 ^ 32) offsets.now }
+    ensures ranges { IfOk result (λ s. s ≡ substream_ranges payload.now removed.now first offsets.now) }
     ensures value { IfOk result
         (λ s. map (bytes_of payload.now) s ≡ substreams payload.now removed.now first offsets.now) }
     ensures inside { IfOk result (All (IsInside payload.now)) }
 {
+    let end = unit_end(payload, removed);
     let mut found = FieldList::new(alloc);
-    let mut place = unit_place(removed, first);
+    let mut place = place_up_to(removed, first, end);
     for offset in offsets {
-        let next = place + *offset as usize;
-        found.push(bytes_between(payload, removed, place, next))?;
+        let next = next_place(place, *offset, end);
+        found.push(range_between(payload, removed, place, next))?;
         place = next;
     }
-    found.push(bytes_from(payload, removed, place))?;
+    found.push(range_from(payload, removed, place))?;
     Ok(found)
 }

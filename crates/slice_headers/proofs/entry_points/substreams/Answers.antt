@@ -1,32 +1,29 @@
-use Rattle.std.proofs.Common.{ℕ, ◌+◌, ◌<◌, ◌≡◌, List, [], ◌∷◌, ◌++◌, All, drop, get_or, length, map, arith, sym, ◌∙◌, ap}
-use Rattle.std.proofs.lemmas.List.{append_assoc, at_drop_more, map_push}
-use Rattle.std.proofs.lemmas.List.Elements.{All-push}
-use Rattle.std.proofs.lemmas.Grind.{common_steps}
-use Rattle.header_types.specs.declared.substream.Substream.{Substream}
-use Rattle.spec_slice_headers.specs.Substreams.{IsInside, bytes_between, bytes_of, substreams_from}
+use Rattle.std.proofs.Common.{◌+◌, arith, get_or}
+use Rattle.std.proofs.lemmas.List.{append_assoc}
+use Rattle.spec_slice_headers.specs.Substreams.{substream_ranges, unit_place}
+use Rattle.spec_slice_headers.proofs.Ranges.{hold, are_inside}
+use Rattle.slice_headers.proofs.UnitPlaces.{Alike, last_range, one_range, same_ranges}
 use Rattle.slice_headers.proofs.entry_points.substreams.Goals as goal
 
--- one more substream found
-one_more : (payload removed offsets : List ℕ) (found : List Substream) (s : Substream) (place i : ℕ) (whole : List (List ℕ)) → i < length offsets
-    → bytes_of payload s ≡ bytes_between payload removed place (place + get_or offsets i 0)
-    → map (bytes_of payload) found ++ substreams_from payload removed place (drop i offsets) ≡ whole
-    → map (bytes_of payload) (found ++ s ∷ []) ++ substreams_from payload removed (place + get_or offsets i 0) (drop (i + 1) offsets) ≡ whole
-unfolding substreams_from
-one_more payload removed offsets found s place i whole l here told =
-    let next : substreams_from payload removed place (drop i offsets) ≡ bytes_between payload removed place (place + get_or offsets i 0) ∷ substreams_from payload removed (place + get_or offsets i 0) (drop (i + 1) offsets) = at_drop_more (substreams_from payload removed place) offsets i 0 l in
-    let told' = rw next at told in
-    rw (map_push, append_assoc, here) told'
+pub loop-offset-init : goal.loop-offset-init
+unfolding substream_ranges
+loop-offset-init c =
+    let alike : Alike c.args.payload.now c.args.removed.now c.place_up_to-place.result (unit_place c.args.removed.now c.args.first) = omega (arith, c.place_up_to-place.ensures, c.unit_end-end.ensures.value) in
+    rw c.new-found.ensures (same_ranges c.args.payload.now c.args.removed.now _ _ c.args.offsets.now alike)
 
 pub loop-offset-preserved : goal.loop-offset-preserved
 loop-offset-preserved c =
-    let pushed = c.in_ok-push.ensures.ok in
-    record {
-      told = rw pushed (one_more c.args.payload.now c.args.removed.now c.args.offsets.now c.loop-offset.found c.bytes_between.result c.loop-offset.place c.loop-offset.offset-index _ (omega arith) c.bytes_between.ensures.value c.loop-offset.invariant.told);
-      inside = rw pushed (All-push (IsInside c.args.payload.now) c.loop-offset.found c.bytes_between.result c.loop-offset.invariant.inside c.bytes_between.ensures.inside);
-      near = grind (arith, common_steps, c.requires.small);
-    }
+    let alike : Alike c.args.payload.now c.args.removed.now (c.loop-offset.place + get_or c.args.offsets.now c.loop-offset.offset-index 0) c.next_place-next.result = omega (arith, c.next_place-next.ensures, c.unit_end-end.ensures.value) in
+    let found = one_range c.args.payload.now c.args.removed.now c.args.offsets.now c.loop-offset.place c.loop-offset.offset-index c.next_place-next.result (omega arith) alike in
+    rw (c.in_ok-push.ensures.ok, append_assoc, c.range_between.ensures) (rw found at c.loop-offset.invariant)
+
+pub returns-clause-ranges : goal.returns-clause-ranges
+returns-clause-ranges c =
+    let found = last_range c.args.payload.now c.args.removed.now c.args.offsets.now c.loop-offset.place c.loop-offset.offset-index (omega arith) in
+    rw (c.in_ok-push-2.ensures.ok, c.range_from.ensures) (rw found at c.loop-offset.invariant)
+
+pub returns-clause-value : goal.returns-clause-value
+returns-clause-value c = rw (returns-clause-ranges c) (hold c.args.payload.now c.args.removed.now c.args.first c.args.offsets.now)
 
 pub returns-clause-inside : goal.returns-clause-inside
-returns-clause-inside c =
-    let pushed = c.in_ok-push-2.ensures.ok in
-    rw pushed (All-push (IsInside c.args.payload.now) c.loop-offset.found c.bytes_from.result c.loop-offset.invariant.inside c.bytes_from.ensures.inside)
+returns-clause-inside c = rw (returns-clause-ranges c) (are_inside c.args.payload.now c.args.removed.now c.args.first c.args.offsets.now)
