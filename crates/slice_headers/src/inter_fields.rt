@@ -1,7 +1,8 @@
 //! The fields of P and B slices (7.3.6.1, 7.3.6.2, 7.4.7.1, 7.4.7.2).
 
-ghost use Rattle.std.specs.Prelude.{◌≡◌, ◌+◌, ◌≤◌, IfOk, IfSome};
+ghost use Rattle.std.specs.Prelude.{◌≡◌, ◌+◌, ◌≤◌, IfOk, IfSome, Some};
 ghost use Rattle.spec_fields.specs.Fields.{Reads, optional, repeated, ue_to};
+ghost use Rattle.spec_reference_pictures.specs.ReferenceLists.{HasFewActive};
 ghost use Rattle.spec_slice_headers.specs.Context.{rules};
 ghost use Rattle.spec_slice_headers.specs.InterFields.{is_b, overridden, defaults, active_entries, entries_1, list_entry, modification, modification_where, from_l0, collocated_minus1, index_to, collocated, has_weights, inter_fields};
 ghost use Rattle.slice_headers.specs.Ranges.{IsActive};
@@ -246,7 +247,8 @@ pub fn read_inter_fields<'a>(
     total: u32,
     is_temporal: bool,
 ) -> Result<InterFields, Refusal>
-    ensures { Reads (λ x. x) result reader.new (inter_fields slice_type pps.now total is_temporal reader.old) }
+    ensures value { Reads (λ x. x) result reader.new (inter_fields slice_type pps.now total is_temporal reader.old) }
+    ensures active { IfOk result (λ inter. HasFewActive (Some inter)) }
 {
     let active = read_active(reader, slice_type, pps)?;
     let active_0 = active.l0_minus1 + 1;

@@ -1,9 +1,10 @@
 //! slice_segment_header (7.3.6.1), and where the slice segment data begin.
 
-ghost use Rattle.std.specs.Prelude.{◌≡◌, ◌<◌, ◌≤◌, ◌^◌, IfOk, IsErr, None, length};
+ghost use Rattle.std.specs.Prelude.{◌≡◌, ◌<◌, ◌≤◌, ◌^◌, IfOk, IsErr, None, false, length};
 ghost use Rattle.std.specs.Option.{option_copied};
 ghost use Rattle.header_types.specs.SequenceParameterSets.{max_lsb};
 ghost use Rattle.spec_fields.specs.Fields.{Parses, Reads, optional, repeated, u};
+ghost use Rattle.spec_reference_pictures.specs.ReferenceLists.{HasFewActive};
 ghost use Rattle.spec_slice_headers.specs.Context.{first_of, rules};
 ghost use Rattle.spec_slice_headers.specs.SegmentHeader.{taken_fields, fields_of_slice, entry_point, some_entry_points, coded_entry_points, entry_points, coded_extension, alignment, slice_segment_header, slice_header_of, unit_context};
 ghost use Rattle.slice_headers.specs.Ranges.{AreReferences, IsInRange};
@@ -48,6 +49,7 @@ fn read_fields_of_slice<'a, 'b, 'c>(
     requires few { length context.former.now.dpb < 2 ^ 32 }
     ensures value { Reads (λ x. x) result reader.new (fields_of_slice (context_of context.entry) is_first (named_of named.entry) (place_of place) reader.old) }
     ensures in_range { (context_of context.entry).former.slice ≡ None → IfOk result (λ slice. AreReferences (max_lsb (named_of named.entry).sps) slice.references) }
+    ensures active { place.dependent_slice_segment_flag ≡ false → IfOk result (λ slice. HasFewActive slice.inter) }
 {
     if place.dependent_slice_segment_flag {
         return taken_fields(alloc, reader, context);
@@ -179,6 +181,7 @@ fn read_segment_header<'a, 'b>(
     requires few { length context.former.now.dpb < 2 ^ 32 }
     ensures value { Reads (λ x. x) result reader.new (slice_segment_header (context_of context.entry) reader.old) }
     ensures in_range { (context_of context.entry).former.slice ≡ None → IfOk result IsInRange }
+    ensures active { IfOk result (λ h. h.segment.dependent_slice_segment_flag ≡ false → HasFewActive h.slice.inter) }
 {
     let front = read_front(reader, context)?;
     let is_first = front.first_slice_segment_in_pic_flag;
@@ -225,6 +228,7 @@ pub fn read_slice_header(
     requires { length former.now.dpb < 2 ^ 32 }
     ensures value { Parses (λ x. x) result (slice_header_of (unit_context nal.now sets.now former.now) nal.now.rbsp) }
     ensures in_range { former.now.slice ≡ None → IfOk result IsInRange }
+    ensures active { IfOk result (λ h. h.segment.dependent_slice_segment_flag ≡ false → HasFewActive h.slice.inter) }
 {
     let payload = nal.rbsp.as_slice();
     let mut reader = BitReader::new(payload);

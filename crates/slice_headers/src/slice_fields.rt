@@ -4,6 +4,7 @@ ghost use Rattle.std.specs.Prelude.{◌≡◌, ◌<◌, ◌≤◌, ◌^◌, IfOk
 ghost use Rattle.std.specs.Option.{option_copied};
 ghost use Rattle.header_types.specs.SequenceParameterSets.{max_lsb};
 ghost use Rattle.spec_fields.specs.Fields.{Reads};
+ghost use Rattle.spec_reference_pictures.specs.ReferenceLists.{HasFewActive};
 ghost use Rattle.spec_slice_headers.specs.SliceFields.{kind_of, type_of, slice_type, pic_output, temporal_flag, inter_of, slice_qp, qp_delta, chroma_offset, pps_deblocking, own_deblocking, may_override, deblocking, across_slices, filter_fields, later_fields, slice_fields};
 ghost use Rattle.slice_headers.specs.Ranges.{AreReferences};
 ghost use Rattle.slice_headers.specs.Views.{context_of, filters_of, named_of};
@@ -75,7 +76,8 @@ fn read_inter<'a>(
     total: u32,
     is_temporal: bool,
 ) -> Result<Option<InterFields>, Refusal>
-    ensures { Reads (λ x. x) result reader.new (inter_of slice_type pps.now total is_temporal reader.old) }
+    ensures value { Reads (λ x. x) result reader.new (inter_of slice_type pps.now total is_temporal reader.old) }
+    ensures active { IfOk result HasFewActive }
 {
     if is_i(slice_type) {
         return Ok(None);
@@ -278,6 +280,7 @@ fn read_later_fields<'a, 'b, 'c>(
     requires references { AreReferences (max_lsb named.sps.now) front.references }
     ensures value { Reads (λ x. x) result reader.new (later_fields (context_of context.entry) (option_copied former.entry) (named_of named.entry) front.slice_type front.pic_output_flag front.references reader.old) }
     ensures in_range { IfOk result (λ slice. AreReferences (max_lsb (named_of named.entry).sps) slice.references) }
+    ensures active { IfOk result (λ slice. HasFewActive slice.inter) }
 {
     let has_sao = named.sps.fields().sample_adaptive_offset_enabled_flag;
     let slice_temporal_mvp_enabled_flag = read_temporal(reader, context, former, named.sps)?;
@@ -325,6 +328,7 @@ pub fn read_slice_fields<'a, 'b, 'c>(
     requires few { length context.former.now.dpb < 2 ^ 32 }
     ensures value { Reads (λ x. x) result reader.new (slice_fields (context_of context.entry) (option_copied former.entry) (named_of named.entry) reader.old) }
     ensures in_range { IfOk result (λ slice. AreReferences (max_lsb (named_of named.entry).sps) slice.references) }
+    ensures active { IfOk result (λ slice. HasFewActive slice.inter) }
 {
     u(
         reader,
