@@ -1,0 +1,2 @@
+pub mod Discarded
+pub mod MarkedPictures

@@ -1,0 +1,110 @@
+//! What a picture puts out, and what the end of the input does (C.5.2.2, C.5.2.3).
+
+ghost use Rattle.std.specs.Prelude.{◌≡◌, ◌^◌, ◌<◌, IfOk, OnOk, ◌++◌, length};
+ghost use Rattle.spec_output_order.specs.OutputOrder.{ended, last_outputs, outputs_of, started};
+
+use crate::bumping::{bump, discard};
+use crate::held::{held, held_places};
+use crate::marking::all_marked;
+use header_types::{DpbPicture, FieldList, Mark};
+use spec_output_order::{CurrentPicture, Outputs};
+use std::alloc::{AllocError, Global};
+
+/// What the current picture puts out of the decoded picture buffer, and what it leaves there (C.5.2.2, C.5.2.3), where
+/// `dpb` are the pictures there in decoding order and `marks` says how the current picture marks each of them. Pictures
+/// are named by their places in `dpb`, and the current picture by the place behind the last. `AllocError` where memory
+/// runs out, and for no other reason.
+#[tactic(auto, unfolding(spec_output_order::specs::OutputOrder::outputs_of))]
+pub fn outputs_of(
+    alloc: Global,
+    current: CurrentPicture,
+    dpb: &[DpbPicture],
+    marks: &[Mark],
+) -> Result<Outputs, AllocError>
+    requires few { length dpb.now < 2 ^ 16 }
+    ensures { IfOk result (λ o. o ≡ outputs_of current dpb.now marks.now) }
+{
+    let mut pictures = all_marked(alloc, dpb, marks)?;
+    let mut before = FieldList::new(alloc);
+    start(current, &mut before, &mut pictures)?;
+    let mut behind = FieldList::new(alloc);
+    end(current, &mut behind, &mut pictures)?;
+    let kept = held_places(alloc, pictures.as_slice())?;
+    let dpb = held(alloc, pictures.as_slice())?;
+    Ok(Outputs {
+        before,
+        behind,
+        kept,
+        dpb,
+    })
+}
+
+/// Before the current picture is decoded: where it begins anew the pictures that wait are discarded or all go out, else
+/// pictures go out until there is room (C.5.2.2).
+#[tactic(auto, unfolding(spec_output_order::specs::OutputOrder::started))]
+fn start(
+    current: CurrentPicture,
+    out: &mut FieldList<u32>,
+    pictures: &mut FieldList<DpbPicture>,
+) -> Result<(), AllocError>
+    requires few { length pictures.old < 2 ^ 16 }
+    ensures out { OnOk result (out.new ≡ out.old ++ (started current pictures.old).out) }
+    ensures left { OnOk result (pictures.new ≡ (started current pictures.old).left) }
+    ensures same { length pictures.new ≡ length pictures.old }
+{
+    if !current.begins_anew {
+        let size = current.ordering.max_dec_pic_buffering_minus1 as u64 + 1;
+        bump(
+            current.ordering.max_num_reorder_pics,
+            Some(size),
+            out,
+            pictures,
+        )
+    } else if current.no_output_of_prior_pics {
+        discard(pictures);
+        Ok(())
+    } else {
+        bump(0, None, out, pictures)
+    }
+}
+
+/// The current picture enters the buffer, and pictures go out until no more wait than may be reordered (C.5.2.3).
+#[tactic(auto, unfolding(spec_output_order::specs::OutputOrder::ended))]
+fn end(
+    current: CurrentPicture,
+    out: &mut FieldList<u32>,
+    pictures: &mut FieldList<DpbPicture>,
+) -> Result<(), AllocError>
+    requires few { length pictures.old < 2 ^ 16 }
+    ensures out { OnOk result (out.new ≡ out.old ++ (ended current pictures.old).out) }
+    ensures left { OnOk result (pictures.new ≡ (ended current pictures.old).left) }
+    ensures few { OnOk result (length pictures.new < 2 ^ 32) }
+{
+    pictures.push(DpbPicture {
+        poc: current.poc,
+        mark: Mark::Short,
+        waiting: current.pic_output,
+    })?;
+    bump(current.ordering.max_num_reorder_pics, None, out, pictures)
+}
+
+/// The places of the pictures that go out where the input ends, in output order: all that wait, where `dpb` are the
+/// pictures of the decoded picture buffer in decoding order (C.5.2.4). `AllocError` where memory runs out, and for no
+/// other reason.
+#[tactic(auto, unfolding(spec_output_order::specs::OutputOrder::last_outputs))]
+pub fn last_outputs(alloc: Global, dpb: &[DpbPicture]) -> Result<FieldList<u32>, AllocError>
+    requires few { length dpb.now < 2 ^ 16 }
+    ensures { IfOk result (λ out. out ≡ last_outputs dpb.now) }
+{
+    let mut pictures = copied(alloc, dpb)?;
+    let mut out = FieldList::new(alloc);
+    bump(0, None, &mut out, &mut pictures)?;
+    Ok(out)
+}
+
+/// The pictures of the buffer once more.
+fn copied(alloc: Global, dpb: &[DpbPicture]) -> Result<FieldList<DpbPicture>, AllocError>
+    ensures { IfOk result (λ pictures. pictures ≡ dpb.now) }
+{
+    Ok(FieldList::from_items(Vec::from_slice(alloc, dpb)?))
+}

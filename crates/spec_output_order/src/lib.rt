@@ -1,0 +1,10 @@
+//! What goes out of the decoded picture buffer, in which order, and what stays there (H.265 C.5.2): definitions.
+#![tactic(auto)]
+
+mod current_picture;
+mod laws;
+mod outputs;
+
+pub use current_picture::CurrentPicture;
+pub use laws::few_pictures_stay;
+pub use outputs::Outputs;
