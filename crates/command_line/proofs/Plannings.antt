@@ -4,7 +4,7 @@ use Rattle.hv_base.specs.declared.refusal.Stop.{Stop}
 use Rattle.hv_base.specs.declared.refusal.Stop.TheVariants as stop
 use Rattle.hv_base.specs.declared.fault.Fault.{Fault}
 use Rattle.hv_base.specs.declared.limit.Limit.{Limit}
-use Rattle.header_types.specs.declared.picture_plan.PicturePlan.{PicturePlan}
+use Rattle.spec_pictures.specs.declared.picture_plan.PicturePlan.{PicturePlan}
 use Rattle.spec_units.specs.Judged.{Told, Whole, Broken, Met, told_of}
 use Rattle.spec_pictures.specs.declared.between.Between.{Between}
 use Rattle.spec_pictures.specs.Pictures.{beginning}
@@ -24,7 +24,7 @@ owed-first ended bytes ahead = refl
 
 joined-closed : (a b c d : List PicturePlan) (x : Planned) → a ++ b ≡ c ++ d → behind_closed c (behind_closed d x) ≡ behind_closed a (behind_closed b x)
 joined-closed a b c d x e =
-    ap (λ (ps : List PicturePlan). let q : Planned = record { pictures = ps; stop = x.stop } in q)
+    ap (λ (ps : List PicturePlan). let q : Planned = record { pictures = ps; last = x.last; stop = x.stop } in q)
     (sym (append_assoc c d x.pictures) ∙ ap (λ (ps : List PicturePlan). ps ++ x.pictures) (sym e) ∙ append_assoc a b x.pictures)
 
 -- the pictures of a step's flights, and what is planned behind them
@@ -77,7 +77,7 @@ stop-is (Ok s) e is = absurd cc
 stop-is (Err f) e is = cc
 
 stopped-owed : (ended : Bool) (p : Plans) (later : List Told) (e : Stop) → p.pending ≡ [] → p.next ≡ Err e
-    → planned_behind ended p later ≡ record { pictures = []; stop = Some e }
+    → planned_behind ended p later ≡ record { pictures = []; last = []; stop = Some e }
 unfolding planned_behind
 stopped-owed ended p later e none is =
     ap (λ (ps : List PicturePlan). behind_closed ps (planned_next p.next (λ s. planned_from ended s later))) none
@@ -115,7 +115,7 @@ end-next p (Ok s) =
     (sym (step-all p.ahead p.pending u.closed u.next) ∙ sym (cut-flights (record { flights = g.flights; pending = g.left.pending })))
     (same_stop u.next)
 end-next p (Err e) =
-    last-of (behind_closed p.pending (record { pictures = []; stop = Some e })) (pictures_of (cut (waiting p.pending)).flights) (Err e)
+    last-of (behind_closed p.pending (record { pictures = []; last = []; stop = Some e })) (pictures_of (cut (waiting p.pending)).flights) (Err e)
     (append-nil p.pending ∙ sym (cut-flights (waiting p.pending)))
     refl
 
@@ -132,7 +132,7 @@ halt-next p (Ok s) =
     (append-nil p.pending ∙ sym (cut-flights (waiting p.pending)))
     refl
 halt-next p (Err e) =
-    last-of (behind_closed p.pending (record { pictures = []; stop = Some e })) (pictures_of (cut (waiting p.pending)).flights) (Err e)
+    last-of (behind_closed p.pending (record { pictures = []; last = []; stop = Some e })) (pictures_of (cut (waiting p.pending)).flights) (Err e)
     (append-nil p.pending ∙ sym (cut-flights (waiting p.pending)))
     refl
 

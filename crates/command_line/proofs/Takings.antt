@@ -5,7 +5,7 @@ use Rattle.std.proofs.lemmas.Result.{err_from_is_err_and}
 use Rattle.hv_base.specs.declared.outcome.Outcome.{Outcome}
 use Rattle.hv_base.specs.declared.outcome.Outcome.TheVariants as outcome
 use Rattle.hv_base.specs.declared.refusal.Stop.{Stop}
-use Rattle.header_types.specs.declared.picture_plan.PicturePlan.{PicturePlan}
+use Rattle.spec_pictures.specs.declared.picture_plan.PicturePlan.{PicturePlan}
 use Rattle.spec_units.specs.Judged.{Told, Whole, Broken, Met, unit_of, told_of}
 use Rattle.nal_stream.specs.declared.answer.Next.{Next}
 use Rattle.nal_stream.specs.declared.answer.Next.TheVariants as next
@@ -29,16 +29,16 @@ leads-along : {X : Type 0} → (out : Change) (a b d e : Decoded) (r : Result X 
 leads-along out a b d e r p q l =
     subst (λ (x : Decoded). LeadsTo out x d r) (sym p) (subst (λ (x : Decoded). LeadsTo out b x r) (sym q) l)
 
-abbrev given : List (List PicturePlan) → Plans → Given
-given flights left = record { flights = flights; left = left }
+abbrev given : List (List PicturePlan) → List ℕ → Plans → Given
+given flights last left = record { flights = flights; last = last; left = left }
 
 -- the flights of a unit that stops nothing
-pub unit-leads : {X : Type 0} → (out : Change) (ended : Bool) (old new : Plans) (told : List Told) (t : Told) (later : List Told) (flights : List (List PicturePlan)) (r : Result X Outcome)
-    → told ≡ t ∷ [] → behind_unit old told ≡ given flights new → WritesFirst out (pictures_of flights) r
+pub unit-leads : {X : Type 0} → (out : Change) (ended : Bool) (old new : Plans) (told : List Told) (t : Told) (later : List Told) (flights : List (List PicturePlan)) (last : List ℕ) (r : Result X Outcome)
+    → told ≡ t ∷ [] → behind_unit old told ≡ given flights last new → WritesFirst out (pictures_of flights) r
     → LeadsTo out (owed_behind ended old (t ∷ later)) (owed_behind ended new later) r
-unit-leads out ended old new told t later flights r is value w =
+unit-leads out ended old new told t later flights last r is value w =
     let u = owed-unit ended old t later in
-    let e : behind_unit old (t ∷ []) ≡ given flights new = ap (behind_unit old) (sym is) ∙ value in
+    let e : behind_unit old (t ∷ []) ≡ given flights last new = ap (behind_unit old) (sym is) ∙ value in
     let before : owed_behind ended old (t ∷ later) ≡ decoded_from u.0.stop (pictures_of flights ++ u.0.pictures) =
     u.1 ∙ ap (λ (g : Given). decoded_from u.0.stop (pictures_of g.flights ++ u.0.pictures)) e in
     let after : owed_behind ended new later ≡ decoded_from u.0.stop u.0.pictures =
@@ -46,11 +46,11 @@ unit-leads out ended old new told t later flights r is value w =
     leads-along out _ _ _ _ r before after (w u.0.stop u.0.pictures)
 
 -- the flights of a unit that stops the stream
-pub unit-ends : (out : Change) (ended : Bool) (old new : Plans) (told : List Told) (t : Told) (later : List Told) (flights : List (List PicturePlan)) (stop : Option Stop) (e : Stop) (o : Outcome)
-    → told ≡ t ∷ [] → behind_unit old told ≡ given flights new → stop_of old.next ≡ None → stop ≡ stop_of new.next → stop ≡ Some e
+pub unit-ends : (out : Change) (ended : Bool) (old new : Plans) (told : List Told) (t : Told) (later : List Told) (flights : List (List PicturePlan)) (last : List ℕ) (stop : Option Stop) (e : Stop) (o : Outcome)
+    → told ≡ t ∷ [] → behind_unit old told ≡ given flights last new → stop_of old.next ≡ None → stop ≡ stop_of new.next → stop ≡ Some e
     → IsAnswered (decoded_from stop (pictures_of flights)) out o → IsAnswered (owed_behind ended old (t ∷ later)) out o
-unit-ends out ended old new told t later flights stop e o is value going same some answered =
-    let v : behind_unit old (t ∷ []) ≡ given flights new = ap (behind_unit old) (sym is) ∙ value in
+unit-ends out ended old new told t later flights last stop e o is value going same some answered =
+    let v : behind_unit old (t ∷ []) ≡ given flights last new = ap (behind_unit old) (sym is) ∙ value in
     let stopped : stop_of (behind_unit old (t ∷ [])).left.next ≡ Some e = ap (λ (g : Given). stop_of g.left.next) v ∙ sym same ∙ some in
     let owed : owed_behind ended old (t ∷ later) ≡ decoded_from stop (pictures_of flights) =
     owed-stopped ended old t later e going stopped ∙ ap (λ (g : Given). decoded_from (Some e) (pictures_of g.flights)) v ∙ ap (λ (s : Option Stop). decoded_from s (pictures_of flights)) (sym some) in
@@ -156,17 +156,17 @@ taken-over out f old new ended bytes later r o is answered =
     subst (λ (q : Result Taken Outcome). Takes out f old new ended bytes later q) (sym (p.1 ∙ ap (λ (y : Outcome). let q : Result Taken Outcome = Err y in q) p.2)) answered
 
 -- behind the last unit of an input that ended
-pub rest-ended : (out : Change) (old new : Plans) (flights : List (List PicturePlan)) (stop : Option Stop) (o : Outcome)
-    → at_end old ≡ given flights new → stop ≡ stop_of new.next → IsAnswered (decoded_from stop (pictures_of flights)) out o → IsAnswered (owed_behind true old []) out o
-rest-ended out old new flights stop o value same answered =
+pub rest-ended : (out : Change) (old new : Plans) (flights : List (List PicturePlan)) (last : List ℕ) (stop : Option Stop) (o : Outcome)
+    → at_end old ≡ given flights last new → stop ≡ stop_of new.next → IsAnswered (decoded_from stop (pictures_of flights)) out o → IsAnswered (owed_behind true old []) out o
+rest-ended out old new flights last stop o value same answered =
     subst (λ (d : Decoded). IsAnswered d out o)
     (sym (owed-end old ∙ ap (λ (g : Given). decoded_from (stop_of g.left.next) (pictures_of g.flights)) value ∙ ap (λ (s : Option Stop). decoded_from s (pictures_of flights)) (sym same)))
     answered
 
 -- and of one that didn't
-pub rest-halted : (out : Change) (old new : Plans) (flights : List (List PicturePlan)) (stop : Option Stop) (o : Outcome)
-    → halted old ≡ given flights new → stop ≡ stop_of new.next → IsAnswered (decoded_from stop (pictures_of flights)) out o → IsAnswered (owed_behind false old []) out o
-rest-halted out old new flights stop o value same answered =
+pub rest-halted : (out : Change) (old new : Plans) (flights : List (List PicturePlan)) (last : List ℕ) (stop : Option Stop) (o : Outcome)
+    → halted old ≡ given flights last new → stop ≡ stop_of new.next → IsAnswered (decoded_from stop (pictures_of flights)) out o → IsAnswered (owed_behind false old []) out o
+rest-halted out old new flights last stop o value same answered =
     subst (λ (d : Decoded). IsAnswered d out o)
     (sym (owed-halt old ∙ ap (λ (g : Given). decoded_from (stop_of g.left.next) (pictures_of g.flights)) value ∙ ap (λ (s : Option Stop). decoded_from s (pictures_of flights)) (sym same)))
     answered

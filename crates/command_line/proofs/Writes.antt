@@ -11,7 +11,7 @@ use Rattle.hv_base.specs.declared.refusal.Stop.{Stop}
 use Rattle.hv_base.specs.declared.refusal.Stop.TheVariants as stop
 use Rattle.hv_io.specs.Streams.{Gains, GainsPrefix, Rose}
 use Rattle.hv_io.proofs.StreamLemmas.{Gains-nil, Gains-append, GainsPrefix-append, GainsPrefix-front, Rose-within}
-use Rattle.header_types.specs.declared.picture_plan.PicturePlan.{PicturePlan}
+use Rattle.spec_pictures.specs.declared.picture_plan.PicturePlan.{PicturePlan}
 use Rattle.picture_plan.specs.Flights.{pictures_of}
 use Rattle.spec_decoder.specs.Decoder.{Decoded, IsDecided, decoded_picture, put_out, ending, decoded_from, bytes_of}
 use Rattle.spec_decoder.proofs.Deciding.{picture_decided}

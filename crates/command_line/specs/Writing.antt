@@ -5,7 +5,7 @@ use Rattle.hv_base.specs.declared.outcome.Outcome.{Outcome}
 use Rattle.hv_base.specs.declared.outcome.Outcome.TheVariants as outcome
 use Rattle.hv_base.specs.declared.refusal.Stop.{Stop}
 use Rattle.hv_io.specs.Streams.{Gains, GainsPrefix}
-use Rattle.header_types.specs.declared.picture_plan.PicturePlan.{PicturePlan}
+use Rattle.spec_pictures.specs.declared.picture_plan.PicturePlan.{PicturePlan}
 use Rattle.spec_decoder.specs.Decoder.{Decoded, decoded_from, bytes_of}
 use Rattle.command_line.specs.Headline.{Change, Failed}
 

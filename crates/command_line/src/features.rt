@@ -4,9 +4,10 @@ ghost use Rattle.std.specs.Prelude.{◌≡◌};
 ghost use Rattle.std.specs.List.{list_any};
 ghost use Rattle.spec_decoder.specs.Features.{is_hidden, needs_inter, is_one_block, may_split, may_scale, needs_intra, has_offsets, needs_filters, unbuilt};
 
-use header_types::{PictureFormat, PicturePlan, SegmentPlan, Sps};
+use header_types::{PictureFormat, Sps};
 use hv_base::Feature;
 use ref_picture_sets::is_idr;
+use spec_pictures::{PicturePlan, SegmentPlan};
 
 /// The first feature that a picture needs and that isn't built.
 #[tactic(auto, unfolding(spec_decoder::specs::Features::unbuilt))]

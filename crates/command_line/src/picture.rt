@@ -8,9 +8,10 @@ ghost use Rattle.command_line.specs.Pictures.{DecodesAs};
 
 use crate::features::unbuilt;
 use crate::segment::read_segment;
-use header_types::{PcmFormat, PicturePlan, Pps, SegmentPlan};
+use header_types::{PcmFormat, Pps};
 use hv_base::{Breach, Fault, Limit, LimitKind, Outcome};
 use spec_coding_tree::CodingUnit;
+use spec_pictures::{PicturePlan, SegmentPlan};
 
 /// The most bytes that a NAL unit has.
 const MOST_BYTES: usize = 67108864;

@@ -7,11 +7,11 @@ ghost use Rattle.command_line.specs.Headline.{change_of};
 ghost use Rattle.command_line.specs.Writing.{IsAnswered, WritesFirst};
 
 use crate::picture::decode_picture;
-use header_types::PicturePlan;
 use hv_base::{Outcome, Stop};
 use hv_io::{Sink, write_all};
 use picture_plan::{Flights, Planned};
 use spec_decoder::grey_samples;
+use spec_pictures::PicturePlan;
 
 /// Writes the pictures of the last flights, and answers how decoding ends.
 pub(crate) fn write_last<O: Sink>(planned: Planned, out: &mut O) -> Outcome

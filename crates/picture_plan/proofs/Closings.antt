@@ -1,17 +1,18 @@
 -- How a unit closes the open picture, and what is known behind it.
-use Rattle.std.proofs.Common.{◌≡◌, ℕ, ◌≤◌, List, [], ◌∷◌, length, Option, Some, None, Result, Ok, Err, IfOk, refl, sym, ap, ◌∙◌}
+use Rattle.std.proofs.Common.{◌≡◌, ℕ, List, [], ◌∷◌, Option, Some, None, Result, Ok, Err, IfOk, refl, ap, ◌∙◌}
 use Rattle.hv_base.specs.declared.fault.Fault.{Fault}
 use Rattle.hv_base.specs.declared.refusal.Stop.{Stop}
 use Rattle.hv_base.specs.declared.refusal.Stop.TheVariants as stop
 use Rattle.header_types.specs.declared.former.Former.{Former}
-use Rattle.header_types.specs.declared.picture_plan.PicturePlan.{PicturePlan}
+use Rattle.spec_pictures.specs.declared.picture_plan.PicturePlan.{PicturePlan}
 use Rattle.spec_units.specs.Judged.{NalUnit}
 use Rattle.spec_pictures.specs.declared.between.Between.{Between}
+use Rattle.spec_output_order.specs.OutputOrder.{last_outputs}
 use Rattle.spec_pictures.specs.Closing.{broken_in}
+use Rattle.spec_pictures.specs.Planned.{last_of}
 use Rattle.spec_pictures.specs.Steps.{Stepped, closed_by, closed_open, close, then_next, closing, slice_judged}
 use Rattle.picture_plan.specs.declared.change.Change.{Change}
 use Rattle.picture_plan.specs.declared.change.Change.TheVariants as change
-use Rattle.picture_plan.specs.declared.change.Closing.{Closing}
 use Rattle.picture_plan.specs.declared.change.Closing.TheVariants as kind
 use Rattle.picture_plan.specs.Bounds.{IsBetween, ChangesFew}
 use Rattle.picture_plan.specs.Changes.{closing_by, closing_open, closing_of, changed, applied}
@@ -182,3 +183,17 @@ pub behind-broken : (s : Between) (fault : Fault) (u : NalUnit) → closing_of s
 behind-broken s fault u e t n =
     let c : (close s).next ≡ Err (stop.Fault fault) = ap (λ (v : Stepped). v.next) (close-broken s fault e) in
     absurd cc
+
+-- what goes out where the input ends
+pub last-nothing : {E : Type 0} (r : Result (List ℕ) E) (s : Between) → closing_of s ≡ kind.Nothing
+    → IfOk r (λ (l : List ℕ). l ≡ last_outputs s.former.dpb) → IfOk r (λ (l : List ℕ). l ≡ last_of (close s).next)
+last-nothing (Ok l) s e is = rw (close-nothing s e) is
+last-nothing (Err x) s e is = tt
+
+pub last-broken : (s : Between) (f : Fault) → closing_of s ≡ kind.Broken f → [] ≡ last_of (close s).next
+last-broken s f e = rw (close-broken s f e) refl
+
+pub last-over : {E : Type 0} (r : Result (List ℕ) E) (s : Between) (former : Former) → closing_of s ≡ kind.Over former
+    → IfOk r (λ (l : List ℕ). l ≡ last_outputs former.dpb) → IfOk r (λ (l : List ℕ). l ≡ last_of (close s).next)
+last-over (Ok l) s former e is = rw (over-next s former s.picture refl e) is
+last-over (Err x) s former e is = tt

@@ -1,14 +1,13 @@
 -- How a slice segment goes on with the open picture.
-use Rattle.std.proofs.Common.{◌≡◌, ℕ, Bool, true, false, ◌&&◌, List, [], ◌∷◌, ◌++◌, Option, Some, None, IfSome, Result, Ok, Err, if◌then◌else◌, refl, sym, ap, ◌∙◌}
+use Rattle.std.proofs.Common.{◌≡◌, ℕ, Bool, true, false, ◌&&◌, [], Option, Some, None, IfSome, Ok, Err, if◌then◌else◌, refl, sym, ap, ◌∙◌}
 use Rattle.hv_base.specs.declared.refusal.Stop.{Stop}
 use Rattle.header_types.specs.declared.slice.SliceHeaderFields.{SliceHeaderFields}
-use Rattle.header_types.specs.declared.picture_plan.PicturePlan.{PicturePlan}
-use Rattle.header_types.specs.declared.picture_plan.SegmentPlan.{SegmentPlan}
+use Rattle.spec_pictures.specs.declared.picture_plan.PicturePlan.{PicturePlan}
 use Rattle.spec_bits.specs.Bits.{bits}
 use Rattle.spec_units.specs.Judged.{NalUnit}
 use Rattle.spec_pictures.specs.declared.between.Between.{Between}
 use Rattle.spec_pictures.specs.UnitKinds.{is_rasl}
-use Rattle.spec_pictures.specs.Steps.{Stepped, close, closed_open, closing, first_flag, goes_on, open_segments, judged_header, accepted, joined, continued, segment_of, slice_behind, slice_judged, slice_step}
+use Rattle.spec_pictures.specs.Steps.{close, closed_open, closing, first_flag, goes_on, open_segments, judged_header, accepted, joined, continued, slice_behind, slice_judged, slice_step}
 use Rattle.picture_plan.specs.Bounds.{IsBetween, KeepsFew}
 use Rattle.picture_plan.specs.Continuing.{going_on_slice, newer_slice, own_slice, with_segment}
 
@@ -46,21 +45,21 @@ newer-own before header false = refl
 pub slice-behind : (before : Option SliceHeaderFields) (header : SliceHeaderFields) → newer_slice before (own_slice header) ≡ slice_behind before header
 slice-behind before header = newer-own before header header.segment.dependent_slice_segment_flag
 
-segment-few : (segment : SegmentPlan) (o : Option PicturePlan) → IfSome o KeepsFew → IfSome (with_segment segment o) KeepsFew
-segment-few segment None k = tt
-segment-few segment (Some p) k = k
+segment-few : (u : NalUnit) (header : SliceHeaderFields) (o : Option PicturePlan) → IfSome o KeepsFew → IfSome (with_segment u header o) KeepsFew
+segment-few u header None k = tt
+segment-few u header (Some p) k = k
 
-segment-open : (segment : SegmentPlan) (o : Option PicturePlan) → (o ≡ None → ⊥) → with_segment segment o ≡ None → ⊥
-segment-open segment None h e = h refl
-segment-open segment (Some p) h e = cc
+segment-open : (u : NalUnit) (header : SliceHeaderFields) (o : Option PicturePlan) → (o ≡ None → ⊥) → with_segment u header o ≡ None → ⊥
+segment-open u header None h e = h refl
+segment-open u header (Some p) h e = cc
 
 -- a picture with one more segment keeps few pictures too
-pub IsBetween-joined : (s new : Between) (segment : SegmentPlan) → IsBetween s → (s.picture ≡ None → ⊥)
-    → new.former.dpb ≡ s.former.dpb → new.picture ≡ with_segment segment s.picture → IsBetween new
-IsBetween-joined s new segment b is d e = record {
+pub IsBetween-joined : (s new : Between) (u : NalUnit) (header : SliceHeaderFields) → IsBetween s → (s.picture ≡ None → ⊥)
+    → new.former.dpb ≡ s.former.dpb → new.picture ≡ with_segment u header s.picture → IsBetween new
+IsBetween-joined s new u header b is d e = record {
   decoded = rw d b.decoded;
-  begun = rw e (segment-few segment s.picture b.begun);
-  closed = λ n. absurd (segment-open segment s.picture is (sym e ∙ n));
+  begun = rw e (segment-few u header s.picture b.begun);
+  closed = λ n. absurd (segment-open u header s.picture is (sym e ∙ n));
 }
 
 none-by : (s : Between) (u : NalUnit) (o : Option PicturePlan) → s.picture ≡ o → open_segments o ≡ None → close s ≡ record { closed = []; next = Ok s }

@@ -1,7 +1,6 @@
 -- The first bit of a payload.
-use Rattle.std.proofs.Common.{◌≡◌, ℕ, ◌+◌, ◌/◌, ◌%◌, ◌<◌, ◌≤◌, Bool, true, false, ◌==◌, List, [], ◌∷◌, length, drop, Option, Some, None, slice_index_or, ap, ◌∙◌, arith, refl}
+use Rattle.std.proofs.Common.{◌≡◌, ℕ, ◌/◌, ◌%◌, ◌<◌, ◌==◌, List, [], ◌∷◌, length, drop, Some, None, ap, arith, refl}
 use Rattle.std.specs.Prelude.{nat_le, slice_index}
-use Rattle.std.specs.Int.{bit_at}
 use Rattle.std.proofs.lemmas.Bool.Decides.{nat_tests}
 use Rattle.spec_bits.specs.Bits.{bit_of, bits}
 use Rattle.spec_bits.proofs.Bytes.{bits-nil}

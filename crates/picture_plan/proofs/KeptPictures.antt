@@ -1,11 +1,10 @@
--- How many pictures a reference picture set keeps: at most as many as its header names.
-use Rattle.std.proofs.Common.{◌≡◌, ℕ, ℤ, zero, suc, ◌+◌, ◌+ℤ◌, ◌<◌, ◌≤◌, Bool, true, false, not, ◌&&◌, ◌||◌, ◌==◌, cond, if◌then◌else◌, List, [], ◌∷◌, ◌++◌, length, map, Option, Some, None, slice_index_or, Result, Ok, Err, IfOk, arith, refl}
-use Rattle.std.specs.List.{count_by, filter, list_any, range_with_len}
+-- How many pictures a reference picture set keeps, at most as many as its header names, and how many then stay in the buffer.
+use Rattle.std.proofs.Common.{◌≡◌, ℕ, ℤ, zero, suc, ◌+◌, ◌+ℤ◌, ◌<◌, ◌≤◌, Bool, true, false, not, ◌&&◌, ◌||◌, ◌==◌, cond, if◌then◌else◌, List, [], ◌∷◌, length, map, Option, Some, None, slice_index_or, Result, Ok, Err, IfOk, arith, refl}
+use Rattle.std.specs.List.{count_by, filter, range_with_len}
 use Rattle.std.proofs.lemmas.Bool.Decides.{nat_tests}
 use Rattle.std.proofs.lemmas.List.{length-append, length-map}
 use Rattle.std.proofs.lemmas.List.FromFn.{length-range_with_len}
 use Rattle.std.proofs.lemmas.List.Sums.{count_by-le-length, length-filter, sum_by-cons}
-use Rattle.hv_base.specs.declared.fault.FaultKind.{FaultKind}
 use Rattle.hv_base.specs.declared.fault.FaultKind.TheVariants.{MissingReference}
 use Rattle.hv_base.specs.declared.refusal.Refusal.{Refusal}
 use Rattle.header_types.specs.declared.reference_pictures.DpbPicture.{DpbPicture}
@@ -19,9 +18,32 @@ use Rattle.header_types.specs.declared.short_term_set.ShortTermRef.{ShortTermRef
 use Rattle.header_types.specs.declared.slice.PictureKind.{PictureKind}
 use Rattle.header_types.specs.declared.slice.ReferenceFields.{ReferenceFields}
 use Rattle.spec_reference_pictures.specs.PictureOrderCount.{is_irap}
-use Rattle.spec_reference_pictures.specs.ReferencePictureSet.{GivesSet, found_set, is_among, is_for, is_place, lacks_current, long_term_places, long_term_set, mark_after, named_sets, no_entry, place_of, reference_picture_set, short_term_counts, short_term_set}
+use Rattle.spec_reference_pictures.specs.ReferencePictureSet.{GivesSet, found_set, is_among, is_for, is_place, is_reference, lacks_current, long_term_places, long_term_set, mark_after, named_sets, no_entry, place_of, reference_picture_set, short_term_counts, short_term_set}
 use Rattle.slice_headers.specs.Ranges.{AreReferences}
-use Rattle.picture_plan.specs.Bounds.{kept_count}
+use Rattle.spec_output_order.specs.declared.current_picture.CurrentPicture.{CurrentPicture}
+use Rattle.spec_output_order.specs.declared.outputs.Outputs.{Outputs}
+use Rattle.spec_output_order.specs.OutputOrder.{outputs_of}
+use Rattle.spec_output_order.proofs.Emptying.{few_stay}
+
+-- how many pictures these marks keep
+abbrev kept_count : List Mark → ℕ
+kept_count [] = 0
+kept_count (mark.Unused ∷ marks) = kept_count marks
+kept_count (mark.Short ∷ marks) = suc (kept_count marks)
+kept_count (mark.Long ∷ marks) = suc (kept_count marks)
+
+kept_by : (m : Mark) (marks : List Mark) → kept_count (m ∷ marks) ≡ cond (is_reference m) 1 0 + kept_count marks
+kept_by mark.Unused marks = omega arith
+kept_by mark.Short marks = omega arith
+kept_by mark.Long marks = omega arith
+
+references_are_kept : (marks : List Mark) → count_by is_reference marks ≡ kept_count marks
+references_are_kept [] = refl
+references_are_kept (m ∷ marks) =
+    let more = sum_by-cons (λ k. cond (is_reference k) 1 0) m marks in
+    let rest = references_are_kept marks in
+    let here = kept_by m marks in
+    omega (arith, more, rest, here)
 
 one_of_two : (a b : Bool) → cond (a || b) 1 0 ≤ cond a 1 0 + cond b 1 0
 one_of_two true b = omega arith
@@ -176,17 +198,26 @@ given true s size rps e = absurd cc
 given false s size rps e = cc
 
 pub kept_few : (kind : PictureKind) (references : ReferenceFields) (poc : ℤ) (dpb : List DpbPicture) (rps : Rps) → AreReferences kind.max_lsb references
-    → reference_picture_set kind references poc dpb ≡ Ok rps → kept_count rps.marks ≤ 112
+    → reference_picture_set kind references poc dpb ≡ Ok rps → count_by is_reference rps.marks ≤ 112
 unfolding reference_picture_set
 kept_few kind references poc dpb rps are e =
     let s = named_sets kind references poc dpb in
     let same = given (not (is_irap kind.nal_type) && lacks_current s) s (length dpb) rps e in
     let kept = kept_found s (length dpb) in
     let few = few_named kind references poc dpb are in
-    rw same (omega (arith, kept, few))
+    let counted = references_are_kept rps.marks in
+    let kept' = rw (← same) at kept in
+    omega (arith, counted, kept', few)
 
 -- the same of what a call answered
 pub set_keeps_few : (kind : PictureKind) (references : ReferenceFields) (poc : ℤ) (dpb : List DpbPicture) (r : Result Rps Refusal) → AreReferences kind.max_lsb references
-    → GivesSet r (reference_picture_set kind references poc dpb) → IfOk r (λ (rps : Rps). kept_count rps.marks ≤ 112)
+    → GivesSet r (reference_picture_set kind references poc dpb) → IfOk r (λ (rps : Rps). count_by is_reference rps.marks ≤ 112)
 set_keeps_few kind references poc dpb (Ok rps) are gives = kept_few kind references poc dpb rps are gives
 set_keeps_few kind references poc dpb (Err e) are gives = tt
+
+-- where few pictures are marked as reference, few stay in the buffer
+pub outputs_leave_few : {E : Type 0} (current : CurrentPicture) (dpb : List DpbPicture) (marks : List Mark) (r : Result Outputs E)
+    → IfOk r (λ (o : Outputs). o ≡ outputs_of current dpb marks) → count_by is_reference marks ≤ 112 → current.ordering.max_num_reorder_pics ≤ 15
+    → IfOk r (λ (o : Outputs). length o.dpb ≤ 128)
+outputs_leave_few current dpb marks (Ok o) is few reorder = rw is (omega (arith, few_stay current dpb marks, few, reorder))
+outputs_leave_few current dpb marks (Err e) is few reorder = tt

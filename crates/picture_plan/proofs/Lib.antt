@@ -1,4 +1,3 @@
-pub mod MarkedPictures
 pub mod FirstFlags
 pub mod Judging
 pub mod KeptPictures

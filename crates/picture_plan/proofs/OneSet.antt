@@ -1,18 +1,18 @@
 -- Each flight has one to so many pictures of one sequence parameter set.
-use Rattle.std.proofs.Common.{◌≡◌, ℕ, suc, ◌+◌, ◌≤◌, ◌<◌, Bool, true, false, List, [], ◌∷◌, ◌++◌, length, All, nat_le, if◌then◌else◌, Result, Ok, Err, refl, sym, ap, ◌∙◌, arith, length-append}
+use Rattle.std.proofs.Common.{◌≡◌, ℕ, ◌≤◌, ◌<◌, Bool, true, false, List, [], ◌∷◌, ◌++◌, length, All, nat_le, if◌then◌else◌, Result, Ok, Err, refl, arith, length-append}
 use Rattle.std.proofs.lemmas.Bool.{leb-false}
 use Rattle.std.proofs.lemmas.List.Elements.{All-nil, All-cons, All-append}
 use Rattle.hv_base.specs.declared.refusal.Stop.{Stop}
-use Rattle.header_types.specs.declared.picture_plan.PicturePlan.{PicturePlan}
+use Rattle.spec_pictures.specs.declared.picture_plan.PicturePlan.{PicturePlan}
 use Rattle.header_types.specs.Content.{same_content}
 use Rattle.spec_units.specs.Judged.{Told}
 use Rattle.spec_pictures.specs.declared.between.Between.{Between}
 use Rattle.spec_pictures.specs.Pictures.{beginning}
 use Rattle.spec_pictures.specs.Steps.{Stepped, close, step}
-use Rattle.picture_plan.specs.Flights.{Gathered, goes_on_with, ended, cut, cut_full, joined_by, joined_with, with_picture, waiting, with_pictures, cut_at_stop}
-use Rattle.picture_plan.specs.Plans.{Plans, Given, behind_unit, at_end}
+use Rattle.picture_plan.specs.Flights.{Gathered, goes_on_with, ended, cut, joined_by, joined_with, with_picture, waiting, with_pictures, cut_at_stop}
+use Rattle.picture_plan.specs.Plans.{Given, behind_unit, at_end}
 use Rattle.picture_plan.proofs.Pictures.{cut-none}
-use Rattle.picture_plan.specs.Runs.{new_plans, run, behind_flights, IsFlight, AreFlights}
+use Rattle.picture_plan.specs.Runs.{new_plans, run, IsFlight, AreFlights}
 
 -- pictures that wait for their flight's end: fewer than `ahead`, of one sequence parameter set
 unfoldable Waits : ℕ → List PicturePlan → Type 0

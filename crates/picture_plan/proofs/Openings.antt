@@ -1,9 +1,7 @@
 -- What a slice segment opens is what the unit changes.
-use Rattle.std.proofs.Common.{◌≡◌, ℕ, ℤ, List, slice_index_or, Option, Some, None, Result, Ok, Err, IfOk, refl, sym, subst, ap, ◌∙◌}
+use Rattle.std.proofs.Common.{◌≡◌, ℤ, List, Option, Some, None, Result, Ok, Err, IfOk, refl, sym, ap, ◌∙◌}
 use Rattle.hv_base.specs.declared.breach.Breach.{Breach}
-use Rattle.hv_base.specs.declared.breach.Breach.TheVariants as breach
 use Rattle.hv_base.specs.declared.fault.FaultKind.{FaultKind}
-use Rattle.hv_base.specs.declared.fault.FaultKind.TheVariants as rule
 use Rattle.hv_base.specs.declared.refusal.Refusal.{Refusal}
 use Rattle.hv_base.specs.declared.refusal.Refusal.TheVariants as refusal
 use Rattle.hv_base.specs.declared.refusal.Stop.{Stop}
@@ -14,8 +12,8 @@ use Rattle.header_types.specs.declared.reference_pictures.Rps.{Rps}
 use Rattle.header_types.specs.declared.slice.SliceHeaderFields.{SliceHeaderFields}
 use Rattle.header_types.specs.declared.former.Sets.{Sets}
 use Rattle.header_types.specs.declared.former.Former.{Former}
-use Rattle.header_types.specs.declared.picture_plan.PicturePlan.{PicturePlan}
-use Rattle.spec_fields.specs.Fields.{Parses, Refuses}
+use Rattle.spec_pictures.specs.declared.picture_plan.PicturePlan.{PicturePlan}
+use Rattle.spec_fields.specs.Fields.{Refuses}
 use Rattle.spec_reference_pictures.specs.PictureOrderCount.{pic_order_cnt_val}
 use Rattle.spec_reference_pictures.specs.ReferencePictureSet.{GivesSet, reference_picture_set}
 use Rattle.spec_units.specs.Judged.{NalUnit}
@@ -35,15 +33,15 @@ abbrev pictured : NalUnit → SliceHeaderFields → Result Beginning Breach → 
 pictured u header (Err e) = Err e
 pictured u header (Ok b) = Ok (begun_picture u header b)
 
-pictured_set : (u : NalUnit) (header : SliceHeaderFields) (n : Named) (poc : ℤ) (set : Result Rps FaultKind)
-    → steps.with_set u header n poc set ≡ pictured u header (with_set n.pps n.sps poc set)
-pictured_set u header n poc (Err kind) = refl
-pictured_set u header n poc (Ok rps) = refl
+pictured_set : (dpb : List DpbPicture) (u : NalUnit) (header : SliceHeaderFields) (n : Named) (poc : ℤ) (set : Result Rps FaultKind)
+    → steps.with_set dpb u header n poc set ≡ pictured u header (with_set header dpb n.pps n.sps poc set)
+pictured_set dpb u header n poc (Err kind) = refl
+pictured_set dpb u header n poc (Ok rps) = refl
 
 pictured_order : (former : Former) (u : NalUnit) (header : SliceHeaderFields) (n : Named) (poc : Result ℤ FaultKind)
     → steps.with_order former u header n poc ≡ pictured u header (with_order former header n poc)
 pictured_order former u header n (Err kind) = refl
-pictured_order former u header n (Ok poc) = pictured_set u header n poc (reference_picture_set header.kind header.slice.references poc former.dpb)
+pictured_order former u header n (Ok poc) = pictured_set former.dpb u header n poc (reference_picture_set header.kind header.slice.references poc former.dpb)
 
 pictured_named : (former : Former) (u : NalUnit) (header : SliceHeaderFields) (n : Option Named)
     → steps.with_sets former u header n ≡ pictured u header (with_named former header n)

@@ -1,13 +1,14 @@
 -- What a step ends and leaves, and what a planner gives then.
 use Rattle.std.proofs.Common.{◌≡◌, ℕ, List, [], ◌∷◌, ◌++◌, Option, Some, None, Result, Ok, Err, refl, sym, ap, ◌∙◌, append-nil}
 use Rattle.hv_base.specs.declared.refusal.Stop.{Stop}
-use Rattle.header_types.specs.declared.picture_plan.PicturePlan.{PicturePlan}
+use Rattle.spec_pictures.specs.declared.picture_plan.PicturePlan.{PicturePlan}
 use Rattle.spec_pictures.specs.declared.between.Between.{Between}
+use Rattle.spec_pictures.specs.Planned.{last_of}
 use Rattle.spec_pictures.specs.Steps.{Stepped}
 use Rattle.picture_plan.specs.declared.gathering.Gathering.{Gathering}
 use Rattle.picture_plan.specs.declared.step.Step.{Step}
 use Rattle.picture_plan.specs.Flights.{Gathered, ended, cut, waiting, with_pictures, cut_at_stop}
-use Rattle.picture_plan.specs.Plans.{Plans, Given, given_of, after_step, all_cut, cut_of}
+use Rattle.picture_plan.specs.Plans.{Plans, Given, after_step, all_cut, cut_of, with_last}
 use Rattle.picture_plan.specs.Held.{next_of}
 use Rattle.picture_plan.specs.Taken.{Takes}
 
@@ -45,7 +46,7 @@ pub taken-unit : (old new : Gathering) (s behind : Between) (step : Step) (t : S
     → flights ≡ (cut_of step.stop (record { flights = step.ended; pending = new.pending })).flights
     → pending ≡ (cut_of step.stop (record { flights = step.ended; pending = new.pending })).pending
     → after_step (record { ahead = old.ahead; pending = old.pending; next = Ok s }) t
-    ≡ record { flights = flights; left = record { ahead = ahead; pending = pending; next = next_of step.stop behind } }
+    ≡ record { flights = flights; last = []; left = record { ahead = ahead; pending = pending; next = next_of step.stop behind } }
 taken-unit old new s behind step t flights ahead pending k a f p =
     let g : Gathered = with_pictures old.ahead (waiting old.pending) t.closed in
     let w : Gathered = record { flights = step.ended; pending = new.pending } in
@@ -59,10 +60,22 @@ pub taken-all : (old new : Gathering) (s behind : Between) (step : Step) (t : St
     → flights ≡ (cut (record { flights = step.ended; pending = new.pending })).flights
     → pending ≡ (cut (record { flights = step.ended; pending = new.pending })).pending
     → all_cut (after_step (record { ahead = old.ahead; pending = old.pending; next = Ok s }) t)
-    ≡ record { flights = flights; left = record { ahead = ahead; pending = pending; next = next_of step.stop behind } }
+    ≡ record { flights = flights; last = []; left = record { ahead = ahead; pending = pending; next = next_of step.stop behind } }
 taken-all old new s behind step t flights ahead pending k a f p =
     let g : Gathered = with_pictures old.ahead (waiting old.pending) t.closed in
     let w : Gathered = record { flights = step.ended; pending = new.pending } in
     let is : w ≡ g = rw (k.flights, k.pending) refl in
     let c : cut (cut_at_stop t.next g) ≡ cut w = cut-cut_at_stop t.next g ∙ ap cut (sym is) in
     rw (c, ← k.next, f, p, a) refl
+
+-- and the pictures that go out then
+pub taken-end : (old new : Gathering) (s behind : Between) (step : Step) (t : Stepped) (flights : List (List PicturePlan)) (last : List ℕ) (ahead : ℕ) (pending : List PicturePlan)
+    → Takes old new behind step t → ahead ≡ old.ahead → last ≡ last_of t.next
+    → flights ≡ (cut (record { flights = step.ended; pending = new.pending })).flights
+    → pending ≡ (cut (record { flights = step.ended; pending = new.pending })).pending
+    → with_last (last_of t.next) (all_cut (after_step (record { ahead = old.ahead; pending = old.pending; next = Ok s }) t))
+    ≡ record { flights = flights; last = last; left = record { ahead = ahead; pending = pending; next = next_of step.stop behind } }
+taken-end old new s behind step t flights last ahead pending k a l f p =
+    let left : Plans = record { ahead = ahead; pending = pending; next = next_of step.stop behind } in
+    ap (with_last (last_of t.next)) (taken-all old new s behind step t flights ahead pending k a f p)
+    ∙ ap (λ (out : List ℕ). let g : Given = record { flights = flights; last = out; left = left } in g) (sym l)

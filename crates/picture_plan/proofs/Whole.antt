@@ -1,7 +1,7 @@
 -- The flights over a whole input.
-use Rattle.std.proofs.Common.{◌≡◌, ℕ, Bool, true, false, List, [], ◌∷◌, ◌++◌, Option, Some, None, Result, Ok, Err, refl, sym, ap, ◌∙◌, append_assoc, append-nil}
+use Rattle.std.proofs.Common.{◌≡◌, ℕ, true, List, [], ◌∷◌, ◌++◌, Some, Result, Ok, Err, refl, sym, ap, ◌∙◌, append_assoc, append-nil}
 use Rattle.hv_base.specs.declared.refusal.Stop.{Stop}
-use Rattle.header_types.specs.declared.picture_plan.PicturePlan.{PicturePlan}
+use Rattle.spec_pictures.specs.declared.picture_plan.PicturePlan.{PicturePlan}
 use Rattle.spec_units.specs.Judged.{Told}
 use Rattle.spec_pictures.specs.declared.between.Between.{Between}
 use Rattle.spec_pictures.specs.Pictures.{beginning}
@@ -9,13 +9,14 @@ use Rattle.spec_pictures.specs.Steps.{Stepped, close, step}
 use Rattle.spec_pictures.specs.Planned.{Planned, behind_closed, planned_next, planned_from}
 use Rattle.spec_pictures.specs.Planned.{stop_of as planned_stop}
 use Rattle.picture_plan.specs.Flights.{Gathered, cut, waiting, with_pictures, cut_at_stop, pictures_of}
-use Rattle.picture_plan.specs.Plans.{Plans, Given, given_of, after_step, behind_unit, at_end, all_cut, stop_of}
+use Rattle.picture_plan.specs.Plans.{Given, behind_unit, at_end, stop_of}
 use Rattle.picture_plan.specs.Runs.{new_plans, run, behind_flights, ArePlanned}
 use Rattle.picture_plan.proofs.Pictures.{pictures_of-append, cut-all, cut-none, step-all}
 
 -- the pictures and the stop of what a planner gives are those that are planned, behind what waited
 record Goes (g : Given) (waited : List PicturePlan) (p : Planned) : Type 0 where
   pictures : pictures_of g.flights ≡ waited ++ p.pictures
+  last : g.last ≡ p.last
   stop : stop_of g.left.next ≡ p.stop
 
 stops : (next : Result Between Stop) → stop_of next ≡ planned_stop next
@@ -34,15 +35,17 @@ end-goes ahead pending s =
     let g : Gathered = cut_at_stop t.next (with_pictures ahead (waiting pending) t.closed) in
     record {
       pictures = cut-pictures g ∙ step-all ahead pending t.closed t.next;
+      last = refl;
       stop = stops t.next;
     }
 
 -- behind a stop nothing comes but what waited
 stopped-goes : (ahead : ℕ) (pending : List PicturePlan) (e : Stop) (ts : List Told)
-    → Goes (run (record { ahead = ahead; pending = pending; next = Err e }) ts) pending (record { pictures = []; stop = Some e })
+    → Goes (run (record { ahead = ahead; pending = pending; next = Err e }) ts) pending (record { pictures = []; last = []; stop = Some e })
 unfolding at_end behind_unit
 stopped-goes ahead pending e [] = record {
   pictures = cut-pictures (waiting pending) ∙ sym (append-nil pending);
+  last = refl;
   stop = refl;
 }
 stopped-goes ahead pending e (t ∷ ts) = stopped-goes ahead pending e ts
@@ -62,6 +65,7 @@ unit-goes ahead pending closed g r p all h = record {
       ∙ sym (append_assoc (pictures_of g.flights) g.pending p.pictures)
       ∙ ap (λ (ps : List PicturePlan). ps ++ p.pictures) all
       ∙ append_assoc pending closed p.pictures;
+  last = h.last;
   stop = h.stop;
 }
 
@@ -78,4 +82,4 @@ all-goes ahead pending s (t ∷ ts) =
 pub are_planned : (ahead : ℕ) (told : List Told) → ArePlanned (run (new_plans ahead) told) (planned_from true beginning told)
 are_planned ahead told =
     let h = all-goes ahead [] beginning told in
-    record { pictures = h.pictures; stop = h.stop }
+    record { pictures = h.pictures; last = h.last; stop = h.stop }

@@ -1,11 +1,10 @@
 -- How a slice segment goes on with the open picture.
 use Rattle.std.specs.Prelude.{[], ◌∷◌, ◌++◌, Option, Some, None, if◌then◌else◌}
 use Rattle.header_types.specs.declared.slice.SliceHeaderFields.{SliceHeaderFields}
-use Rattle.header_types.specs.declared.picture_plan.SegmentPlan.{SegmentPlan}
-use Rattle.header_types.specs.declared.picture_plan.PicturePlan.{PicturePlan}
+use Rattle.spec_pictures.specs.declared.picture_plan.PicturePlan.{PicturePlan}
 use Rattle.spec_units.specs.Judged.{NalUnit}
 use Rattle.spec_pictures.specs.declared.between.Between.{Between}
-use Rattle.spec_pictures.specs.Steps.{Stepped, slice_judged}
+use Rattle.spec_pictures.specs.Steps.{Stepped, segment_of, slice_judged}
 
 -- a segment that goes on with the open picture, and closes none
 abbrev pub going_on_slice : Between → NalUnit → Stepped
@@ -21,6 +20,9 @@ newer_slice before None = before
 newer_slice before (Some slice) = Some slice
 
 -- a picture with one more segment
-abbrev pub with_segment : SegmentPlan → Option PicturePlan → Option PicturePlan
-with_segment segment None = None
-with_segment segment (Some p) = Some (record p { segments = p.segments ++ segment ∷ [] })
+abbrev pub one_more : NalUnit → SliceHeaderFields → PicturePlan → PicturePlan
+one_more u header p = record p { segments = p.segments ++ segment_of p.segments p.rps u header ∷ [] }
+
+abbrev pub with_segment : NalUnit → SliceHeaderFields → Option PicturePlan → Option PicturePlan
+with_segment u header None = None
+with_segment u header (Some p) = Some (one_more u header p)

@@ -1,5 +1,5 @@
 -- What a slice segment opens while no picture is open.
-use Rattle.std.specs.Prelude.{ℕ, ℤ, List, [], ◌∷◌, Option, Some, None, Result, Ok, Err}
+use Rattle.std.specs.Prelude.{ℤ, List, [], ◌∷◌, Option, Some, None, Result, Ok, Err}
 use Rattle.hv_base.specs.declared.breach.Breach.{Breach}
 use Rattle.hv_base.specs.declared.breach.Breach.TheVariants as breach
 use Rattle.hv_base.specs.declared.fault.FaultKind.{FaultKind}
@@ -12,24 +12,26 @@ use Rattle.header_types.specs.declared.reference_pictures.Rps.{Rps}
 use Rattle.header_types.specs.declared.slice.SliceHeaderFields.{SliceHeaderFields}
 use Rattle.header_types.specs.declared.former.Sets.{Sets}
 use Rattle.header_types.specs.declared.former.Former.{Former}
-use Rattle.header_types.specs.declared.picture_plan.PicturePlan.{PicturePlan}
+use Rattle.spec_pictures.specs.declared.picture_plan.PicturePlan.{PicturePlan}
 use Rattle.spec_reference_pictures.specs.PictureOrderCount.{pic_order_cnt_val}
 use Rattle.spec_reference_pictures.specs.ReferencePictureSet.{reference_picture_set}
 use Rattle.spec_units.specs.Judged.{NalUnit}
 use Rattle.spec_slice_headers.specs.NamedSets.{Named, named_by}
-use Rattle.spec_pictures.specs.Steps.{judged_header, segment_of, stop_at}
+use Rattle.spec_output_order.specs.OutputOrder.{outputs_of}
+use Rattle.spec_pictures.specs.Steps.{current_picture, judged_header, segment_of, stop_at}
 use Rattle.picture_plan.specs.declared.change.Change.{Change}
 use Rattle.picture_plan.specs.declared.change.Change.TheVariants as change
 use Rattle.picture_plan.specs.declared.change.Opening.{Opening}
 use Rattle.picture_plan.specs.declared.opening.Beginning.{Beginning}
 
 -- what a picture of this order count begins with
-abbrev pub with_set : PpsFields → SpsFields → ℤ → Result Rps FaultKind → Result Beginning Breach
-with_set pps sps poc (Err kind) = Err (breach.Fault kind)
-with_set pps sps poc (Ok rps) = Ok (record { sps = sps; pps = pps; poc = poc; rps = rps })
+abbrev pub with_set : SliceHeaderFields → List DpbPicture → PpsFields → SpsFields → ℤ → Result Rps FaultKind → Result Beginning Breach
+with_set header dpb pps sps poc (Err kind) = Err (breach.Fault kind)
+with_set header dpb pps sps poc (Ok rps) =
+    Ok (record { sps = sps; pps = pps; poc = poc; rps = rps; outputs = outputs_of (current_picture header sps poc) dpb rps.marks })
 
 abbrev pub begun_at : SliceHeaderFields → PpsFields → SpsFields → ℤ → List DpbPicture → Result Beginning Breach
-begun_at header pps sps poc dpb = with_set pps sps poc (reference_picture_set header.kind header.slice.references poc dpb)
+begun_at header pps sps poc dpb = with_set header dpb pps sps poc (reference_picture_set header.kind header.slice.references poc dpb)
 
 abbrev pub with_order : Former → SliceHeaderFields → Named → Result ℤ FaultKind → Result Beginning Breach
 with_order former header n (Err kind) = Err (breach.Fault kind)
@@ -51,7 +53,16 @@ begun_of sets former header = with_named former header (named_by sets header.seg
 -- a picture of one segment
 abbrev pub begun_picture : NalUnit → SliceHeaderFields → Beginning → PicturePlan
 begun_picture u header b =
-    record { nal = u.index; kind = header.kind; sps = b.sps; pps = b.pps; poc = b.poc; rps = b.rps; segments = segment_of u header ∷ [] }
+    record {
+      nal = u.index;
+      kind = header.kind;
+      sps = b.sps;
+      pps = b.pps;
+      poc = b.poc;
+      rps = b.rps;
+      outputs = b.outputs;
+      segments = segment_of [] b.rps u header ∷ [];
+    }
 
 -- a picture with two copies of its first header
 abbrev pub opening_with : NalUnit → SliceHeaderFields → Beginning → Opening

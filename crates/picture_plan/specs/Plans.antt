@@ -1,10 +1,11 @@
 -- What a planner holds, and what each of its calls gives and leaves.
 use Rattle.std.specs.Prelude.{ℕ, List, [], ◌∷◌, Option, Some, None, Result, Ok, Err}
 use Rattle.hv_base.specs.declared.refusal.Stop.{Stop}
-use Rattle.header_types.specs.declared.picture_plan.PicturePlan.{PicturePlan}
+use Rattle.spec_pictures.specs.declared.picture_plan.PicturePlan.{PicturePlan}
 use Rattle.spec_units.specs.Judged.{Told}
 use Rattle.spec_pictures.specs.declared.between.Between.{Between}
 use Rattle.spec_pictures.specs.Steps.{Stepped, close, step}
+use Rattle.spec_pictures.specs.Planned.{last_of}
 use Rattle.picture_plan.specs.Flights.{Gathered, waiting, cut, with_pictures, cut_at_stop}
 
 -- how many pictures a flight has at most, the pictures that wait for their flight's end, and what is known behind the
@@ -14,13 +15,15 @@ pub record Plans : Type 0 where
   pub pending : List PicturePlan
   pub next : Result Between Stop
 
--- the flights that a call gives, and what it leaves
+-- the flights that a call gives, which pictures of the buffer behind the last one go out where the input ends, by their
+-- places, and what the call leaves
 pub record Given : Type 0 where
   pub flights : List (List PicturePlan)
+  pub last : List ℕ
   pub left : Plans
 
 abbrev pub given_of : ℕ → Result Between Stop → Gathered → Given
-given_of ahead next g = record { flights = g.flights; left = record { ahead = ahead; pending = g.pending; next = next } }
+given_of ahead next g = record { flights = g.flights; last = []; left = record { ahead = ahead; pending = g.pending; next = next } }
 
 abbrev pub after_step : Plans → Stepped → Given
 after_step p t = given_of p.ahead t.next (cut_at_stop t.next (with_pictures p.ahead (waiting p.pending) t.closed))
@@ -42,9 +45,17 @@ behind_unit p told = going_on p p.next (λ s. after_step p (stepped s told))
 abbrev pub all_cut : Given → Given
 all_cut g = given_of g.left.ahead g.left.next (cut (record { flights = g.flights; pending = g.left.pending }))
 
+-- where nothing stopped the stream, the pictures that wait go out behind the open one
+abbrev pub last_behind : Result Between Stop → List ℕ
+last_behind (Err e) = []
+last_behind (Ok s) = last_of (close s).next
+
+abbrev pub with_last : List ℕ → Given → Given
+with_last last g = record { flights = g.flights; last = last; left = g.left }
+
 -- the input ends: the open picture is closed, and the flight that is pending ends
 unfoldable pub at_end : Plans → Given
-at_end p = all_cut (going_on p p.next (λ s. after_step p (close s)))
+at_end p = with_last (last_behind p.next) (all_cut (going_on p p.next (λ s. after_step p (close s))))
 
 -- the flight that is pending ends, and no picture is closed
 unfoldable pub halted : Plans → Given

@@ -1,7 +1,6 @@
 -- What the steps of a planner end and leave.
-use Rattle.std.specs.Prelude.{◌≡◌, List, Result, Ok}
-use Rattle.hv_base.specs.declared.refusal.Stop.{Stop}
-use Rattle.header_types.specs.declared.picture_plan.PicturePlan.{PicturePlan}
+use Rattle.std.specs.Prelude.{◌≡◌, List, Ok}
+use Rattle.spec_pictures.specs.declared.picture_plan.PicturePlan.{PicturePlan}
 use Rattle.spec_pictures.specs.declared.between.Between.{Between}
 use Rattle.spec_pictures.specs.Steps.{Stepped, close}
 use Rattle.picture_plan.specs.declared.gathering.Gathering.{Gathering}

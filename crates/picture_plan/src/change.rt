@@ -5,10 +5,10 @@ ghost use Rattle.spec_pictures.specs.Steps.{drops_after};
 ghost use Rattle.picture_plan.specs.Bounds.{ChangesFew, IsBetween};
 ghost use Rattle.picture_plan.specs.Changes.{changed, opened_by};
 
-use header_types::{Former, PicturePlan, Pps, SliceHeader, SliceHeaderFields, Sps};
+use header_types::{Former, Pps, SliceHeader, SliceHeaderFields, Sps};
 use hv_base::Fault;
 use ref_picture_sets::is_irap;
-use spec_pictures::Between;
+use spec_pictures::{Between, PicturePlan};
 
 /// How a unit closes the open picture.
 #[derive(Drop)]

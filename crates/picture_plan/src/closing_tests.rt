@@ -2,10 +2,11 @@
 
 use crate::closing::broken_from;
 use header_types::{
-    FieldList, LongTermRefs, PictureKind, ReferenceFields, SegmentFields, SegmentPlan,
-    SliceDeblocking, SliceFields, SliceHeader, SliceHeaderFields, SliceType, StRps,
+    FieldList, LongTermRefs, PictureKind, ReferenceFields, SegmentFields, SliceDeblocking,
+    SliceFields, SliceHeader, SliceHeaderFields, SliceType, StRps,
 };
 use hv_base::{Bytes, Fault, FaultKind, Places};
+use spec_pictures::SegmentPlan;
 use std::alloc::{AllocError, Global};
 use std::test::Fail;
 
@@ -95,6 +96,9 @@ fn segment(alloc: Global, row: &Row) -> Result<SegmentPlan, AllocError> {
         header: SliceHeader::new(fields),
         payload: Bytes::new(Vec::from_slice(alloc, &[128, 0, 1, 2, 0, 0, 1, 5])?),
         removed: Places::new(Vec::from_slice(alloc, &[8])?),
+        slice: 0,
+        lists: None,
+        substreams: FieldList::new(alloc),
     })
 }
 

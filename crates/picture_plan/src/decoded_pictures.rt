@@ -1,20 +1,20 @@
-//! What a picture leaves behind (8.3.1, 8.3.2).
+//! What a picture leaves behind (8.3.1).
 
 ghost use Rattle.std.specs.Prelude.{◌≡◌, ◌≤◌, IfOk, length};
-ghost use Rattle.spec_pictures.specs.Pictures.{all_kept, dpb_after, former_after, kept, prev_after};
+ghost use Rattle.spec_pictures.specs.Pictures.{former_after, prev_after};
 ghost use Rattle.spec_pictures.specs.UnitKinds.{
   is_order_base,
   is_radl,
   is_sub_layer_non_reference,
 };
-ghost use Rattle.picture_plan.specs.Bounds.{KeepsFew, kept_count};
+ghost use Rattle.picture_plan.specs.Bounds.{KeepsFew};
 
 use crate::unit_kinds::is_rasl;
-use header_types::{DpbPicture, FieldList, Former, Mark, PicturePlan};
+use header_types::Former;
+use spec_pictures::PicturePlan;
 use std::alloc::{AllocError, Global};
 
-/// What came before the next slice segment, once a picture is over: its order count may be the base of later ones, and
-/// it is marked as a short-term reference picture.
+/// What came before the next slice segment, once a picture is over: its order count may be the base of later ones.
 #[tactic(auto, unfolding(spec_pictures::specs::Pictures::former_after))]
 pub(crate) fn former_after(
     alloc: Global,
@@ -23,7 +23,7 @@ pub(crate) fn former_after(
 ) -> Result<Former, AllocError>
     requires { KeepsFew picture.now }
     ensures value { IfOk result (λ f. f ≡ former_after former.now picture.now) }
-    ensures few { IfOk result (λ f. length f.dpb ≤ 113) }
+    ensures few { IfOk result (λ f. length f.dpb ≤ 128) }
 {
     Ok(Former {
         first: None,
@@ -32,7 +32,7 @@ pub(crate) fn former_after(
         active: Some(picture.sps.try_clone(alloc)?),
         fresh: false,
         prev: prev_after(former.prev, picture),
-        dpb: dpb_after(alloc, former.dpb.as_slice(), picture)?,
+        dpb: picture.outputs.dpb.try_clone(alloc)?,
     })
 }
 
@@ -67,57 +67,4 @@ fn is_sub_layer_non_reference(nal_type: u8) -> bool
     ensures { result ≡ is_sub_layer_non_reference nal_type }
 {
     nal_type <= 14 && nal_type % 2 == 0
-}
-
-/// The decoded picture buffer behind a picture.
-#[tactic(auto, unfolding(spec_pictures::specs::Pictures::dpb_after))]
-fn dpb_after(
-    alloc: Global,
-    dpb: &[DpbPicture],
-    picture: &PicturePlan,
-) -> Result<FieldList<DpbPicture>, AllocError>
-    requires { KeepsFew picture.now }
-    ensures value { IfOk result (λ d. d ≡ dpb_after dpb.now picture.now) }
-    ensures few { IfOk result (λ d. length d ≤ 113) }
-{
-    let mut pictures = all_kept(alloc, dpb, picture.rps.marks.as_slice())?;
-    let itself = DpbPicture {
-        poc: picture.poc,
-        mark: Mark::Short,
-        waiting: false,
-    };
-    pictures.push(itself)?;
-    Ok(pictures)
-}
-
-/// The pictures that these marks keep.
-fn all_kept(
-    alloc: Global,
-    dpb: &[DpbPicture],
-    marks: &[Mark],
-) -> Result<FieldList<DpbPicture>, AllocError>
-    ensures value { IfOk result (λ d. d ≡ all_kept dpb.now marks.now) }
-    ensures few { IfOk result (λ d. length d ≤ kept_count marks.now) }
-{
-    let mut pictures = FieldList::new(alloc);
-    for i in 0..dpb.len().min(marks.len()) {
-        if let Some(picture) = kept(&dpb[i], marks[i]) {
-            pictures.push(picture)?;
-        }
-    }
-    Ok(pictures)
-}
-
-/// A picture of the buffer as this mark keeps it, which waits for no output.
-fn kept(picture: &DpbPicture, mark: Mark) -> Option<DpbPicture>
-    ensures { result ≡ kept picture.now mark }
-{
-    match mark {
-        Mark::Unused => None,
-        Mark::Short | Mark::Long => Some(DpbPicture {
-            poc: picture.poc,
-            mark,
-            waiting: false,
-        }),
-    }
 }

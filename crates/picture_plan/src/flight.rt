@@ -3,7 +3,7 @@
 ghost use Rattle.std.specs.Prelude.{◌≡◌, ◌++◌, ◌∷◌, [], None, length, OnOk, OnErr, IfErr};
 ghost use Rattle.picture_plan.specs.Flights.{some_flight};
 
-use header_types::PicturePlan;
+use spec_pictures::PicturePlan;
 use std::alloc::Global;
 use std::marker::Model;
 
@@ -15,7 +15,7 @@ pub struct Flight {
 
 impl Model for Flight {
     ghost use Rattle.std.specs.Prelude.{List};
-    ghost use Rattle.header_types.specs.declared.picture_plan.PicturePlan.{PicturePlan};
+    ghost use Rattle.spec_pictures.specs.declared.picture_plan.PicturePlan.{PicturePlan};
 
     ghost Value = { List PicturePlan };
 
@@ -70,7 +70,7 @@ pub(crate) struct Ended {
 
 impl Model for Ended {
     ghost use Rattle.std.specs.Prelude.{List, ◌++◌};
-    ghost use Rattle.header_types.specs.declared.picture_plan.PicturePlan.{PicturePlan};
+    ghost use Rattle.spec_pictures.specs.declared.picture_plan.PicturePlan.{PicturePlan};
     ghost use Rattle.picture_plan.specs.Flights.{some_flight};
 
     ghost Value = { List (List PicturePlan) };
@@ -118,7 +118,7 @@ pub struct Flights {
 
 impl Model for Flights {
     ghost use Rattle.std.specs.Prelude.{List, ◌++◌};
-    ghost use Rattle.header_types.specs.declared.picture_plan.PicturePlan.{PicturePlan};
+    ghost use Rattle.spec_pictures.specs.declared.picture_plan.PicturePlan.{PicturePlan};
     ghost use Rattle.picture_plan.specs.Flights.{some_flight};
 
     ghost Value = { List (List PicturePlan) };

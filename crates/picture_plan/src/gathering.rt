@@ -4,7 +4,8 @@ ghost use Rattle.std.specs.Prelude.{◌≡◌, ◌++◌, ◌∷◌, [], OnOk, On
 ghost use Rattle.picture_plan.specs.Flights.{cut, cut_full, goes_on_with, joined_with, some_flight, waiting, with_picture};
 
 use crate::flight::{Ended, Flight};
-use header_types::{PicturePlan, SpsFields, same_content};
+use header_types::{SpsFields, same_content};
+use spec_pictures::PicturePlan;
 use std::alloc::Global;
 use std::mem;
 

@@ -5,6 +5,7 @@ ghost use Rattle.slice_headers.specs.Ranges.{IsInRange};
 ghost use Rattle.spec_bits.specs.Bits.{bits};
 ghost use Rattle.spec_units.specs.Judged.{unit_of};
 ghost use Rattle.spec_pictures.specs.Steps.{first_flag, is_full, judged_header};
+ghost use Rattle.picture_plan.specs.Bounds.{HasLists};
 ghost use Rattle.picture_plan.specs.Changes.{JudgesAt};
 
 use header_types::{Former, Sets, SliceHeader};
@@ -37,9 +38,10 @@ pub(crate) fn judge_header(
     segments: Option<usize>,
     nal: &Nal,
 ) -> Result<SliceHeader, Refusal>
-    requires { length former.now.dpb ≤ 113 }
+    requires { length former.now.dpb ≤ 128 }
     ensures value { JudgesAt nal.now.index result (judged_header sets.now former.now segments (unit_of nal.now)) }
     ensures in_range { former.now.slice ≡ None → IfOk result IsInRange }
+    ensures active { IfOk result HasLists }
 {
     if first_flag(nal.rbsp.as_slice()).is_none() {
         return Err(Refusal::Fault(FaultKind::HeaderSyntax));

@@ -5,12 +5,15 @@
 mod change;
 mod closing;
 mod decoded_pictures;
+mod ending;
 mod flight;
 mod gathering;
 mod headers;
 mod laws;
 mod opening;
+mod outputs;
 mod planner;
+mod segments;
 mod slices;
 mod step;
 mod unit_kinds;

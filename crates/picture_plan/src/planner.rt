@@ -6,11 +6,12 @@ ghost use Rattle.nal_stream.specs.Answers.{told_by};
 ghost use Rattle.picture_plan.specs.Flights.{cut};
 ghost use Rattle.picture_plan.specs.Plans.{at_end, behind_unit, cut_of, halted, stop_of};
 
+use crate::ending::end_input;
 use crate::flight::{Ended, Flights};
 use crate::gathering::Gathering;
-use crate::step::{Step, close};
+use crate::step::Step;
 use crate::units::plan_next;
-use header_types::{Former, Sets};
+use header_types::{FieldList, Former, Sets};
 use hv_base::Stop;
 use nal_stream::Next;
 use spec_pictures::Between;
@@ -22,6 +23,9 @@ use std::marker::Model;
 pub struct Planned {
     /// The flights that ended, in decoding order.
     pub flights: Flights,
+    /// Where the input ended and nothing stopped it, the pictures that go out then, in output order: each by its place in
+    /// the decoded picture buffer behind the last picture. None in other calls.
+    pub last: FieldList<u32>,
     /// What stops the stream behind them, where something does.
     pub stop: Option<Stop>,
 }
@@ -73,84 +77,91 @@ impl Planner {
     /// Behind a stop each call gives no flight and the same stop. After want of memory the planner is as before.
     #[tactic(auto, unfolding(crate::specs::Plans::behind_unit))]
     pub fn unit(&mut self, next: Next) -> Result<Planned, AllocError>
-        ensures value { IfOk result (λ planned. behind_unit self.old (told_by next) ≡ record { flights = planned.flights; left = self.new }) }
+        ensures value { IfOk result (λ planned. behind_unit self.old (told_by next) ≡ record { flights = planned.flights; last = planned.last; left = self.new }) }
         ensures stop { IfOk result (λ planned. planned.stop ≡ stop_of self.new.next) }
         ensures err { OnErr result (self.new ≡ self.old) }
     {
         if let Some(stop) = self.stopped {
-            return Ok(only_stop(stop));
+            return Ok(only_stop(self.alloc, stop));
         }
         let step = plan_next(self.alloc, &mut self.gathering, &mut self.between, next)?;
         self.stopped = step.stop;
-        Ok(with_last(&mut self.gathering, step))
+        Ok(behind_step(self.alloc, &mut self.gathering, step))
     }
 
-    /// The input ends: the open picture is closed, and all flights end.
+    /// The input ends: the open picture is closed, all flights end, and the pictures that wait go out.
     #[tactic(auto, unfolding(crate::specs::Plans::at_end, crate::specs::Plans::halted))]
     pub fn finish(&mut self) -> Result<Planned, AllocError>
-        ensures value { IfOk result (λ planned. at_end self.old ≡ record { flights = planned.flights; left = self.new }) }
+        ensures value { IfOk result (λ planned. at_end self.old ≡ record { flights = planned.flights; last = planned.last; left = self.new }) }
         ensures stop { IfOk result (λ planned. planned.stop ≡ stop_of self.new.next) }
         ensures err { OnErr result (self.new ≡ self.old) }
     {
         if self.stopped.is_some() {
             return Ok(self.halt());
         }
-        let step = close(self.alloc, &mut self.gathering, &mut self.between)?;
-        self.stopped = step.stop;
-        Ok(with_all(&mut self.gathering, step))
+        let ending = end_input(self.alloc, &mut self.gathering, &mut self.between)?;
+        self.stopped = ending.step.stop;
+        Ok(with_all(&mut self.gathering, ending.last, ending.step))
     }
 
     /// No more units come, though the input hasn't ended: the pending flight ends, and no picture is closed.
     #[tactic(auto, unfolding(crate::specs::Plans::halted))]
     pub fn halt(&mut self) -> Planned
-        ensures value { halted self.old ≡ record { flights = result.flights; left = self.new } }
+        ensures value { halted self.old ≡ record { flights = result.flights; last = result.last; left = self.new } }
         ensures stop { result.stop ≡ stop_of self.new.next }
     {
         let step = Step {
             ended: Ended::none(),
             stop: self.stopped,
         };
-        with_all(&mut self.gathering, step)
+        with_all(&mut self.gathering, FieldList::new(self.alloc), step)
     }
 }
 
 /// No flight, and what stopped the stream.
-fn only_stop(stop: Stop) -> Planned
+fn only_stop(alloc: Global, stop: Stop) -> Planned
     ensures flights { result.flights ≡ [] }
+    ensures last { result.last ≡ [] }
     ensures stop { result.stop ≡ Some stop }
 {
     Planned {
         flights: Flights::new(Ended::none(), None),
+        last: FieldList::new(alloc),
         stop: Some(stop),
     }
 }
 
 /// What a step ended, and the pending flight where the stream stops.
-fn with_last(gathering: &mut Gathering, step: Step) -> Planned
+fn behind_step(alloc: Global, gathering: &mut Gathering, step: Step) -> Planned
     ensures flights { result.flights ≡ (cut_of step.stop (record { flights = step.ended; pending = gathering.old.pending })).flights }
     ensures pending { gathering.new.pending ≡ (cut_of step.stop (record { flights = step.ended; pending = gathering.old.pending })).pending }
+    ensures last { result.last ≡ [] }
     ensures stop { result.stop ≡ step.stop }
     ensures ahead { gathering.new.ahead ≡ gathering.old.ahead }
 {
+    let last = FieldList::new(alloc);
     match step.stop {
         None => Planned {
             flights: Flights::new(step.ended, None),
+            last,
             stop: None,
         },
-        Some(_) => with_all(gathering, step),
+        Some(_) => with_all(gathering, last, step),
     }
 }
 
-/// What a step ended, and the pending flight.
-fn with_all(gathering: &mut Gathering, step: Step) -> Planned
+/// What a step ended, the pending flight, and the pictures that go out at the end.
+fn with_all(gathering: &mut Gathering, last: FieldList<u32>, step: Step) -> Planned
     ensures flights { result.flights ≡ (cut (record { flights = step.ended; pending = gathering.old.pending })).flights }
     ensures pending { gathering.new.pending ≡ (cut (record { flights = step.ended; pending = gathering.old.pending })).pending }
+    ensures last { result.last ≡ last }
     ensures stop { result.stop ≡ step.stop }
     ensures ahead { gathering.new.ahead ≡ gathering.old.ahead }
 {
-    let last = gathering.cut();
+    let pending = gathering.cut();
     Planned {
-        flights: Flights::new(step.ended, last),
+        flights: Flights::new(step.ended, pending),
+        last,
         stop: step.stop,
     }
 }

@@ -1,27 +1,28 @@
 //! Slice segments.
 
 ghost use Rattle.std.specs.Prelude.{◌≡◌, None, Some, Ok, IfOk, OnOk, OnErr};
-ghost use Rattle.header_types.specs.declared.picture_plan.PicturePlan.{PicturePlan};
+ghost use Rattle.spec_pictures.specs.declared.picture_plan.PicturePlan.{PicturePlan};
 ghost use Rattle.spec_bits.specs.Bits.{bits};
 ghost use Rattle.spec_units.specs.Judged.{unit_of};
 ghost use Rattle.spec_pictures.specs.declared.between.Between.{Between};
 ghost use Rattle.spec_pictures.specs.Steps.{close, closing, continued, first_flag, goes_on, open_segments, slice_judged, slice_step};
-ghost use Rattle.picture_plan.specs.Bounds.{ClosesFew, IsBetween, OpensFew};
+ghost use Rattle.picture_plan.specs.Bounds.{ClosesFew, HasLists, IsBetween, OpensFew};
 ghost use Rattle.picture_plan.specs.Changes.{applied, closing_of};
 ghost use Rattle.picture_plan.specs.Held.{next_of};
 ghost use Rattle.picture_plan.specs.Taken.{Takes};
-ghost use Rattle.picture_plan.specs.Continuing.{going_on_slice, newer_slice, own_slice, with_segment};
+ghost use Rattle.picture_plan.specs.Continuing.{going_on_slice, newer_slice, one_more, own_slice, with_segment};
 
 use crate::change::{Change, Closing, put};
 use crate::flight::Ended;
 use crate::gathering::Gathering;
 use crate::headers::{first_flag, judge_header};
 use crate::opening::judge_opening;
+use crate::segments::segment_of;
 use crate::step::{Step, close, close_by, closing_of};
 use crate::unit_kinds::is_rasl;
-use header_types::{PicturePlan, SegmentPlan, SliceHeader};
+use header_types::SliceHeader;
 use hv_base::{Fault, Limit, Nal, Refusal, Stop};
-use spec_pictures::Between;
+use spec_pictures::{Between, PicturePlan};
 use std::alloc::{AllocError, Global};
 
 /// Plans a slice segment: of a dropped picture it closes the open one and isn't read; one that begins a picture closes
@@ -133,6 +134,7 @@ fn join(
 ) -> Result<(), AllocError>
     requires kept { IsBetween between.old }
     requires open { between.old.picture ≡ None → ⊥ }
+    requires active { HasLists header }
     ensures value { (p : PicturePlan) → between.old.picture ≡ Some p → OnOk result (between.new ≡ continued between.old (unit_of nal) header p) }
     ensures kept { IsBetween between.new }
     ensures err { OnErr result (between.new ≡ between.old) }
@@ -145,12 +147,7 @@ fn join(
         }
     };
     let address = header.fields().segment.slice_segment_address;
-    let segment = SegmentPlan {
-        header,
-        payload: nal.rbsp,
-        removed: nal.removed,
-    };
-    match add_segment(&mut between.picture, segment) {
+    match add_to_open(alloc, &mut between.picture, nal, header) {
         Ok(()) => {
             put_slice(&mut between.former.slice, slice);
             between.former.address = Some(address);
@@ -183,14 +180,44 @@ fn slice_of(alloc: Global, header: &SliceHeader) -> Result<Option<SliceHeader>, 
 }
 
 /// Adds a segment to the open picture. After want of memory it is as before.
-fn add_segment(picture: &mut Option<PicturePlan>, segment: SegmentPlan) -> Result<(), AllocError>
-    ensures ok { OnOk result (picture.new ≡ with_segment segment picture.old) }
+fn add_to_open(
+    alloc: Global,
+    picture: &mut Option<PicturePlan>,
+    nal: Nal,
+    header: SliceHeader,
+) -> Result<(), AllocError>
+    requires { HasLists header }
+    ensures ok { OnOk result (picture.new ≡ with_segment (unit_of nal) header picture.old) }
     ensures err { OnErr result (picture.new ≡ picture.old) }
 {
     match picture {
-        None => Ok(()),
-        Some(open) => open.segments.push(segment),
+        None => {
+            drop(header);
+            Ok(())
+        }
+        Some(open) => add_segment(alloc, open, nal, header),
     }
+}
+
+/// Adds a segment to a picture. After want of memory it is as before.
+fn add_segment(
+    alloc: Global,
+    picture: &mut PicturePlan,
+    nal: Nal,
+    header: SliceHeader,
+) -> Result<(), AllocError>
+    requires { HasLists header }
+    ensures ok { OnOk result (picture.new ≡ one_more (unit_of nal) header picture.old) }
+    ensures err { OnErr result (picture.new ≡ picture.old) }
+{
+    let segment = segment_of(
+        alloc,
+        picture.segments.as_slice(),
+        &picture.rps,
+        nal,
+        header,
+    )?;
+    picture.segments.push(segment)
 }
 
 /// Plans a slice segment that begins a picture, or has none to go on with.

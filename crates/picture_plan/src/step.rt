@@ -133,6 +133,23 @@ pub(crate) fn close_by(
     }
 }
 
+/// Closes the open picture so, and changes nothing else.
+pub(crate) fn close_as(
+    gathering: &mut Gathering,
+    between: &mut Between,
+    how: Closing,
+) -> Result<Step, AllocError>
+    requires closing { closing_of between.old ≡ how }
+    requires closes { ClosesFew how }
+    ensures value { IfOk result (λ step. Takes gathering.old gathering.new between.new step (close between.old)) }
+    ensures kept { IsBetween between.old → IsBetween between.new }
+    ensures err { OnErr result (between.new ≡ between.old) }
+    ensures pending { OnErr result (gathering.new.pending ≡ gathering.old.pending) }
+    ensures ahead { gathering.new.ahead ≡ gathering.old.ahead }
+{
+    close_by(gathering, between, how, Ok(Change::Nothing))
+}
+
 /// Closes the open picture, and then changes what was judged, or stops.
 pub(crate) fn close_then(
     alloc: Global,
@@ -171,5 +188,6 @@ pub(crate) fn close(
     ensures pending { OnErr result (gathering.new.pending ≡ gathering.old.pending) }
     ensures ahead { gathering.new.ahead ≡ gathering.old.ahead }
 {
-    close_then(alloc, gathering, between, Ok(Change::Nothing))
+    let how = closing_of(alloc, between)?;
+    close_as(gathering, between, how)
 }

@@ -6,7 +6,7 @@ use Rattle.std.proofs.lemmas.List.Folds.{concat-append}
 use Rattle.hv_base.specs.declared.outcome.Outcome.{Outcome}
 use Rattle.hv_base.specs.declared.outcome.Outcome.TheVariants as outcome
 use Rattle.hv_base.specs.declared.refusal.Stop.{Stop}
-use Rattle.header_types.specs.declared.picture_plan.PicturePlan.{PicturePlan}
+use Rattle.spec_pictures.specs.declared.picture_plan.PicturePlan.{PicturePlan}
 use Rattle.spec_pictures.specs.Planned.{Planned, planned_of, Extends}
 use Rattle.spec_pictures.proofs.Fronts.{of_extends}
 use Rattle.spec_decoder.specs.Decoder.{Decoded, Continues, decoded_picture, put_out, decoded_from, decoded_plan, decoded}
@@ -35,11 +35,11 @@ from_continues end [] more = continues (decoded_from None []) (decoded_from end 
 from_continues end (p ∷ pictures) more =
     put_continues (decoded_picture p) (decoded_from None pictures) (decoded_from end (pictures ++ more)) (from_continues end pictures more)
 
-plan_continues : (end : Option Stop) (pictures more : List PicturePlan) (long : Planned) → long.pictures ≡ pictures ++ more
-    → ((e : Stop) → end ≡ Some e → long ≡ record { pictures = pictures; stop = end }) → Continues (decoded_from end pictures) (decoded_plan long)
-plan_continues None pictures more long is stopped =
+plan_continues : (end : Option Stop) (pictures more : List PicturePlan) (last : List ℕ) (long : Planned) → long.pictures ≡ pictures ++ more
+    → ((e : Stop) → end ≡ Some e → long ≡ record { pictures = pictures; last = last; stop = end }) → Continues (decoded_from end pictures) (decoded_plan long)
+plan_continues None pictures more last long is stopped =
     subst (λ (ps : List PicturePlan). Continues (decoded_from None pictures) (decoded_from long.stop ps)) (sym is) (from_continues long.stop pictures more)
-plan_continues (Some e) pictures more long is stopped =
+plan_continues (Some e) pictures more last long is stopped =
     subst (λ (q : Planned). Continues (decoded_from (Some e) pictures) (decoded_plan q)) (sym (stopped e refl)) (same_continues (decoded_from (Some e) pictures))
 
 pub of_continues : (front rest : List ℕ) (ended : Bool) → Continues (decoded false front) (decoded ended (front ++ rest))
@@ -48,4 +48,4 @@ of_continues front rest ended =
     let short : Planned = planned_of false front in
     let long : Planned = planned_of ended (front ++ rest) in
     let extends : Extends short long = of_extends front rest ended in
-    plan_continues short.stop short.pictures extends.more long extends.pictures extends.stopped
+    plan_continues short.stop short.pictures extends.more short.last long extends.pictures extends.stopped

@@ -16,10 +16,11 @@ use Rattle.header_types.specs.declared.sps.SpsFields.{SpsFields}
 use Rattle.header_types.specs.declared.pps.PpsFields.{PpsFields}
 use Rattle.header_types.specs.declared.former.Former.{Former}
 use Rattle.header_types.specs.declared.former.Sets.{Sets}
+use Rattle.header_types.specs.declared.reference_pictures.DpbPicture.{DpbPicture}
 use Rattle.header_types.specs.declared.reference_pictures.Rps.{Rps}
 use Rattle.header_types.specs.declared.slice.SliceHeaderFields.{SliceHeaderFields}
-use Rattle.header_types.specs.declared.picture_plan.SegmentPlan.{SegmentPlan}
-use Rattle.header_types.specs.declared.picture_plan.PicturePlan.{PicturePlan}
+use Rattle.spec_pictures.specs.declared.picture_plan.SegmentPlan.{SegmentPlan}
+use Rattle.spec_pictures.specs.declared.picture_plan.PicturePlan.{PicturePlan}
 use Rattle.spec_bits.specs.Bits.{bits}
 use Rattle.spec_units.specs.Units.{Part, Raw, Stray, parts_of}
 use Rattle.spec_units.specs.Judged.{NalUnit, Told, Whole, Broken, Met, places, stands_at, payload_of, is_too_large, has_reserved, has_bad_header, broken, read_unit, judged, next_number, then_told, told_from, told_of}
@@ -131,16 +132,18 @@ with_pps_short : (s : Between) (nal : ℕ) (r : Result PpsFields Breach) → IsS
 with_pps_short s nal (Err e) h = tt
 with_pps_short s nal (Ok pps) h = h
 
-one_segment : (u : NalUnit) (header : SliceHeaderFields) → length u.payload ≤ 67108864 → All IsShort (segment_of u header ∷ [])
-one_segment u header h = All-cons IsShort (segment_of u header) [] h (All-nil IsShort)
+one_segment : (before : List SegmentPlan) (rps : Rps) (u : NalUnit) (header : SliceHeaderFields) → length u.payload ≤ 67108864
+    → All IsShort (segment_of before rps u header ∷ [])
+one_segment before rps u header h = All-cons IsShort (segment_of before rps u header) [] h (All-nil IsShort)
 
-with_set_short : (u : NalUnit) (header : SliceHeaderFields) (n : Named) (poc : ℤ) (r : Result Rps FaultKind) → length u.payload ≤ 67108864 → IfOk (with_set u header n poc r) IsShortPlan
-with_set_short u header n poc (Err kind) h = tt
-with_set_short u header n poc (Ok rps) h = one_segment u header h
+with_set_short : (dpb : List DpbPicture) (u : NalUnit) (header : SliceHeaderFields) (n : Named) (poc : ℤ) (r : Result Rps FaultKind) → length u.payload ≤ 67108864
+    → IfOk (with_set dpb u header n poc r) IsShortPlan
+with_set_short dpb u header n poc (Err kind) h = tt
+with_set_short dpb u header n poc (Ok rps) h = one_segment [] rps u header h
 
 with_order_short : (former : Former) (u : NalUnit) (header : SliceHeaderFields) (n : Named) (r : Result ℤ FaultKind) → length u.payload ≤ 67108864 → IfOk (with_order former u header n r) IsShortPlan
 with_order_short former u header n (Err kind) h = tt
-with_order_short former u header n (Ok poc) h = with_set_short u header n poc (reference_picture_set header.kind header.slice.references poc former.dpb) h
+with_order_short former u header n (Ok poc) h = with_set_short former.dpb u header n poc (reference_picture_set header.kind header.slice.references poc former.dpb) h
 
 with_sets_short : (former : Former) (u : NalUnit) (header : SliceHeaderFields) (n : Option Named) → length u.payload ≤ 67108864 → IfOk (with_sets former u header n) IsShortPlan
 with_sets_short former u header None h = tt
@@ -156,7 +159,7 @@ opened_short s u header (Ok p) h = h
 
 joined_short : (s : Between) (u : NalUnit) (header : SliceHeaderFields) (p : Option PicturePlan) → length u.payload ≤ 67108864 → IfSome p IsShortPlan → IfOk (joined s u header p) IsShortBetween
 joined_short s u header None h short = opened_short s u header (picture_of s.sets s.former u header) (picture_short s.sets s.former u header h)
-joined_short s u header (Some p) h short = All-append IsShort p.segments (segment_of u header ∷ []) short (one_segment u header h)
+joined_short s u header (Some p) h short = All-append IsShort p.segments (segment_of p.segments p.rps u header ∷ []) short (one_segment p.segments p.rps u header h)
 
 accepted_short : (s : Between) (u : NalUnit) (r : Result SliceHeaderFields Stop) → length u.payload ≤ 67108864 → IsShortBetween s → IfOk (accepted s u r) IsShortBetween
 accepted_short s u (Err e) h short = tt

@@ -2,34 +2,42 @@
 use Rattle.std.specs.Prelude.{◌≡◌, ℕ, Bool, true, false, List, [], ◌∷◌, ◌++◌, Option, Some, None, Result, Ok, Err}
 use Rattle.hv_base.specs.declared.refusal.Stop.{Stop}
 use Rattle.spec_units.specs.Judged.{Told, told_of}
-use Rattle.header_types.specs.declared.picture_plan.PicturePlan.{PicturePlan}
+use Rattle.spec_output_order.specs.OutputOrder.{last_outputs}
+use Rattle.spec_pictures.specs.declared.picture_plan.PicturePlan.{PicturePlan}
 use Rattle.spec_pictures.specs.declared.between.Between.{Between}
 use Rattle.spec_pictures.specs.Pictures.{beginning}
 use Rattle.spec_pictures.specs.Steps.{Stepped, close, step}
 
--- the pictures in decoding order, and what stops the stream behind them
+-- the pictures in decoding order, which pictures of the buffer behind the last one go out where the input ends, by their
+-- places, and what stops the stream
 pub record Planned : Type 0 where
   pub pictures : List PicturePlan
+  pub last : List ℕ
   pub stop : Option Stop
 
 abbrev pub stop_of : Result Between Stop → Option Stop
 stop_of (Ok s) = None
 stop_of (Err e) = Some e
 
+-- where nothing stops the stream, the pictures that wait go out at the end
+abbrev pub last_of : Result Between Stop → List ℕ
+last_of (Ok s) = last_outputs s.former.dpb
+last_of (Err e) = []
+
 abbrev pub at_end : Stepped → Planned
-at_end t = record { pictures = t.closed; stop = stop_of t.next }
+at_end t = record { pictures = t.closed; last = last_of t.next; stop = stop_of t.next }
 
 -- behind the last unit: where the input ends, the open picture is closed
 abbrev pub planned_end : Bool → Between → Planned
 planned_end true s = at_end (close s)
-planned_end false s = record { pictures = []; stop = None }
+planned_end false s = record { pictures = []; last = []; stop = None }
 
 abbrev pub behind_closed : List PicturePlan → Planned → Planned
-behind_closed closed p = record { pictures = closed ++ p.pictures; stop = p.stop }
+behind_closed closed p = record { pictures = closed ++ p.pictures; last = p.last; stop = p.stop }
 
 -- what follows a unit, if it doesn't stop the stream
 abbrev pub planned_next : Result Between Stop → (Between → Planned) → Planned
-planned_next (Err e) f = record { pictures = []; stop = Some e }
+planned_next (Err e) f = record { pictures = []; last = []; stop = Some e }
 planned_next (Ok s) f = f s
 
 -- the pictures of these units

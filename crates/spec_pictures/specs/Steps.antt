@@ -1,5 +1,5 @@
 -- One unit of a stream after the other: what it closes, how it is judged, and what is known behind it.
-use Rattle.std.specs.Prelude.{ℕ, ◌+◌, ℤ, pos, Bool, true, false, not, ◌&&◌, ◌||◌, List, [], ◌∷◌, ◌++◌, length, slice_set, Option, Some, None, is_some, is_none, Result, Ok, Err, nat_lt, nat_le, ◌==◌, if◌then◌else◌}
+use Rattle.std.specs.Prelude.{ℕ, ◌+◌, ℤ, pos, Bool, true, false, not, ◌&&◌, ◌||◌, List, [], ◌∷◌, ◌++◌, ◌-◌, length, slice_get, slice_set, Option, Some, None, is_some, is_none, unwrap_or, Result, Ok, Err, nat_lt, nat_le, ◌==◌, if◌then◌else◌}
 use Rattle.hv_base.specs.declared.breach.Breach.{Breach}
 use Rattle.hv_base.specs.declared.breach.Breach.TheVariants as breach
 use Rattle.hv_base.specs.declared.fault.FaultKind.{FaultKind}
@@ -12,24 +12,31 @@ use Rattle.hv_base.specs.declared.refusal.Stop.TheVariants as stop
 use Rattle.header_types.specs.declared.sps.SpsFields.{SpsFields}
 use Rattle.header_types.specs.declared.pps.PpsFields.{PpsFields}
 use Rattle.header_types.specs.declared.slice.SliceHeaderFields.{SliceHeaderFields}
+use Rattle.header_types.specs.declared.reference_pictures.DpbPicture.{DpbPicture}
+use Rattle.header_types.specs.declared.reference_pictures.Lists.{Lists}
 use Rattle.header_types.specs.declared.reference_pictures.Rps.{Rps}
 use Rattle.header_types.specs.declared.former.Sets.{Sets}
 use Rattle.header_types.specs.declared.former.Former.{Former}
+use Rattle.header_types.specs.SequenceParameterSets.{highest_ordering}
 use Rattle.spec_bits.specs.Bits.{bits}
 use Rattle.spec_units.specs.Judged.{NalUnit, Told}
 use Rattle.spec_parameter_sets.specs.PictureParameterSet.{picture_parameter_set_of}
 use Rattle.spec_parameter_sets.specs.SequenceParameterSet.{sequence_parameter_set_of}
-use Rattle.spec_reference_pictures.specs.PictureOrderCount.{is_irap, pic_order_cnt_val}
+use Rattle.spec_reference_pictures.specs.PictureOrderCount.{begins_anew, is_irap, pic_order_cnt_val}
+use Rattle.spec_reference_pictures.specs.ReferenceLists.{reference_lists}
 use Rattle.spec_reference_pictures.specs.ReferencePictureSet.{reference_picture_set}
 use Rattle.spec_slice_headers.specs.Context.{Context}
 use Rattle.spec_slice_headers.specs.NamedSets.{Named, named_by}
 use Rattle.spec_slice_headers.specs.SegmentHeader.{slice_header_of}
+use Rattle.spec_slice_headers.specs.Substreams.{substream_ranges}
+use Rattle.spec_output_order.specs.declared.current_picture.CurrentPicture.{CurrentPicture}
+use Rattle.spec_output_order.specs.OutputOrder.{outputs_of}
 use Rattle.spec_pictures.specs.declared.between.Between.{Between}
 use Rattle.spec_pictures.specs.declared.unit_kind.UnitKind.{UnitKind}
 use Rattle.spec_pictures.specs.declared.unit_kind.UnitKind.TheVariants as unit
 use Rattle.spec_pictures.specs.UnitKinds.{kind_of_type, is_rasl}
-use Rattle.header_types.specs.declared.picture_plan.SegmentPlan.{SegmentPlan}
-use Rattle.header_types.specs.declared.picture_plan.PicturePlan.{PicturePlan}
+use Rattle.spec_pictures.specs.declared.picture_plan.SegmentPlan.{SegmentPlan}
+use Rattle.spec_pictures.specs.declared.picture_plan.PicturePlan.{PicturePlan}
 use Rattle.spec_pictures.specs.Pictures.{former_after}
 use Rattle.spec_pictures.specs.Closing.{broken_in}
 
@@ -96,18 +103,61 @@ open_segments (Some p) = Some (length p.segments)
 abbrev pub context_of : Sets → Former → NalUnit → Context
 context_of sets former u = record { nal = u.index; nal_type = u.nal_type; temporal_id = u.temporal_id; sets = sets; former = former }
 
-abbrev pub segment_of : NalUnit → SliceHeaderFields → SegmentPlan
-segment_of u header = record { header = header; payload = u.payload; removed = u.removed }
+-- the number of the segment that begins a segment's slice: where it is dependent that of the segment before
+abbrev pub slice_of : Option SegmentPlan → ℕ
+slice_of None = 0
+slice_of (Some s) = s.slice
+
+abbrev pub slice_number : List SegmentPlan → SliceHeaderFields → ℕ
+slice_number before header =
+    if header.segment.dependent_slice_segment_flag then slice_of (slice_get before (length before - 1)) else length before
+
+-- the lists of the slice that a segment begins
+abbrev pub lists_of : SliceHeaderFields → Rps → Option Lists
+lists_of header rps = if header.segment.dependent_slice_segment_flag then None else Some (reference_lists header.slice rps)
+
+-- a segment behind these of its picture, which has this reference picture set
+abbrev pub segment_of : List SegmentPlan → Rps → NalUnit → SliceHeaderFields → SegmentPlan
+segment_of before rps u header = record {
+  header = header;
+  payload = u.payload;
+  removed = u.removed;
+  slice = slice_number before header;
+  lists = lists_of header rps;
+  substreams = substream_ranges u.payload u.removed header.data_place header.entry_points;
+}
+
+-- NoOutputOfPriorPicsFlag: that of the header, but 1 in a clean random access picture (C.5.2.2)
+abbrev pub no_output_of_prior_pics : SliceHeaderFields → Bool
+no_output_of_prior_pics header = (header.kind.nal_type == 21) || unwrap_or header.segment.no_output_of_prior_pics_flag false
+
+-- what of a picture decides its outputs. PicOutputFlag is pic_output_flag, since skipped leading pictures are dropped
+abbrev pub current_picture : SliceHeaderFields → SpsFields → ℤ → CurrentPicture
+current_picture header sps poc = record {
+  poc = poc;
+  begins_anew = begins_anew header.kind;
+  no_output_of_prior_pics = no_output_of_prior_pics header;
+  pic_output = header.slice.pic_output_flag;
+  ordering = highest_ordering sps.sub_layer_ordering;
+}
 
 -- the picture that a first slice segment opens
-abbrev pub with_set : NalUnit → SliceHeaderFields → Named → ℤ → Result Rps FaultKind → Result PicturePlan Breach
-with_set u header n poc (Err kind) = Err (breach.Fault kind)
-with_set u header n poc (Ok rps) =
-    Ok (record { nal = u.index; kind = header.kind; sps = n.sps; pps = n.pps; poc = poc; rps = rps; segments = segment_of u header ∷ [] })
+abbrev pub with_set : List DpbPicture → NalUnit → SliceHeaderFields → Named → ℤ → Result Rps FaultKind → Result PicturePlan Breach
+with_set dpb u header n poc (Err kind) = Err (breach.Fault kind)
+with_set dpb u header n poc (Ok rps) = Ok (record {
+  nal = u.index;
+  kind = header.kind;
+  sps = n.sps;
+  pps = n.pps;
+  poc = poc;
+  rps = rps;
+  outputs = outputs_of (current_picture header n.sps poc) dpb rps.marks;
+  segments = segment_of [] rps u header ∷ [];
+})
 
 abbrev pub with_order : Former → NalUnit → SliceHeaderFields → Named → Result ℤ FaultKind → Result PicturePlan Breach
 with_order former u header n (Err kind) = Err (breach.Fault kind)
-with_order former u header n (Ok poc) = with_set u header n poc (reference_picture_set header.kind header.slice.references poc former.dpb)
+with_order former u header n (Ok poc) = with_set former.dpb u header n poc (reference_picture_set header.kind header.slice.references poc former.dpb)
 
 abbrev pub with_sets : Former → NalUnit → SliceHeaderFields → Option Named → Result PicturePlan Breach
 with_sets former u header None = Err (breach.Fault rule.MissingSet)
@@ -152,7 +202,7 @@ continued s u header p = record {
   sets = s.sets;
   former = former_continued s.former header;
   drops_rasl = s.drops_rasl;
-  picture = Some (record p { segments = p.segments ++ segment_of u header ∷ [] });
+  picture = Some (record p { segments = p.segments ++ segment_of p.segments p.rps u header ∷ [] });
 }
 
 -- a segment joins the open picture, or opens one

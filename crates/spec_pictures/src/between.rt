@@ -1,6 +1,7 @@
 //! What is known of a stream between two units.
 
-use header_types::{Former, PicturePlan, Sets};
+use crate::picture_plan::PicturePlan;
+use header_types::{Former, Sets};
 
 /// What is known between two units.
 #[derive(Drop)]

@@ -3,8 +3,10 @@
 
 mod between;
 mod laws;
+mod picture_plan;
 mod unit_kind;
 
 pub use between::Between;
 pub use laws::fronts_stay;
+pub use picture_plan::{PicturePlan, SegmentPlan};
 pub use unit_kind::UnitKind;

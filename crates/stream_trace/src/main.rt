@@ -5,14 +5,16 @@
 //!
 //! With the word `pictures` it prints a line for each planned picture instead, in decoding order: its number, its picture
 //! order count, its `nal_unit_type`, its width and its height inside the conformance window; with the word `slices` the
-//! fields of the picture's slice segment headers follow. What stops the stream is told on the error stream then, and by
-//! the exit status: 2 where it breaks a rule, 3 where it meets a limit.
+//! fields of the picture's slice segment headers follow, and with the word `outputs` the pictures come in output order.
+//! What stops the stream is told on the error stream then, and by the exit status: 2 where it breaks a rule, 3 where it
+//! meets a limit.
 #![tactic(auto)]
 
 ghost use Rattle.std.specs.Prelude.{◌≡◌, false};
 
 mod inter_lines;
 mod lines;
+mod output_trace;
 mod plan_trace;
 mod pps_lines;
 mod reference_lines;
@@ -23,7 +25,8 @@ mod sps_lines;
 mod trace_error;
 mod weight_lines;
 
-use crate::plan_trace::PlanTrace;
+use crate::output_trace::OutputTrace;
+use crate::plan_trace::{PlanLines, PlanTrace};
 use crate::set_trace::print_set;
 use crate::trace_error::TraceError;
 use hv_base::{Nal, Outcome, Status, Stop};
@@ -70,14 +73,18 @@ fn asked_for(rt: &HostRuntime) -> Result<Trace, TraceError> {
     match args.next() {
         None => Ok(Trace::Units),
         Some(word) if word.as_str() == "fields" => Ok(Trace::Fields(rt.alloc())),
-        Some(word) if word.as_str() == "pictures" => {
-            Ok(Trace::Plan(PlanTrace::new(rt.alloc(), false)?))
-        }
-        Some(word) if word.as_str() == "slices" => {
-            Ok(Trace::Plan(PlanTrace::new(rt.alloc(), true)?))
+        Some(word) if word.as_str() == "pictures" => plan(rt, PlanLines::Pictures),
+        Some(word) if word.as_str() == "slices" => plan(rt, PlanLines::Slices),
+        Some(word) if word.as_str() == "outputs" => {
+            plan(rt, PlanLines::Outputs(OutputTrace::new(rt.alloc())))
         }
         Some(_) => Err(TraceError::Usage),
     }
+}
+
+/// The planned pictures, as these lines.
+fn plan(rt: &HostRuntime, lines: PlanLines) -> Result<Trace, TraceError> {
+    Ok(Trace::Plan(PlanTrace::new(rt.alloc(), lines)?))
 }
 
 /// Feeds the input and prints its units as they get whole. Says whether none was refused.

@@ -1,30 +1,42 @@
 //! The planned pictures as lines.
 
+use crate::output_trace::{OutputTrace, PictureLine};
 use crate::slice_lines::slice_lines;
 use crate::trace_error::TraceError;
-use header_types::PicturePlan;
 use hv_base::Stop;
 use nal_stream::Next;
 use picture_plan::{Flight, Planned, Planner};
+use spec_pictures::PicturePlan;
 use std::alloc::Global;
 use std::io::Write;
+
+/// What is printed of the pictures.
+#[derive(Drop)]
+pub(crate) enum PlanLines {
+    /// A line a picture, in decoding order.
+    Pictures,
+    /// The fields of slice segment headers too.
+    Slices,
+    /// A line a picture, in output order.
+    Outputs(OutputTrace),
+}
 
 /// Prints pictures as they are planned.
 #[derive(Drop)]
 pub(crate) struct PlanTrace {
     planner: Planner,
-    has_slices: bool,
-    /// How many pictures were printed.
+    lines: PlanLines,
+    /// How many pictures were planned.
     count: u64,
     stop: Option<Stop>,
 }
 
 impl PlanTrace {
-    /// Before the first unit. With `has_slices` the fields of slice segment headers are printed too.
-    pub(crate) fn new(alloc: Global, has_slices: bool) -> Result<PlanTrace, TraceError> {
+    /// Before the first unit.
+    pub(crate) fn new(alloc: Global, lines: PlanLines) -> Result<PlanTrace, TraceError> {
         Ok(PlanTrace {
             planner: Planner::new(alloc, 1, true)?,
-            has_slices,
+            lines,
             count: 0,
             stop: None,
         })
@@ -53,7 +65,11 @@ impl PlanTrace {
     }
 
     fn print_planned<W: Write>(&mut self, planned: Planned, out: &mut W) -> Result<(), TraceError> {
-        let Planned { mut flights, stop } = planned;
+        let Planned {
+            mut flights,
+            last,
+            stop,
+        } = planned;
         self.stop = stop;
         for _ in 0..u64::MAX {
             match flights.next() {
@@ -61,30 +77,35 @@ impl PlanTrace {
                 None => break,
             }
         }
-        Ok(())
+        match &mut self.lines {
+            PlanLines::Pictures | PlanLines::Slices => Ok(()),
+            PlanLines::Outputs(outputs) => outputs.print_places(last.as_slice(), out),
+        }
     }
 
     fn print_flight<W: Write>(&mut self, flight: &Flight, out: &mut W) -> Result<(), TraceError> {
         for picture in flight.as_slice() {
-            picture_line(self.count, picture, out)?;
-            if self.has_slices {
-                segments(picture, out)?;
-            }
+            print_picture(&mut self.lines, self.count, picture, out)?;
             self.count = self.count.saturating_add(1);
         }
         Ok(())
     }
 }
 
-fn picture_line<W: Write>(
+fn print_picture<W: Write>(
+    lines: &mut PlanLines,
     number: u64,
     picture: &PicturePlan,
     out: &mut W,
 ) -> Result<(), TraceError> {
-    let (poc, kind) = (picture.poc, picture.kind.nal_type);
-    let (width, height) = (picture.sps.cropped_width(), picture.sps.cropped_height());
-    writeln!(out, "{number} {poc} {kind} {width}x{height}")?;
-    Ok(())
+    match lines {
+        PlanLines::Pictures => PictureLine::new(picture).print(number, out),
+        PlanLines::Slices => {
+            PictureLine::new(picture).print(number, out)?;
+            segments(picture, out)
+        }
+        PlanLines::Outputs(outputs) => outputs.print_picture(picture, out),
+    }
 }
 
 fn segments<W: Write>(picture: &PicturePlan, out: &mut W) -> Result<(), TraceError> {

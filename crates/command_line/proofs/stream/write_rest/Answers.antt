@@ -6,5 +6,5 @@ use Rattle.command_line.proofs.stream.write_rest.Goals as goal
 pub returns-clause-answered : goal.returns-clause-answered
 returns-clause-answered g c =
     rest-by (change_of g.O.Sink.contents g.O.Sink.faults c.args.out.now c.write_last.new.out) c.args.planner.now c.args.ended false c.write_last.result c.if-ended.false
-    (rest-halted (change_of g.O.Sink.contents g.O.Sink.faults c.args.out.now c.write_last.new.out) c.args.planner.now c.halt.new.self c.halt.result.flights c.halt.result.stop c.write_last.result
+    (rest-halted (change_of g.O.Sink.contents g.O.Sink.faults c.args.out.now c.write_last.new.out) c.args.planner.now c.halt.new.self c.halt.result.flights c.halt.result.last c.halt.result.stop c.write_last.result
     c.halt.ensures.value c.halt.ensures.stop c.write_last.ensures.answered)

@@ -6,6 +6,6 @@ pub returns-in-Ok-clause-answered : goal.returns-in-Ok-clause-answered
 returns-in-Ok-clause-answered g c =
     rw c.ending.ensures (last-written g.O.Sink.contents g.O.Sink.faults c.args.out.now c.write_flights.new.out (pictures_of c.args.planned.flights) c.args.planned.stop c.in-Ok.ensures.wrote)
 
-pub returns-in-Err-clause-answered : goal.returns-in-Err-clause-answered
-returns-in-Err-clause-answered g c =
+pub returns-clause-answered : goal.returns-clause-answered
+returns-clause-answered g c =
     last-over g.O.Sink.contents g.O.Sink.faults c.args.out.now c.write_flights.new.out (pictures_of c.args.planned.flights) c.args.planned.stop c.in-Err.outcome c.in-Err.ensures.wrote

@@ -1,4 +1,4 @@
-use Rattle.std.proofs.Common.{◌<◌, slice_index_or, length, arith}
+use Rattle.std.proofs.Common.{arith}
 use Rattle.picture_plan.proofs.FirstFlags.{first_of_none, first_of_some}
 use Rattle.picture_plan.proofs.headers.first_flag.Goals as goal
 

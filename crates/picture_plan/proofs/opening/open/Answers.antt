@@ -1,4 +1,4 @@
-use Rattle.std.proofs.Common.{◌≡◌, Ok, Err, sym, ap, ◌∙◌}
+use Rattle.std.proofs.Common.{Ok, sym, ap, ◌∙◌}
 use Rattle.std.proofs.lemmas.Result.{err_from_is_err_and}
 use Rattle.spec_units.specs.Judged.{unit_of}
 use Rattle.picture_plan.specs.declared.change.Opening.{Opening}

@@ -1,4 +1,3 @@
-use Rattle.std.proofs.Common.{◌≡◌, Ok, Err, Some, None, refl, sym, ap, ◌∙◌}
 use Rattle.picture_plan.proofs.Continuing.{goes-on, stops-on, has-segments}
 use Rattle.picture_plan.proofs.slices.go_on.Goals as goal
 

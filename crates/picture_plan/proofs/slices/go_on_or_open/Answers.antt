@@ -1,4 +1,4 @@
-use Rattle.std.proofs.Common.{◌≡◌, Ok, Err, Some, None, refl, sym, ap, ◌∙◌}
+use Rattle.std.proofs.Common.{sym, ◌∙◌}
 use Rattle.picture_plan.proofs.Closings.{takes-as-ok}
 use Rattle.picture_plan.proofs.Continuing.{none-goes}
 use Rattle.picture_plan.proofs.slices.go_on_or_open.Goals as goal

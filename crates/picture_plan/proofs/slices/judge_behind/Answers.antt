@@ -1,4 +1,4 @@
-use Rattle.std.proofs.Common.{◌≡◌, Ok, Err, Some, None, refl, sym, ap, ◌∙◌}
+use Rattle.std.proofs.Common.{◌∙◌}
 use Rattle.picture_plan.proofs.Closings.{behind-nothing, behind-over, behind-broken}
 use Rattle.picture_plan.proofs.slices.judge_behind.Goals as goal
 

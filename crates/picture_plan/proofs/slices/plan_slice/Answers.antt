@@ -1,4 +1,3 @@
-use Rattle.std.proofs.Common.{◌≡◌, Ok, Err, Some, None, refl, sym, ap, ◌∙◌}
 use Rattle.picture_plan.proofs.Closings.{takes-as-ok}
 use Rattle.picture_plan.proofs.Continuing.{slice-dropped, slice-goes, slice-opens}
 use Rattle.picture_plan.proofs.slices.plan_slice.Goals as goal

@@ -1,4 +1,4 @@
-use Rattle.std.proofs.Common.{◌≡◌, Ok, Err, Some, None, refl, sym, ap, ◌∙◌}
+use Rattle.std.proofs.Common.{refl, ◌∙◌}
 use Rattle.picture_plan.proofs.Closings.{takes-nothing, takes-broken, takes-over}
 use Rattle.picture_plan.proofs.step.close_by.Goals as goal
 

@@ -1,4 +1,4 @@
-use Rattle.std.proofs.Common.{◌≡◌, Ok, Err, Some, None, refl, sym, ap, ◌∙◌}
+use Rattle.std.proofs.Common.{◌≡◌, Some, None}
 use Rattle.picture_plan.proofs.Closings.{ends-over, over-is_open}
 use Rattle.picture_plan.proofs.step.end_picture.Goals as goal
 

@@ -1,4 +1,4 @@
-use Rattle.std.proofs.Common.{◌≡◌, sym, ap}
+use Rattle.std.proofs.Common.{sym, ap}
 use Rattle.spec_units.specs.Judged.{unit_of}
 use Rattle.spec_parameter_sets.specs.PictureParameterSet.{picture_parameter_set_of}
 use Rattle.spec_parameter_sets.specs.SequenceParameterSet.{sequence_parameter_set_of}

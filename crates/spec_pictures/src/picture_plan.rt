@@ -1,11 +1,8 @@
 //! A picture whose headers are read, with all that its decoding needs.
 
-use crate::field_list::FieldList;
-use crate::pps::Pps;
-use crate::reference_pictures::Rps;
-use crate::slice::{PictureKind, SliceHeader};
-use crate::sps_ranges::Sps;
+use header_types::{FieldList, Lists, PictureKind, Pps, Rps, SliceHeader, Sps, Substream};
 use hv_base::{Bytes, Places};
+use spec_output_order::Outputs;
 
 /// A slice segment: its header, and its NAL unit.
 #[derive(Debug, Drop)]
@@ -15,6 +12,12 @@ pub struct SegmentPlan {
     pub payload: Bytes,
     /// Where emulation prevention bytes stood, each counted in bytes from the unit's first.
     pub removed: Places,
+    /// The number in the picture, from 0, of the segment that begins its slice: its own where it isn't a dependent one.
+    pub slice: usize,
+    /// The reference picture lists of the slice that it begins (8.3.4): `None` in a dependent slice segment.
+    pub lists: Option<Lists>,
+    /// The substreams of its data, each as a range of the payload: one where there is no entry point.
+    pub substreams: FieldList<Substream>,
 }
 
 /// A picture whose headers are read.
@@ -29,6 +32,8 @@ pub struct PicturePlan {
     pub poc: i32,
     /// The reference picture set.
     pub rps: Rps,
+    /// What goes out of the decoded picture buffer at this picture, and what stays there.
+    pub outputs: Outputs,
     /// The slice segments in decoding order, at least one.
     pub segments: FieldList<SegmentPlan>,
 }

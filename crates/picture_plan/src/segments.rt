@@ -1,0 +1,95 @@
+//! Slice segments as their picture holds them.
+
+ghost use Rattle.std.specs.Prelude.{◌≡◌, ◌-◌, IfOk, length, slice_get};
+ghost use Rattle.spec_slice_headers.specs.Substreams.{substream_ranges};
+ghost use Rattle.spec_units.specs.Judged.{unit_of};
+ghost use Rattle.spec_pictures.specs.Steps.{lists_of, segment_of, slice_number, slice_of};
+ghost use Rattle.picture_plan.specs.Bounds.{HasLists};
+
+use header_types::{FieldList, Lists, Rps, SliceHeader, Substream};
+use hv_base::Nal;
+use ref_picture_sets::build_lists;
+use slice_headers::substreams;
+use spec_pictures::SegmentPlan;
+use std::alloc::{AllocError, Global};
+
+/// A slice segment behind these of its picture, whose reference picture set this is.
+pub(crate) fn segment_of(
+    alloc: Global,
+    before: &[SegmentPlan],
+    rps: &Rps,
+    nal: Nal,
+    header: SliceHeader,
+) -> Result<SegmentPlan, AllocError>
+    requires { HasLists header }
+    ensures { IfOk result (λ s. s ≡ segment_of before.now rps.now (unit_of nal) header) }
+{
+    let slice = slice_number(before, &header);
+    let lists = lists_of(&header, rps);
+    match substreams_of(alloc, &nal, &header) {
+        Ok(substreams) => Ok(SegmentPlan {
+            header,
+            payload: nal.rbsp,
+            removed: nal.removed,
+            slice,
+            lists,
+            substreams,
+        }),
+        Err(error) => {
+            drop(header);
+            Err(error)
+        }
+    }
+}
+
+/// The substreams of a segment's data.
+fn substreams_of(
+    alloc: Global,
+    nal: &Nal,
+    header: &SliceHeader,
+) -> Result<FieldList<Substream>, AllocError>
+    ensures { IfOk result (λ s. s ≡ substream_ranges nal.now.rbsp nal.now.removed header.now.data_place header.now.entry_points) }
+{
+    let fields = header.fields();
+    substreams(
+        alloc,
+        nal.rbsp.as_slice(),
+        nal.removed.as_slice(),
+        fields.data_place,
+        fields.entry_points.as_slice(),
+    )
+}
+
+/// The number of the segment that begins the slice of a segment behind these.
+fn slice_number(before: &[SegmentPlan], header: &SliceHeader) -> usize
+    ensures { result ≡ slice_number before.now header.now }
+{
+    if header.fields().segment.dependent_slice_segment_flag {
+        last_slice(before)
+    } else {
+        before.len()
+    }
+}
+
+/// The number of the segment that begins the slice of the last of these.
+fn last_slice(segments: &[SegmentPlan]) -> usize
+    ensures { result ≡ slice_of (slice_get segments.now (length segments.now - 1)) }
+{
+    match segments.last() {
+        None => 0,
+        Some(segment) => segment.slice,
+    }
+}
+
+/// The reference picture lists of the slice that a segment begins.
+fn lists_of(header: &SliceHeader, rps: &Rps) -> Option<Lists>
+    requires { HasLists header.now }
+    ensures { result ≡ lists_of header.now rps.now }
+{
+    let fields = header.fields();
+    if fields.segment.dependent_slice_segment_flag {
+        None
+    } else {
+        Some(build_lists(&fields.slice, rps))
+    }
+}
