@@ -1,3 +1,4 @@
 pub mod Continuing
 pub mod Deciding
 pub mod Payloads
+pub mod Outputs

@@ -1,5 +1,5 @@
 -- The sequential decoder, as a function of the bytes.
-use Rattle.std.specs.Prelude.{◌≡◌, ℕ, ◌*◌, ◌^◌, ℤ, pos, unsigned_abs, Bool, false, ◌&&◌, List, [], ◌∷◌, ◌++◌, take, drop, Option, Some, None, Result, Ok, Err, replicate, nat_le}
+use Rattle.std.specs.Prelude.{◌≡◌, ℕ, ◌*◌, ◌^◌, ℤ, pos, unsigned_abs, Bool, false, ◌&&◌, List, [], ◌∷◌, ◌++◌, length, take, drop, Option, Some, None, Result, Ok, Err, replicate, nat_le}
 use Rattle.std.specs.Int.{int_max, int_min}
 use Rattle.std.specs.List.{All, concat}
 use Rattle.hv_base.specs.declared.breach.Breach.{Breach}
@@ -18,7 +18,8 @@ use Rattle.spec_slice_headers.specs.SliceFields.{slice_qp}
 use Rattle.spec_coding_tree.specs.declared.tree.CodingUnit.{CodingUnit}
 use Rattle.spec_coding_tree.specs.Elements.{segment_data}
 use Rattle.spec_pictures.specs.Planned.{Planned, planned_of}
-use Rattle.spec_decoder.specs.Features.{unbuilt}
+use Rattle.spec_output_order.specs.OutputOrder.{GoesOutAtOnce}
+use Rattle.spec_decoder.specs.Features.{needs_inter, unbuilt}
 
 -- the pictures in output order, each as its bytes, and how decoding ends
 pub record Decoded : Type 0 where
@@ -84,7 +85,13 @@ ending None = outcome.Ok
 ending (Some (stop.Fault f)) = outcome.Fault f
 ending (Some (stop.Limit l)) = outcome.Limit l
 
--- a picture that was decoded goes out at once: it is put out, and none is reordered
+-- the pictures up to the first that may refer to others, or isn't put out where it was decoded, go out at once, each alone;
+-- and where there is no such picture, this holds
+abbrev pub GoOutAtOnce : List PicturePlan → Type 0 → Type 0
+GoOutAtOnce [] rest = rest
+GoOutAtOnce (p ∷ pictures) rest = needs_inter p ≡ false → GoesOutAtOnce (length p.rps.marks) p.outputs × GoOutAtOnce pictures rest
+
+-- a picture that was decoded goes out at once
 abbrev pub put_out : Result (List ℕ) Outcome → Decoded → Decoded
 put_out (Err o) later = record { pictures = []; outcome = o }
 put_out (Ok bytes) later = record { pictures = bytes ∷ later.pictures; outcome = later.outcome }

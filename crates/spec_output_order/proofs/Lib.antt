@@ -1,2 +1,3 @@
 pub mod Counts
 pub mod Emptying
+pub mod AtOnce

@@ -1,5 +1,5 @@
 -- What goes out of the decoded picture buffer, in which order, and what stays there (C.5.2.2 to C.5.2.4).
-use Rattle.std.specs.Prelude.{ℕ, zero, suc, ◌+◌, ℤ, Bool, false, ◌&&◌, ◌||◌, List, [], ◌∷◌, ◌++◌, length, slice_index_or, slice_set, Option, Some, None, nat_lt, nat_le, int_le, if◌then◌else◌}
+use Rattle.std.specs.Prelude.{◌≡◌, ℕ, zero, suc, ◌+◌, ℤ, Bool, false, All, ◌&&◌, ◌||◌, List, [], ◌∷◌, ◌++◌, length, slice_index_or, slice_set, Option, Some, None, nat_lt, nat_le, int_le, if◌then◌else◌}
 use Rattle.std.specs.List.{count_by, filter}
 use Rattle.header_types.specs.declared.reference_pictures.DpbPicture.{DpbPicture}
 use Rattle.header_types.specs.declared.reference_pictures.Mark.{Mark}
@@ -120,3 +120,13 @@ outputs_of current dpb marks = outputs_from current (started current (all_marked
 -- where the input ends, all pictures that wait go out
 unfoldable pub last_outputs : List DpbPicture → List ℕ
 last_outputs dpb = (bumped 0 None dpb).out
+
+-- no picture waits
+abbrev pub NoneWaits : List DpbPicture → Type 0
+NoneWaits pictures = All (λ (p : DpbPicture). p.waiting ≡ false) pictures
+
+-- the current picture goes out at once, alone, and behind it none waits: its place is behind so many
+pub record GoesOutAtOnce (size : ℕ) (o : Outputs) : Type 0 where
+  pub before : o.before ≡ []
+  pub behind : o.behind ≡ size ∷ []
+  pub left : NoneWaits o.dpb

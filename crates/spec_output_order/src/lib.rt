@@ -6,5 +6,5 @@ mod laws;
 mod outputs;
 
 pub use current_picture::CurrentPicture;
-pub use laws::few_pictures_stay;
+pub use laws::{few_pictures_stay, lone_pictures_go_out_at_once};
 pub use outputs::Outputs;
