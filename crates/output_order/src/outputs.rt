@@ -13,7 +13,7 @@ use std::alloc::{AllocError, Global};
 /// What the current picture puts out of the decoded picture buffer, and what it leaves there (C.5.2.2, C.5.2.3), where
 /// `dpb` are the pictures there in decoding order and `marks` says how the current picture marks each of them. Pictures
 /// are named by their places in `dpb`, and the current picture by the place behind the last. `AllocError` where memory
-/// runs out, and for no other reason.
+/// runs out.
 #[tactic(auto, unfolding(spec_output_order::specs::OutputOrder::outputs_of))]
 pub fn outputs_of(
     alloc: Global,
@@ -89,8 +89,7 @@ fn end(
 }
 
 /// The places of the pictures that go out where the input ends, in output order: all that wait, where `dpb` are the
-/// pictures of the decoded picture buffer in decoding order (C.5.2.4). `AllocError` where memory runs out, and for no
-/// other reason.
+/// pictures of the decoded picture buffer in decoding order (C.5.2.4). `AllocError` where memory runs out.
 #[tactic(auto, unfolding(spec_output_order::specs::OutputOrder::last_outputs))]
 pub fn last_outputs(alloc: Global, dpb: &[DpbPicture]) -> Result<FieldList<u32>, AllocError>
     requires few { length dpb.now < 2 ^ 16 }
