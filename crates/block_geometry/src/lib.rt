@@ -1,8 +1,13 @@
-//! Where the blocks of a picture lie, and what they read around them.
+//! Where the blocks of a picture lie, what they read around them, and the orders of the places inside them.
 #![tactic(auto)]
 
+mod diagonal;
+mod kind;
+mod order;
 mod reached_rows;
 
+pub use kind::Scan;
+pub use order::{scan, scan_index};
 pub use reached_rows::needed_rows;
 
 #[cfg(test)]

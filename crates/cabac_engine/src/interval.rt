@@ -1,50 +1,53 @@
-//! The interval of arithmetic decoding, and the bins that it gives.
+//! The interval of arithmetic decoding, and the bins and samples that it gives.
 
-ghost use Rattle.std.specs.Prelude.{◌≡◌, ◌+◌, ◌*◌, ◌^◌, ◌<◌, ◌≤◌, ◌∷◌, [], length, IfSome, OnSome, false};
+ghost use Rattle.std.specs.Prelude.{◌≡◌, ◌+◌, ◌-◌, ◌*◌, ◌^◌, ◌<◌, ◌≤◌, ◌∷◌, [], length, slice_index, IfSome, OnSome, false};
 ghost use Rattle.spec_bits.specs.Bits.{bits, Finds, Gives};
-ghost use Rattle.spec_cabac.specs.Engine.{Engine, IsLive, start_at, doublings, renormalized_at, decision_at, bypass_at, terminate_at};
-ghost use Rattle.cabac_engine.specs.Steps.{Steps};
+ghost use Rattle.spec_cabac.specs.Engine.{Engine, IsLive, start_at, doublings, renormalized_at, decision_at, bypass_at, terminate_at, number_at, pcm_start_at, sample_at, pcm_end_at, is_trailing};
+ghost use Rattle.cabac_engine.specs.Steps.{Steps, state_of};
 
-use hv_bits::BitReader;
+use crate::places::{is_stop, number_at};
 use spec_cabac::{after_lps, after_mps, lps_range};
 use std::marker::Model;
 
-/// ivlCurrRange and ivlOffset, and the bits of the slice segment data that are not read yet.
+/// ivlCurrRange and ivlOffset, the bytes of a substream, and the place of the bit that is read next.
 ///
 /// A call that lacks bits answers `None` and leaves the interval and the context as they were.
 #[derive(Debug, Drop)]
 pub struct Interval<'a> {
     range: u32,
     offset: u32,
-    reader: BitReader<'a>,
+    bytes: &'a [u8],
+    at: u64,
 }
 
 impl<'a> Model for Interval<'a> {
-    ghost use Rattle.std.specs.Prelude.{◌^◌, ◌<◌, length};
+    ghost use Rattle.std.specs.Prelude.{◌^◌, ◌*◌, ◌<◌, ◌≤◌, length};
+    ghost use Rattle.spec_bits.specs.Bits.{bits};
     ghost use Rattle.spec_cabac.specs.Engine.{Engine};
 
     ghost Value = { Engine };
 
-    ghost view = { λ i. record { range = i.range; offset = i.offset; left = i.reader } };
+    ghost view = { λ i. record { range = i.range; offset = i.offset; bits = bits i.bytes.now; at = i.at } };
 
-    ghost invariant = { λ i. length i.reader < 2 ^ 63 };
+    ghost invariant = { λ i. (length i.bytes.now < 2 ^ 60) × (i.at ≤ 8 * length i.bytes.now) };
 }
 
 impl<'a> Interval<'a> {
     /// The interval before the first bin of `bytes` (9.3.2.5); `None` where there are fewer than nine bits.
-    #[tactic(auto, unfolding(spec_cabac::specs::Engine::start_at))]
+    #[tactic(auto, unfolding(spec_cabac::specs::Engine::started_at))]
     pub fn start(bytes: &'a [u8]) -> Option<Interval<'a>>
         requires { length bytes.now < 2 ^ 60 }
         ensures value { Finds (λ i. i) result (start_at (bits bytes.now)) }
         ensures live { IfSome result IsLive }
     {
-        let mut reader = BitReader::new(bytes);
-        let offset = reader.u(9)?;
-        Some(Interval {
+        let mut interval = Interval {
             range: 510,
-            offset: offset.min(509),
-            reader,
-        })
+            offset: 0,
+            bytes,
+            at: 0,
+        };
+        interval.pcm_end()?;
+        Some(interval)
     }
 
     /// A bin that its context decides (9.3.4.3.2). A context is 2 * pStateIdx + valMps.
@@ -79,13 +82,13 @@ impl<'a> Interval<'a> {
         ensures value { Gives result self.old self.new (bypass_at self.old) }
         ensures live { OnSome result (IsLive self.new) }
     {
-        let offset = 2 * self.offset + self.reader.u(1)?;
+        let offset = 2 * self.offset + self.number(1)?;
         let bin = self.range <= offset;
         self.offset = if bin { offset - self.range } else { offset };
         Some(bin)
     }
 
-    /// A bin before termination (9.3.4.3.5). After a 1 no bin may be asked.
+    /// A bin before termination (9.3.4.3.5). After a 1 no bin may be asked before the engine starts anew.
     #[tactic(auto, unfolding(spec_cabac::specs::Engine::terminate_at))]
     pub fn terminate(&mut self) -> Option<bool>
         requires { IsLive self.old }
@@ -102,15 +105,77 @@ impl<'a> Interval<'a> {
         }
     }
 
+    /// Behind a 1 of [`terminate`](Self::terminate), goes on to the byte at which PCM samples begin, and answers its
+    /// place; `None` where there is no such byte (7.3.8.7, 9.3.2.5).
+    #[tactic(auto, unfolding(spec_cabac::specs::Engine::pcm_start_at))]
+    pub fn after_pcm(&mut self) -> Option<u64>
+        ensures value { Gives result self.old self.new (pcm_start_at self.old) }
+    {
+        let byte = (self.at + 7) / 8;
+        if byte >= self.bytes.len() as u64 {
+            return None;
+        }
+        self.at = 8 * byte;
+        Some(byte)
+    }
+
+    /// A PCM sample of `size` bits (7.3.8.7); `None` where fewer bits are left.
+    pub fn pcm_sample(&mut self, size: u32) -> Option<u32>
+        requires { size ≤ 32 }
+        ensures value { Gives result self.old self.new (sample_at size self.old) }
+        ensures small { IfSome result (λ sample. sample < 2 ^ size) }
+    {
+        self.number(size)
+    }
+
+    /// Starts anew behind PCM samples (9.3.2.5); `None` where fewer than nine bits are left.
+    #[tactic(auto, unfolding(spec_cabac::specs::Engine::started_at))]
+    pub fn pcm_end(&mut self) -> Option<()>
+        ensures value { Steps result self.old self.new (pcm_end_at self.old) }
+        ensures live { OnSome result (IsLive self.new) }
+    {
+        let offset = self.number(9)?;
+        self.range = 510;
+        self.offset = offset.min(509);
+        Some(())
+    }
+
+    /// Whether the last bit that was read is the stop bit of rbsp_slice_segment_trailing_bits, and zero bits alone
+    /// follow it (7.3.2.10, 9.3.2.5).
+    #[tactic(auto, unfolding(spec_cabac::specs::Engine::is_trailing))]
+    pub fn is_trailing(&self) -> bool
+        ensures { result ≡ is_trailing self.now }
+    {
+        is_stop(self.bytes, self.at.saturating_sub(1))
+    }
+
     /// ivlCurrRange, ivlOffset, and how many bits are left.
     pub fn state(&self) -> [u64; 3]
-        ensures { result ≡ self.now.range ∷ self.now.offset ∷ length self.now.left ∷ [] }
+        ensures { result ≡ state_of self.now }
     {
         [
             u64::from(self.range),
             u64::from(self.offset),
-            self.reader.left(),
+            8 * self.bytes.len() as u64 - self.at,
         ]
+    }
+
+    /// The interval of these bytes whose [`state`](Self::state) this is.
+    pub fn resume(bytes: &'a [u8], state: [u64; 3]) -> Interval<'a>
+        requires size { length bytes.now < 2 ^ 60 }
+        requires low { 256 ≤ slice_index state 0 }
+        requires high { slice_index state 0 ≤ 510 }
+        requires below { slice_index state 1 < slice_index state 0 }
+        requires left { slice_index state 2 ≤ 8 * length bytes.now }
+        ensures value { (engine : Engine) → engine.bits ≡ bits bytes.now → engine.at ≤ length engine.bits → state ≡ state_of engine → result ≡ engine }
+        ensures live { IsLive result }
+    {
+        Interval {
+            range: state[0] as u32,
+            offset: state[1] as u32,
+            bytes,
+            at: 8 * bytes.len() as u64 - state[2],
+        }
     }
 
     /// Takes a range from 2 on and an offset, and doubles both until the range is at least 256 (9.3.4.3.3).
@@ -120,14 +185,30 @@ impl<'a> Interval<'a> {
         requires low { 2 ≤ range }
         requires high { range ≤ 510 }
         requires below { offset < range }
-        ensures value { Steps result self.old self.new (renormalized_at (record { range = range; offset = offset; left = self.old.left })) }
+        ensures value { Steps result self.old self.new (renormalized_at range offset self.old) }
         ensures live { OnSome result (IsLive self.new) }
     {
         let n = doublings(range);
-        let more = self.reader.u(n)?;
+        let more = self.number(n)?;
         self.range = range << n;
         self.offset = (offset << n) + more;
         Some(())
+    }
+
+    /// The number that the next `n` bits spell; `None` where fewer are left.
+    #[inline(always)]
+    fn number(&mut self, n: u32) -> Option<u32>
+        requires { n ≤ 32 }
+        ensures value { Gives result self.old self.new (number_at n self.old) }
+        ensures small { IfSome result (λ number. number < 2 ^ n) }
+        ensures range { self.new.range ≡ self.old.range }
+    {
+        if 8 * self.bytes.len() as u64 - self.at < u64::from(n) {
+            return None;
+        }
+        let number = number_at(self.bytes, self.at, n);
+        self.at += u64::from(n);
+        Some(number)
     }
 }
 

@@ -2,6 +2,7 @@
 #![tactic(auto)]
 
 mod interval;
+mod places;
 
 pub use interval::Interval;
 

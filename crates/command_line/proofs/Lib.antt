@@ -1,7 +1,2 @@
-pub mod HeadlineLaws
-pub mod Trailing
+pub mod Telling
 pub mod WordsLaws
-pub mod Writes
-pub mod Plannings
-pub mod Tellings
-pub mod Takings

@@ -5,7 +5,7 @@ use Rattle.clap.specs.declared.error.Error.{Error}
 use Rattle.clap.specs.declared.error.kind.ErrorKind.TheVariants as kind
 use Rattle.clap.specs.declared.parser.matches.ArgMatches.{ArgMatches}
 use Rattle.clap.proofs.OnLiterals.{clap_on_literals}
-use Rattle.command_line.specs.declared.words.Options.{Options}
+use Rattle.decoder.specs.declared.options.Options.{Options}
 use Rattle.command_line.specs.Words.{program_command, decode_command, faults_of, matches_of, options_of, unless_refused}
 
 is_exact : is_simple_and_free program_command ≡ true

@@ -1,7 +1,2 @@
-pub mod Reads
-pub mod Pictures
-pub mod Headline
+pub mod Telling
 pub mod Words
-pub mod Writing
-pub mod Owed
-pub mod Reading

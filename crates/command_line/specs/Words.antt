@@ -1,11 +1,11 @@
 -- The command line: which words are taken, and what they ask for.
-use Rattle.std.specs.Prelude.{ℕ, ◌≤◌, ◌+◌, ◌-◌, ◌*◌, ◌&&◌, Bool, true, false, List, [], ◌∷◌, ◌++◌, not, map, codes, bytes_eq, Option, Some, None, option_map, option_and_then, if◌then◌else◌, nat_le, string_bytes, String}
+use Rattle.std.specs.Prelude.{ℕ, ◌+◌, ◌-◌, ◌*◌, ◌&&◌, Bool, true, false, List, [], ◌∷◌, ◌++◌, not, map, codes, bytes_eq, Option, Some, None, option_map, option_and_then, if◌then◌else◌, nat_le, string_bytes, String}
 use Rattle.std.specs.Global.{Global}
 use Rattle.clap.specs.Words.{App, Kinds, Row, Rule, Text, fault_of, first_of, new_app, new_rule, subcommand_of, with_rule, with_subcommand}
 use Rattle.clap.specs.Simple.{on_top}
 use Rattle.clap.specs.declared.builder.action.ArgAction.TheVariants.{SetTrue}
 use Rattle.clap.specs.declared.builder.value_parser.ValueParser.TheVariants as vp
-use Rattle.command_line.specs.declared.words.Options.{Options}
+use Rattle.decoder.specs.declared.options.Options.{Options}
 
 -- the option of a name whose value is a whole number from 1 to most
 abbrev pub number_rule : List ℕ → ℕ → Rule
@@ -65,10 +65,6 @@ options_of rows =
       ahead = ahead;
       hash = not (is_set (first_of (codes "no-hash") rows));
     })) (number_given 16 (first_of (codes "ahead") rows))) (number_given 64 (first_of (codes "workers") rows))
-
--- the numbers are those that may be given
-abbrev pub IsInRange : Options → Type 0
-IsInRange o = (1 ≤ o.workers) × (o.workers ≤ 64) × (1 ≤ o.ahead) × (o.ahead ≤ 16)
 
 -- why the words are refused before their numbers are looked at; nothing where they aren't
 unfoldable pub faults_of : List (List ℕ) → Kinds

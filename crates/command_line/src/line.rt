@@ -2,7 +2,8 @@
 
 ghost use Rattle.std.specs.Prelude.{◌≡◌, ◌∷◌, [], ◌++◌, codes};
 ghost use Rattle.hv_base.specs.Text.{outcome_line};
-ghost use Rattle.command_line.specs.Headline.{IsToldAs, Tells, change_of};
+ghost use Rattle.decoder.specs.Headline.{change_of};
+ghost use Rattle.command_line.specs.Telling.{IsToldAs, Tells};
 
 use hv_base::Outcome;
 use hv_io::{Sink, write_all};

@@ -3,13 +3,15 @@
 ghost use Rattle.std.specs.Prelude.{◌≡◌, ◌⊎◌, ◌∷◌, [], ◌++◌, None, Some, codes};
 ghost use Rattle.hv_base.specs.declared.outcome.Outcome.{Outcome};
 ghost use Rattle.hv_base.specs.Text.{status_of, outcome_line};
-ghost use Rattle.command_line.specs.Headline.{Headline, IsComplete, IsUntouched, Tells, change_of};
-ghost use Rattle.command_line.specs.Words.{IsInRange, usage_line, words_taken};
-ghost use Rattle.command_line.specs.declared.words.Options.{Options};
+ghost use Rattle.decoder.specs.Headline.{Headline, IsComplete, change_of};
+ghost use Rattle.decoder.specs.Options.{IsInRange};
+ghost use Rattle.decoder.specs.declared.options.Options.{Options};
+ghost use Rattle.command_line.specs.Telling.{IsUntouched, Tells};
+ghost use Rattle.command_line.specs.Words.{usage_line, words_taken};
 
-use crate::decode::decode;
 use crate::line::{tell, tell_line, tell_memory};
-use crate::words::{Options, USAGE, WordsError, parse_words};
+use crate::words::{USAGE, WordsError, parse_words};
+use decoder::{Options, decode};
 use hv_base::Status;
 use hv_io::{Gate, Sink, Source};
 use std::alloc::Global;

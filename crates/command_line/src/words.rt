@@ -3,12 +3,16 @@
 ghost use Rattle.std.specs.Prelude.{◌≡◌, ◌≢◌, ◌-◌, ◌≤◌, None, Some, Err, IfOk, IfSome, false, option_and_then, option_map};
 ghost use Rattle.clap.specs.Words.{app_of, first_of, found_of, kind_of, rows_of, rule_of, subcommand_rows_of};
 ghost use Rattle.clap.specs.declared.builder.command.Command.TheViews.{out-Command};
-ghost use Rattle.command_line.specs.Words.{IsInRange, decode_command, flag_rule, is_digit, is_first_digit, is_set, number_given, number_of, number_rule, options_of, program_command, words_taken};
+ghost use Rattle.decoder.specs.Options.{IsInRange};
+ghost use Rattle.command_line.specs.Words.{decode_command, flag_rule, is_digit, is_first_digit, is_set, number_given, number_of, number_rule, options_of, program_command, words_taken};
 
 use clap::builder::ValueParser;
 use clap::error::ErrorKind;
 use clap::{Arg, ArgAction, ArgMatches, Command, Error};
 use std::alloc::{AllocError, Global};
+
+/// What the words ask for.
+pub use decoder::Options;
 
 /// What a faulty command line is answered by.
 pub(crate) const USAGE: &str = "usage: hevcdec decode|hash|list|make [options]\n";
@@ -19,17 +23,6 @@ const DEFAULT: u32 = 4;
 const MOST_WORKERS: u32 = 64;
 /// The most pictures that are decoded at once.
 const MOST_AHEAD: u32 = 16;
-
-/// What the words ask for.
-#[derive(Clone, Copy, Debug, PartialEq, Eq)]
-pub struct Options {
-    /// How many threads decode, 1 to 64.
-    pub workers: u32,
-    /// How many pictures are decoded at once, 1 to 16.
-    pub ahead: u32,
-    /// Whether planes are compared with the hashes that the stream states.
-    pub hash: bool,
-}
 
 /// Why the words weren't read.
 #[derive(Clone, Copy, Debug, PartialEq, Eq)]

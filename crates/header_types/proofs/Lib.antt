@@ -1,2 +1,3 @@
-pub mod Equal
+pub mod Copies
+pub mod Equality
 pub mod ReferencePictures

@@ -1,7 +1,9 @@
 //! A list that stands in a field.
 
+ghost use Rattle.std.specs.Cmp.Lexicographic.{lists_equiv, lists_per, pointwise};
 ghost use Rattle.std.specs.Prelude.{◌≡◌, ◌++◌, ◌∷◌, [], length, OnOk, OnErr, slice_set};
 
+use crate::exact_clone::ExactClone;
 use std::alloc::{AllocError, Global};
 use std::marker::Model;
 
@@ -68,5 +70,29 @@ impl<T: Drop> FieldList<T> {
         if place < self.items.len() {
             self.items[place] = item;
         }
+    }
+}
+
+impl<T: PartialEq> PartialEq for FieldList<T> {
+    ghost eq = { λ a b. pointwise T.eq a b };
+
+    ghost laws = { lists_per T.laws };
+
+    fn eq(&self, other: &FieldList<T>) -> bool {
+        self.as_slice() == other.as_slice()
+    }
+}
+
+impl<T: Eq> Eq for FieldList<T> {
+    ghost laws = { lists_equiv T.Eq.laws };
+}
+
+impl<T: ExactClone> Clone for FieldList<T> {
+    ghost is_clone = { λ a b. b ≡ a };
+
+    fn clone(&self) -> Result<FieldList<T>, AllocError> {
+        Ok(FieldList {
+            items: self.items.clone()?,
+        })
     }
 }

@@ -2,8 +2,7 @@
 //! field of the grammar.
 #![tactic(auto)]
 
-mod content;
-mod copies;
+mod exact_clone;
 mod field_list;
 mod former;
 mod laws;
@@ -12,7 +11,7 @@ mod profile;
 mod ref_list;
 mod reference_pictures;
 mod scaling;
-mod set_copies;
+mod shared;
 mod short_term_set;
 mod slice;
 mod sps;
@@ -20,7 +19,7 @@ mod sps_ranges;
 mod substream;
 mod weights;
 
-pub use content::{same_content, same_references};
+pub use exact_clone::ExactClone;
 pub use field_list::FieldList;
 pub use former::{Former, Sets};
 pub use laws::{same_content_is_equality, same_references_are_equality};
@@ -31,6 +30,7 @@ pub use reference_pictures::{
     DpbPicture, Lists, LongTermRef, Mark, NamedSets, PictureName, RefEntry, Rps,
 };
 pub use scaling::{ScalingList, ScalingLists};
+pub use shared::Shared;
 pub use short_term_set::{ShortTermRef, StRps};
 pub use slice::{
     Collocated, InterFields, LongTermRefs, PictureKind, ReferenceFields, SegmentFields,
@@ -43,6 +43,3 @@ pub use sps::{
 pub use sps_ranges::Sps;
 pub use substream::Substream;
 pub use weights::{ChromaWeight, LumaWeight, PredWeightTable, RefWeights};
-
-#[cfg(test)]
-mod set_tests;

@@ -4,6 +4,7 @@ ghost use Rattle.std.specs.Prelude.{◌≡◌};
 ghost use Rattle.header_types.specs.PictureParameterSet.{IsPps};
 
 use crate::scaling::ScalingLists;
+use std::alloc::AllocError;
 use std::marker::Model;
 
 /// The fields behind deblocking_filter_control_present_flag, where it is 1 (7.4.3.3).
@@ -19,7 +20,7 @@ pub struct DeblockingControl {
 
 /// The fields of a picture parameter set up to slice_segment_header_extension_present_flag (7.3.2.3). Its
 /// tiles_enabled_flag is 0.
-#[derive(Debug, Drop)]
+#[derive(Clone, Debug, PartialEq, Eq, Drop)]
 pub struct PpsFields {
     pub pps_pic_parameter_set_id: u32,
     pub pps_seq_parameter_set_id: u32,
@@ -53,7 +54,7 @@ pub struct PpsFields {
 }
 
 /// A picture parameter set, whose fields are in their ranges (7.4.3.3).
-#[derive(Debug, Drop)]
+#[derive(Debug, PartialEq, Eq, Drop)]
 pub struct Pps {
     fields: PpsFields,
 }
@@ -66,7 +67,19 @@ impl Model for Pps {
 
     ghost view = { λ p. p.fields };
 
+    ghost inverse = { λ f. record { fields = f } };
+
     ghost invariant = { λ p. IsPps p.fields };
+}
+
+impl Clone for Pps {
+    ghost is_clone = { λ a b. b ≡ a };
+
+    fn clone(&self) -> Result<Pps, AllocError> {
+        Ok(Pps {
+            fields: self.fields.clone()?,
+        })
+    }
 }
 
 impl Pps {

@@ -6,6 +6,7 @@ use crate::field_list::FieldList;
 use crate::reference_pictures::LongTermRef;
 use crate::short_term_set::StRps;
 use crate::weights::PredWeightTable;
+use std::alloc::AllocError;
 use std::marker::Model;
 
 /// What is known of a slice segment's picture before its slice is read.
@@ -16,7 +17,7 @@ pub struct PictureKind {
     /// TemporalId, below 7.
     pub temporal_id: u8,
     /// NoRaslOutputFlag of an intra random access point; false in other pictures.
-    pub no_rasl_output: bool,
+    pub no_rasl_output_flag: bool,
     /// MaxPicOrderCntLsb: from 16 to 65536.
     pub max_lsb: u32,
 }
@@ -42,7 +43,7 @@ pub struct SegmentFields {
 }
 
 /// The long-term entries of a slice segment header (7.3.6.1).
-#[derive(Debug, Drop)]
+#[derive(Clone, Debug, PartialEq, Eq, Drop)]
 pub struct LongTermRefs {
     /// num_long_term_sps: how many of the entries, the first ones, name candidates of the sequence parameter set.
     pub num_long_term_sps: u32,
@@ -57,7 +58,7 @@ pub struct Collocated {
 }
 
 /// The fields of P and B slices (7.3.6.1).
-#[derive(Debug, Drop)]
+#[derive(Clone, Debug, PartialEq, Eq, Drop)]
 pub struct InterFields {
     pub num_ref_idx_active_override_flag: bool,
     /// That of the picture parameter set where it isn't overridden.
@@ -87,7 +88,7 @@ pub struct SliceDeblocking {
 }
 
 /// The fields of a slice that say its picture's order count and the pictures kept for reference (7.3.6.1).
-#[derive(Debug, Drop)]
+#[derive(Clone, Debug, PartialEq, Eq, Drop)]
 pub struct ReferenceFields {
     /// 0 in an instantaneous decoding refresh picture.
     pub slice_pic_order_cnt_lsb: u32,
@@ -103,7 +104,7 @@ pub struct ReferenceFields {
 }
 
 /// The fields of a slice, which its dependent slice segments take too (7.3.6.1).
-#[derive(Debug, Drop)]
+#[derive(Clone, Debug, PartialEq, Eq, Drop)]
 pub struct SliceFields {
     pub slice_type: SliceType,
     /// 1 where it isn't coded.
@@ -123,7 +124,7 @@ pub struct SliceFields {
 }
 
 /// A slice segment header (7.3.6.1), with what is known of its NAL unit and its picture.
-#[derive(Debug, Drop)]
+#[derive(Clone, Debug, PartialEq, Eq, Drop)]
 pub struct SliceHeaderFields {
     /// The number of the segment's NAL unit.
     pub nal: u32,
@@ -140,7 +141,7 @@ pub struct SliceHeaderFields {
 }
 
 /// A slice segment header. Contracts see its fields.
-#[derive(Debug, Drop)]
+#[derive(Debug, PartialEq, Eq, Drop)]
 pub struct SliceHeader {
     fields: SliceHeaderFields,
 }
@@ -151,6 +152,18 @@ impl Model for SliceHeader {
     ghost Value = { SliceHeaderFields };
 
     ghost view = { λ h. h.fields };
+
+    ghost inverse = { λ f. record { fields = f } };
+}
+
+impl Clone for SliceHeader {
+    ghost is_clone = { λ a b. b ≡ a };
+
+    fn clone(&self) -> Result<SliceHeader, AllocError> {
+        Ok(SliceHeader {
+            fields: self.fields.clone()?,
+        })
+    }
 }
 
 impl SliceHeader {

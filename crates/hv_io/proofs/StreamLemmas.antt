@@ -2,7 +2,7 @@
 use Rattle.std.proofs.Common.{◌≡◌, ℕ, ◌+◌, ◌-◌, ◌≤◌, List, [], ◌++◌, length, take, drop, Option, Some, None, refl, sym, ap, ◌∙◌, append_assoc, append-nil, length-append, length-drop, take_all, arith}
 use Rattle.std.proofs.Math.Seq.{take-add, take-length, take-append-add}
 use Rattle.std.proofs.lemmas.List.{take-append-le}
-use Rattle.hv_io.specs.Streams.{Takes, Gains, GainsPrefix, Rose}
+use Rattle.hv_io.specs.Streams.{Takes, Gains, GainsPrefix}
 
 -- nothing is gained by no write
 pub Gains-nil : (a : Option (List ℕ)) → Gains a a []
@@ -61,7 +61,3 @@ Takes-append None b c first second p q = tt
 Takes-append (Some x) None c first second p q = absurd p
 Takes-append (Some x) (Some y) None first second p q = absurd q
 Takes-append (Some x) (Some y) (Some z) first second p q = p ∙ ap (λ l. first ++ l) q ∙ sym (append_assoc first second z)
-
--- a count that never falls, and rose in a part of a time, rose in all of it
-pub Rose-within : (a b c d : ℕ) → a ≤ b → b ≤ c → Rose b c → c ≤ d → Rose a d
-Rose-within a b c d before grows rose after = λ low. grind (arith, before, grows, rose, after, low)

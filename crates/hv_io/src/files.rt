@@ -1,6 +1,6 @@
 //! A source over a reader and a sink over a writer of std, as files and standard streams are.
 
-ghost use Rattle.std.specs.Prelude.{◌≡◌, ℕ, ◌<◌, ◌≤◌, [], None, IfSome, IfNone, IfOk, OnErr, is_ok};
+ghost use Rattle.std.specs.Prelude.{◌≡◌, ℕ, ◌<◌, ◌≤◌, [], None, IfSome, IfNone, IfOk, OnErr, OnOk, is_ok};
 ghost use Rattle.std.specs.Prelude.{if◌then◌else◌, length, take};
 ghost use Rattle.hv_io.specs.Files.{Counting};
 ghost use Rattle.hv_io.specs.Streams.{counted, Rose, Takes, IsSpent, Gains, GainsPrefix};
@@ -42,6 +42,7 @@ impl<R: Read> Source for FileSource<R> {
     /// The count of faults rises by one with each error of the reader, and with nothing else.
     fn read(&mut self, buf: &mut [u8]) -> Result<usize, Failed>
         ensures count { IfOk result (λ n. n ≤ length buf.old) }
+        ensures quiet { OnOk result (self.new.faults ≡ self.old.faults) }
         ensures counted { OnErr result (Rose self.old.faults self.new.faults) }
         ensures grows { self.old.faults ≤ self.new.faults }
         //
@@ -97,6 +98,7 @@ impl<W: Write> Sink for FileSink<W> {
     fn write(&mut self, piece: &[u8]) -> Result<usize, Failed>
         ensures count { IfOk result (λ n. n ≤ length piece.now) }
         ensures progress { IfOk result (λ n. 0 < length piece.now → 0 < n) }
+        ensures quiet { OnOk result (self.new.faults ≡ self.old.faults) }
         ensures counted { OnErr result (Rose self.old.faults self.new.faults) }
         ensures grows { self.old.faults ≤ self.new.faults }
         //

@@ -1,6 +1,6 @@
 //! A sink into memory that was taken before, in pieces of a given size and with failing writes.
 
-ghost use Rattle.std.specs.Prelude.{◌≡◌, ◌<◌, ◌≤◌, Some, IfOk, OnErr, length, take, vec_len, vec_capacity};
+ghost use Rattle.std.specs.Prelude.{◌≡◌, ◌<◌, ◌≤◌, Some, IfOk, OnErr, OnOk, length, take, vec_len, vec_capacity};
 ghost use Rattle.std.specs.Result.{result_ok};
 ghost use Rattle.hv_io.specs.Memory.{SinkState, fresh_sink, mem_write};
 ghost use Rattle.hv_io.specs.Streams.{Rose, Gains};
@@ -82,6 +82,7 @@ impl<'a> Sink for MemSink<'a> {
         ensures gained { IfOk result (λ n.
             Gains (Some self.old.contents) (Some self.new.contents) (take n piece.now)) }
         ensures progress { IfOk result (λ n. 0 < length piece.now → 0 < n) }
+        ensures quiet { OnOk result (self.new.faults ≡ self.old.faults) }
         ensures counted { OnErr result (Rose self.old.faults self.new.faults) }
         ensures same { OnErr result (Some self.new.contents ≡ Some self.old.contents) }
         ensures grows { self.old.faults ≤ self.new.faults }

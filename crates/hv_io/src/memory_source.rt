@@ -1,6 +1,6 @@
 //! A source over bytes in memory, in pieces of a given size and with failing reads.
 
-ghost use Rattle.std.specs.Prelude.{◌≡◌, ◌<◌, ◌≤◌, ◌++◌, Some, IfOk, OnErr, length, take, drop};
+ghost use Rattle.std.specs.Prelude.{◌≡◌, ◌<◌, ◌≤◌, ◌++◌, Some, IfOk, OnErr, OnOk, length, take, drop};
 ghost use Rattle.std.specs.Result.{result_ok};
 ghost use Rattle.hv_io.specs.Memory.{SourceState, fresh_source, mem_read};
 ghost use Rattle.hv_io.specs.Streams.{Rose, Takes, IsSpent};
@@ -61,6 +61,7 @@ impl<'a> Source for MemSource<'a> {
         ensures taken { IfOk result (λ n.
             Takes (Some self.old.left) (Some self.new.left) (take n buf.new)) }
         ensures end { IfOk result (λ n. n ≡ 0 → 0 < length buf.old → IsSpent (Some self.new.left)) }
+        ensures quiet { OnOk result (self.new.faults ≡ self.old.faults) }
         ensures counted { OnErr result (Rose self.old.faults self.new.faults) }
         ensures same { OnErr result (Some self.new.left ≡ Some self.old.left) }
         ensures grows { self.old.faults ≤ self.new.faults }

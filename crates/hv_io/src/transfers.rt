@@ -1,6 +1,6 @@
 //! Writing a whole piece, and reading a whole source, in as many calls as it takes.
 
-ghost use Rattle.std.specs.Prelude.{◌≡◌, ◌<◌, ◌≤◌, IfOk, OnOk, OnErr, length, vec_len};
+ghost use Rattle.std.specs.Prelude.{◌≡◌, ◌≢◌, ◌<◌, ◌≤◌, IfOk, OnOk, OnErr, length, vec_len};
 ghost use Rattle.hv_io.specs.Streams.{Rose, Takes, TakesSome, IsSpent, Gains, GainsPrefix};
 
 use crate::failed::Failed;
@@ -37,6 +37,7 @@ pub struct Input {
 pub fn write_all<O: Sink>(out: &mut O, piece: &[u8]) -> Result<(), Failed>
     ensures gained { OnOk result (Gains (O.contents out.old) (O.contents out.new) piece.now) }
     ensures front { OnErr result (GainsPrefix (O.contents out.old) (O.contents out.new) piece.now) }
+    ensures quiet { OnOk result (O.faults out.new ≡ O.faults out.old) }
     ensures counted { OnErr result (Rose (O.faults out.old) (O.faults out.new)) }
     ensures grows { O.faults out.old ≤ O.faults out.new }
 {
@@ -58,6 +59,7 @@ pub fn read_available<S: Source>(alloc: Global, src: &mut S) -> Input
     ensures spent { result.end ≡ InputEnd.Ended → IsSpent (S.left src.new) }
     ensures read { result.end ≡ InputEnd.Failed → Takes (S.left src.old) (S.left src.new) result.bytes.items }
     ensures failed { result.end ≡ InputEnd.Failed → Rose (S.faults src.old) (S.faults src.new) }
+    ensures quiet { result.end ≢ InputEnd.Failed → S.faults src.new ≡ S.faults src.old }
     ensures some { TakesSome (S.left src.old) (S.left src.new) }
     ensures grows { S.faults src.old ≤ S.faults src.new }
 {
@@ -77,6 +79,7 @@ fn read_through<S: Source>(alloc: Global, src: &mut S, chunk: &mut [u8]) -> Inpu
     ensures spent { result.end ≡ InputEnd.Ended → IsSpent (S.left src.new) }
     ensures read { result.end ≡ InputEnd.Failed → Takes (S.left src.old) (S.left src.new) result.bytes.items }
     ensures failed { result.end ≡ InputEnd.Failed → Rose (S.faults src.old) (S.faults src.new) }
+    ensures quiet { result.end ≢ InputEnd.Failed → S.faults src.new ≡ S.faults src.old }
     ensures some { TakesSome (S.left src.old) (S.left src.new) }
     ensures grows { S.faults src.old ≤ S.faults src.new }
 {

@@ -13,6 +13,3 @@ mod refused;
 pub use answer::Next;
 pub use framer::Framer;
 pub use laws::cuts_change_nothing;
-
-#[cfg(test)]
-mod tests;

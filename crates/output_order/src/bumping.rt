@@ -2,15 +2,15 @@
 
 ghost use Rattle.std.specs.Prelude.{◌≡◌, ◌++◌, ◌^◌, ◌<◌, ◌≤◌, OnOk, length};
 ghost use Rattle.std.specs.List.{count_by};
-ghost use Rattle.spec_output_order.specs.OutputOrder.{bumped, discarded, emptied, gone, is_crowded, is_full, is_held, put_out, waits};
+ghost use Rattle.spec_output_order.specs.OutputOrder.{bumped, bumped_at_most, discarded, is_full, is_kept, is_needed_for_output, needs_bumping, not_needed_at};
 
-use crate::held::is_held;
-use crate::waiting::next_out;
+use crate::kept::is_kept;
+use crate::next_output::next_output;
 use header_types::{DpbPicture, FieldList};
 use std::alloc::AllocError;
 
-/// Pictures go out as long as one waits and either more wait than `reorder` or at least `size` are in the buffer. Their
-/// places follow those of `out`.
+/// Pictures go out as long as one is needed for output and either more are than `reorder` or at least `size` stay in the
+/// buffer. Their places follow those of `out`.
 #[tactic(auto, unfolding(spec_output_order::specs::OutputOrder::bumped))]
 pub(crate) fn bump(
     reorder: u32,
@@ -24,11 +24,11 @@ pub(crate) fn bump(
     ensures same { length pictures.new ≡ length pictures.old }
 {
     let most = pictures.len();
-    empty(reorder, size, most, out, pictures)
+    bump_at_most(reorder, size, most, out, pictures)
 }
 
 /// The same, with at most `most` pictures.
-fn empty(
+fn bump_at_most(
     reorder: u32,
     size: Option<u64>,
     most: usize,
@@ -36,35 +36,38 @@ fn empty(
     pictures: &mut FieldList<DpbPicture>,
 ) -> Result<(), AllocError>
     requires few { length pictures.old < 2 ^ 32 }
-    ensures out { OnOk result (out.new ≡ out.old ++ (emptied reorder size most pictures.old).out) }
-    ensures left { OnOk result (pictures.new ≡ (emptied reorder size most pictures.old).left) }
+    ensures out { OnOk result (out.new ≡ out.old ++ (bumped_at_most reorder size most pictures.old).out) }
+    ensures left { OnOk result (pictures.new ≡ (bumped_at_most reorder size most pictures.old).left) }
     ensures same { length pictures.new ≡ length pictures.old }
 {
-    if most == 0 || !is_crowded(reorder, size, pictures.as_slice()) {
+    if most == 0 || !needs_bumping(reorder, size, pictures.as_slice()) {
         return Ok(());
     }
-    match next_out(pictures.as_slice()) {
+    match next_output(pictures.as_slice()) {
         None => Ok(()),
         Some(next) => {
-            out.push(next.place() as u32)?;
-            put_out(pictures, next.place());
-            empty(reorder, size, most - 1, out, pictures)
+            out.push(next.place as u32)?;
+            mark_not_needed(pictures, next.place);
+            bump_at_most(reorder, size, most - 1, out, pictures)
         }
     }
 }
 
 /// Whether a picture has to go out.
-#[tactic(auto, unfolding(spec_output_order::specs::OutputOrder::is_crowded))]
-fn is_crowded(reorder: u32, size: Option<u64>, pictures: &[DpbPicture]) -> bool
-    ensures { result ≡ is_crowded reorder size pictures.now }
+#[tactic(auto, unfolding(spec_output_order::specs::OutputOrder::needs_bumping))]
+fn needs_bumping(reorder: u32, size: Option<u64>, pictures: &[DpbPicture]) -> bool
+    ensures { result ≡ needs_bumping reorder size pictures.now }
 {
-    (reorder as usize) < waiting_count(pictures) || is_full(size, pictures)
+    (reorder as usize) < needed_count(pictures) || is_full(size, pictures)
 }
 
-fn waiting_count(pictures: &[DpbPicture]) -> usize
-    ensures { result ≡ count_by waits pictures.now }
+fn needed_count(pictures: &[DpbPicture]) -> usize
+    ensures { result ≡ count_by is_needed_for_output pictures.now }
 {
-    pictures.iter().filter(|picture| picture.waiting).count()
+    pictures
+        .iter()
+        .filter(|picture| picture.needed_for_output)
+        .count()
 }
 
 fn is_full(size: Option<u64>, pictures: &[DpbPicture]) -> bool
@@ -72,42 +75,35 @@ fn is_full(size: Option<u64>, pictures: &[DpbPicture]) -> bool
 {
     match size {
         None => false,
-        Some(size) => size <= held_count(pictures) as u64,
+        Some(size) => size <= kept_count(pictures) as u64,
     }
 }
 
-fn held_count(pictures: &[DpbPicture]) -> usize
-    ensures { result ≡ count_by is_held pictures.now }
+fn kept_count(pictures: &[DpbPicture]) -> usize
+    ensures { result ≡ count_by is_kept pictures.now }
 {
-    pictures.iter().filter(|picture| is_held(picture)).count()
+    pictures.iter().filter(|picture| is_kept(picture)).count()
 }
 
-/// All pictures that wait are discarded.
+/// No picture is needed for output any more.
 pub(crate) fn discard(pictures: &mut FieldList<DpbPicture>)
     ensures value { pictures.new ≡ discarded pictures.old }
     ensures same { length pictures.new ≡ length pictures.old }
 {
     for i in 0..pictures.len() {
-        put_out(pictures, i);
+        mark_not_needed(pictures, i);
     }
 }
 
-/// The picture at a place doesn't wait any more.
-fn put_out(pictures: &mut FieldList<DpbPicture>, place: usize)
+/// The picture at a place isn't needed for output any more.
+fn mark_not_needed(pictures: &mut FieldList<DpbPicture>, place: usize)
     requires { place < length pictures.old }
-    ensures value { pictures.new ≡ put_out pictures.old place }
+    ensures value { pictures.new ≡ not_needed_at pictures.old place }
     ensures same { length pictures.new ≡ length pictures.old }
 {
-    let picture = gone(&pictures.as_slice()[place]);
+    let picture = DpbPicture {
+        needed_for_output: false,
+        ..pictures.as_slice()[place]
+    };
     pictures.set(place, picture);
-}
-
-fn gone(picture: &DpbPicture) -> DpbPicture
-    ensures { result ≡ gone picture.now }
-{
-    DpbPicture {
-        poc: picture.poc,
-        mark: picture.mark,
-        waiting: false,
-    }
 }

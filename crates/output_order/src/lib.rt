@@ -2,12 +2,9 @@
 #![tactic(auto)]
 
 mod bumping;
-mod held;
+mod kept;
 mod marking;
+mod next_output;
 mod outputs;
-mod waiting;
 
 pub use outputs::{last_outputs, outputs_of};
-
-#[cfg(test)]
-mod output_tests;

@@ -26,9 +26,5 @@ pub(crate) fn all_marked(
 fn marked(picture: &DpbPicture, mark: Mark) -> DpbPicture
     ensures { result ≡ marked picture.now mark }
 {
-    DpbPicture {
-        poc: picture.poc,
-        mark,
-        waiting: picture.waiting,
-    }
+    DpbPicture { mark, ..*picture }
 }

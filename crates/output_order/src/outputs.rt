@@ -4,10 +4,11 @@ ghost use Rattle.std.specs.Prelude.{◌≡◌, ◌^◌, ◌<◌, IfOk, OnOk, ◌
 ghost use Rattle.spec_output_order.specs.OutputOrder.{ended, last_outputs, outputs_of, started};
 
 use crate::bumping::{bump, discard};
-use crate::held::{held, held_places};
+use crate::kept::{kept_pictures, kept_places};
 use crate::marking::all_marked;
 use header_types::{DpbPicture, FieldList, Mark};
-use spec_output_order::{CurrentPicture, Outputs};
+use plan_types::Outputs;
+use spec_output_order::CurrentPicture;
 use std::alloc::{AllocError, Global};
 
 /// What the current picture puts out of the decoded picture buffer, and what it leaves there (C.5.2.2, C.5.2.3), where
@@ -29,8 +30,8 @@ pub fn outputs_of(
     start(current, &mut before, &mut pictures)?;
     let mut behind = FieldList::new(alloc);
     end(current, &mut behind, &mut pictures)?;
-    let kept = held_places(alloc, pictures.as_slice())?;
-    let dpb = held(alloc, pictures.as_slice())?;
+    let kept = kept_places(alloc, pictures.as_slice())?;
+    let dpb = kept_pictures(alloc, pictures.as_slice())?;
     Ok(Outputs {
         before,
         behind,
@@ -39,8 +40,8 @@ pub fn outputs_of(
     })
 }
 
-/// Before the current picture is decoded: where it begins anew the pictures that wait are discarded or all go out, else
-/// pictures go out until there is room (C.5.2.2).
+/// Before the current picture is decoded: where it begins anew the pictures that are needed for output are discarded or
+/// all go out, else pictures go out until there is room (C.5.2.2).
 #[tactic(auto, unfolding(spec_output_order::specs::OutputOrder::started))]
 fn start(
     current: CurrentPicture,
@@ -60,7 +61,7 @@ fn start(
             out,
             pictures,
         )
-    } else if current.no_output_of_prior_pics {
+    } else if current.no_output_of_prior_pics_flag {
         discard(pictures);
         Ok(())
     } else {
@@ -68,7 +69,8 @@ fn start(
     }
 }
 
-/// The current picture enters the buffer, and pictures go out until no more wait than may be reordered (C.5.2.3).
+/// The current picture enters the buffer, and pictures go out until no more are needed for output than may be
+/// reordered (C.5.2.3).
 #[tactic(auto, unfolding(spec_output_order::specs::OutputOrder::ended))]
 fn end(
     current: CurrentPicture,
@@ -83,13 +85,13 @@ fn end(
     pictures.push(DpbPicture {
         poc: current.poc,
         mark: Mark::Short,
-        waiting: current.pic_output,
+        needed_for_output: current.pic_output_flag,
     })?;
     bump(current.ordering.max_num_reorder_pics, None, out, pictures)
 }
 
-/// The places of the pictures that go out where the input ends, in output order: all that wait, where `dpb` are the
-/// pictures of the decoded picture buffer in decoding order (C.5.2.4). `AllocError` where memory runs out.
+/// The places of the pictures that go out where the input ends, in output order: all that are needed for output, where
+/// `dpb` are the pictures of the decoded picture buffer in decoding order (C.5.2.4). `AllocError` where memory runs out.
 #[tactic(auto, unfolding(spec_output_order::specs::OutputOrder::last_outputs))]
 pub fn last_outputs(alloc: Global, dpb: &[DpbPicture]) -> Result<FieldList<u32>, AllocError>
     requires few { length dpb.now < 2 ^ 16 }

@@ -1,2 +1,1 @@
-mod ListLoops
-pub mod ShortTermSets
+pub mod ListLoops

@@ -4,7 +4,7 @@ ghost use Rattle.std.specs.Prelude.{◌≡◌, ◌≤◌, IfOk};
 ghost use Rattle.spec_parameter_sets.specs.Scaling.{default_lists, default_lists_of};
 ghost use Rattle.spec_parameter_sets.specs.PictureScaling.{picture_scaling_lists};
 
-use crate::scaling::{copy_of, default_list, list_count};
+use crate::scaling::{default_list, list_count};
 use header_types::{FieldList, PpsFields, ScalingList, ScalingLists, SpsFields};
 use std::alloc::{AllocError, Global};
 
@@ -39,20 +39,6 @@ pub fn default_scaling_lists(alloc: Global) -> Result<ScalingLists, AllocError>
     })
 }
 
-/// A copy of lists.
-fn copy_of_all(alloc: Global, lists: &ScalingLists) -> Result<ScalingLists, AllocError>
-    ensures { IfOk result (λ s. s ≡ lists.now) }
-{
-    let mut copies = Vec::new(alloc);
-    for list in lists.lists.as_slice() {
-        let copy = copy_of(alloc, list)?;
-        copies.push(copy)?;
-    }
-    Ok(ScalingLists {
-        lists: FieldList::from_items(copies),
-    })
-}
-
 /// The lists that scale a picture of these sets: those of the picture parameter set, or else of the sequence parameter set,
 /// or else the default lists; none where scaling_list_enabled_flag is 0, and each factor is 16.
 #[tactic(auto, unfolding(spec_parameter_sets::specs::PictureScaling::picture_scaling_lists))]
@@ -67,8 +53,8 @@ pub fn picture_scaling_lists(
         return Ok(None);
     }
     let lists = match (&pps.scaling_lists, &sps.scaling_lists) {
-        (Some(lists), _) => copy_of_all(alloc, lists)?,
-        (None, Some(lists)) => copy_of_all(alloc, lists)?,
+        (Some(lists), _) => lists.clone()?,
+        (None, Some(lists)) => lists.clone()?,
         (None, None) => default_scaling_lists(alloc)?,
     };
     Ok(Some(lists))

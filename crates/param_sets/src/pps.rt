@@ -1,65 +1,57 @@
 //! Picture parameter sets (7.3.2.3, 7.4.3.3).
 
 ghost use Rattle.std.specs.Prelude.{◌≡◌, ℕ, pos, neg_ℤ, ◌≤ℤ◌, List, IfOk, IfSome};
+ghost use Rattle.header_fields.specs.Takes.{Takes};
 ghost use Rattle.header_types.specs.Scaling.{IsScalingLists};
 ghost use Rattle.header_types.specs.PictureParameterSet.{IsWithin, IsDeblockingControl, IsPps};
-ghost use Rattle.spec_fields.specs.Fields.{Reads, Parses, optional, ue};
+ghost use Rattle.spec_formats.specs.Fields.{Parses, optional, ue};
 ghost use Rattle.spec_parameter_sets.specs.Scaling.{scaling_list_data};
-ghost use Rattle.spec_parameter_sets.specs.PictureParameterSet.{rules, deblocking_offsets, deblocking_control, picture_parameter_set, picture_parameter_set_of};
+ghost use Rattle.spec_parameter_sets.specs.PictureParameterSet.{deblocking_offset, deblocking_control, picture_parameter_set, picture_parameter_set_of};
 
 use crate::scaling::read_scaling_list_data;
-use header_fields::{flag, se_within, u, ue, ue_to};
+use header_fields::FieldReader;
 use header_types::{DeblockingControl, Pps, PpsFields, ScalingLists};
 use hv_base::{LimitKind, PARAMETER_SET_RULES, Refusal};
-use hv_bits::BitReader;
 use std::alloc::Global;
 
 fn read_diff_cu_qp_delta_depth<'a>(
-    reader: &mut BitReader<'a>,
+    reader: &mut FieldReader<'a>,
     enabled: bool,
 ) -> Result<Option<u32>, Refusal>
-    ensures { Reads (λ x. x) result reader.new (optional enabled (ue rules) reader.old) }
+    ensures { Takes (λ x. x) result reader.old reader.new (optional enabled ue) }
 {
     if !enabled {
         return Ok(None);
     }
-    Ok(Some(ue(reader, PARAMETER_SET_RULES)?))
+    Ok(Some(reader.ue()?))
 }
 
-#[tactic(auto, unfolding(spec_parameter_sets::specs::PictureParameterSet::deblocking_offsets))]
-fn read_deblocking_offsets<'a>(
-    reader: &mut BitReader<'a>,
-    disabled: bool,
-) -> Result<(i32, i32), Refusal>
-    ensures beta { IfOk result (λ o. IsWithin 6 6 o.0) }
-    ensures tc { IfOk result (λ o. IsWithin 6 6 o.1) }
-    ensures value { Reads (λ x. x) result reader.new (deblocking_offsets disabled reader.old) }
+#[tactic(auto, unfolding(spec_parameter_sets::specs::PictureParameterSet::deblocking_offset))]
+fn read_deblocking_offset<'a>(reader: &mut FieldReader<'a>, disabled: bool) -> Result<i32, Refusal>
+    ensures in_range { IfOk result (IsWithin 6 6) }
+    ensures value { Takes (λ x. x) result reader.old reader.new (deblocking_offset disabled) }
 {
     if disabled {
-        return Ok((0, 0));
+        return Ok(0);
     }
-    let beta = se_within(reader, PARAMETER_SET_RULES, 6, 6)?;
-    let tc = se_within(reader, PARAMETER_SET_RULES, 6, 6)?;
-    Ok((beta, tc))
+    reader.se_within(6, 6)
 }
 
 #[tactic(auto, unfolding(spec_parameter_sets::specs::PictureParameterSet::deblocking_control))]
 fn read_deblocking_control<'a>(
-    reader: &mut BitReader<'a>,
+    reader: &mut FieldReader<'a>,
     present: bool,
 ) -> Result<Option<DeblockingControl>, Refusal>
     ensures in_range { IfOk result (λ d. IfSome d IsDeblockingControl) }
-    ensures value { Reads (λ x. x) result reader.new (optional present deblocking_control reader.old) }
+    ensures value { Takes (λ x. x) result reader.old reader.new (optional present deblocking_control) }
 {
     if !present {
         return Ok(None);
     }
-    let deblocking_filter_override_enabled_flag = flag(reader, PARAMETER_SET_RULES)?;
-    let pps_deblocking_filter_disabled_flag = flag(reader, PARAMETER_SET_RULES)?;
-    let (pps_beta_offset_div2, pps_tc_offset_div2) = read_deblocking_offsets(
-        reader,
-        pps_deblocking_filter_disabled_flag,
-    )?;
+    let deblocking_filter_override_enabled_flag = reader.flag()?;
+    let pps_deblocking_filter_disabled_flag = reader.flag()?;
+    let pps_beta_offset_div2 = read_deblocking_offset(reader, pps_deblocking_filter_disabled_flag)?;
+    let pps_tc_offset_div2 = read_deblocking_offset(reader, pps_deblocking_filter_disabled_flag)?;
     Ok(Some(DeblockingControl {
         deblocking_filter_override_enabled_flag,
         pps_deblocking_filter_disabled_flag,
@@ -70,11 +62,11 @@ fn read_deblocking_control<'a>(
 
 pub(crate) fn read_scaling_lists<'a>(
     alloc: Global,
-    reader: &mut BitReader<'a>,
+    reader: &mut FieldReader<'a>,
     present: bool,
 ) -> Result<Option<ScalingLists>, Refusal>
     ensures in_range { IfOk result (λ s. IfSome s IsScalingLists) }
-    ensures value { Reads (λ x. x) result reader.new (optional present scaling_list_data reader.old) }
+    ensures value { Takes (λ x. x) result reader.old reader.new (optional present scaling_list_data) }
 {
     if !present {
         return Ok(None);
@@ -83,46 +75,46 @@ pub(crate) fn read_scaling_lists<'a>(
 }
 
 #[tactic(auto, unfolding(spec_parameter_sets::specs::PictureParameterSet::picture_parameter_set))]
-fn read_fields<'a>(alloc: Global, reader: &mut BitReader<'a>) -> Result<PpsFields, Refusal>
+fn read_fields<'a>(alloc: Global, reader: &mut FieldReader<'a>) -> Result<PpsFields, Refusal>
     ensures in_range { IfOk result (λ p. IsPps p) }
-    ensures value { Reads (λ x. x) result reader.new (picture_parameter_set reader.old) }
+    ensures value { Takes (λ x. x) result reader.old reader.new picture_parameter_set }
 {
-    let pps_pic_parameter_set_id = ue_to(reader, PARAMETER_SET_RULES, 63)?;
-    let pps_seq_parameter_set_id = ue_to(reader, PARAMETER_SET_RULES, 15)?;
-    let dependent_slice_segments_enabled_flag = flag(reader, PARAMETER_SET_RULES)?;
-    let output_flag_present_flag = flag(reader, PARAMETER_SET_RULES)?;
-    let num_extra_slice_header_bits = u(reader, PARAMETER_SET_RULES, 3)?;
-    let sign_data_hiding_enabled_flag = flag(reader, PARAMETER_SET_RULES)?;
-    let cabac_init_present_flag = flag(reader, PARAMETER_SET_RULES)?;
-    let num_ref_idx_l0_default_active_minus1 = ue_to(reader, PARAMETER_SET_RULES, 14)?;
-    let num_ref_idx_l1_default_active_minus1 = ue_to(reader, PARAMETER_SET_RULES, 14)?;
-    let init_qp_minus26 = se_within(reader, PARAMETER_SET_RULES, 26, 25)?;
-    let constrained_intra_pred_flag = flag(reader, PARAMETER_SET_RULES)?;
-    let transform_skip_enabled_flag = flag(reader, PARAMETER_SET_RULES)?;
-    let cu_qp_delta_enabled_flag = flag(reader, PARAMETER_SET_RULES)?;
+    let pps_pic_parameter_set_id = reader.ue_to(63)?;
+    let pps_seq_parameter_set_id = reader.ue_to(15)?;
+    let dependent_slice_segments_enabled_flag = reader.flag()?;
+    let output_flag_present_flag = reader.flag()?;
+    let num_extra_slice_header_bits = reader.u(3)?;
+    let sign_data_hiding_enabled_flag = reader.flag()?;
+    let cabac_init_present_flag = reader.flag()?;
+    let num_ref_idx_l0_default_active_minus1 = reader.ue_to(14)?;
+    let num_ref_idx_l1_default_active_minus1 = reader.ue_to(14)?;
+    let init_qp_minus26 = reader.se_within(26, 25)?;
+    let constrained_intra_pred_flag = reader.flag()?;
+    let transform_skip_enabled_flag = reader.flag()?;
+    let cu_qp_delta_enabled_flag = reader.flag()?;
     let diff_cu_qp_delta_depth = read_diff_cu_qp_delta_depth(reader, cu_qp_delta_enabled_flag)?;
-    let pps_cb_qp_offset = se_within(reader, PARAMETER_SET_RULES, 12, 12)?;
-    let pps_cr_qp_offset = se_within(reader, PARAMETER_SET_RULES, 12, 12)?;
-    let pps_slice_chroma_qp_offsets_present_flag = flag(reader, PARAMETER_SET_RULES)?;
-    let weighted_pred_flag = flag(reader, PARAMETER_SET_RULES)?;
-    let weighted_bipred_flag = flag(reader, PARAMETER_SET_RULES)?;
-    let transquant_bypass_enabled_flag = flag(reader, PARAMETER_SET_RULES)?;
-    let tiles_enabled_flag = flag(reader, PARAMETER_SET_RULES)?;
+    let pps_cb_qp_offset = reader.se_within(12, 12)?;
+    let pps_cr_qp_offset = reader.se_within(12, 12)?;
+    let pps_slice_chroma_qp_offsets_present_flag = reader.flag()?;
+    let weighted_pred_flag = reader.flag()?;
+    let weighted_bipred_flag = reader.flag()?;
+    let transquant_bypass_enabled_flag = reader.flag()?;
+    let tiles_enabled_flag = reader.flag()?;
     if tiles_enabled_flag {
         return Err(Refusal::Limit(LimitKind::Tiles));
     }
-    let entropy_coding_sync_enabled_flag = flag(reader, PARAMETER_SET_RULES)?;
-    let pps_loop_filter_across_slices_enabled_flag = flag(reader, PARAMETER_SET_RULES)?;
-    let deblocking_filter_control_present_flag = flag(reader, PARAMETER_SET_RULES)?;
+    let entropy_coding_sync_enabled_flag = reader.flag()?;
+    let pps_loop_filter_across_slices_enabled_flag = reader.flag()?;
+    let deblocking_filter_control_present_flag = reader.flag()?;
     let deblocking_control = read_deblocking_control(
         reader,
         deblocking_filter_control_present_flag,
     )?;
-    let pps_scaling_list_data_present_flag = flag(reader, PARAMETER_SET_RULES)?;
+    let pps_scaling_list_data_present_flag = reader.flag()?;
     let scaling_lists = read_scaling_lists(alloc, reader, pps_scaling_list_data_present_flag)?;
-    let lists_modification_present_flag = flag(reader, PARAMETER_SET_RULES)?;
-    let log2_parallel_merge_level_minus2 = ue(reader, PARAMETER_SET_RULES)?;
-    let slice_segment_header_extension_present_flag = flag(reader, PARAMETER_SET_RULES)?;
+    let lists_modification_present_flag = reader.flag()?;
+    let log2_parallel_merge_level_minus2 = reader.ue()?;
+    let slice_segment_header_extension_present_flag = reader.flag()?;
     Ok(PpsFields {
         pps_pic_parameter_set_id,
         pps_seq_parameter_set_id,
@@ -164,7 +156,7 @@ fn read_fields<'a>(alloc: Global, reader: &mut BitReader<'a>) -> Result<PpsField
 pub fn read_pps(alloc: Global, rbsp: &[u8]) -> Result<Pps, Refusal>
     ensures { Parses (λ p. p) result (picture_parameter_set_of rbsp.now) }
 {
-    let mut reader = BitReader::new(rbsp);
+    let mut reader = FieldReader::new(rbsp, PARAMETER_SET_RULES);
     let fields = read_fields(alloc, &mut reader)?;
     Ok(Pps::new(fields))
 }

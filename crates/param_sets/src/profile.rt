@@ -1,13 +1,13 @@
 //! Profile, tier and level (7.3.3, 7.4.4).
 
 ghost use Rattle.std.specs.Prelude.{◌≡◌, ◌≤◌, true, false};
-ghost use Rattle.spec_fields.specs.Fields.{Reads, optional, repeated, each, u};
-ghost use Rattle.spec_parameter_sets.specs.ProfileTierLevel.{rules, is_main, reserved_44bits, profile, sub_layer_flags, reserved_2bits, sub_layer, profile_tier_level};
+ghost use Rattle.header_fields.specs.Takes.{Takes};
+ghost use Rattle.spec_formats.specs.Fields.{optional, repeated, each, u};
+ghost use Rattle.spec_parameter_sets.specs.ProfileTierLevel.{is_main, reserved_44bits, profile, sub_layer_flags, reserved_2bits, sub_layer, profile_tier_level};
 
-use header_fields::{flag, u};
+use header_fields::FieldReader;
 use header_types::{FieldList, Profile, ProfileTierLevel, SubLayerProfile};
-use hv_base::{FaultKind, PARAMETER_SET_RULES, Refusal};
-use hv_bits::BitReader;
+use hv_base::{FaultKind, Refusal};
 use std::alloc::Global;
 
 /// Whether the stream conforms to the Main profile (A.3.2).
@@ -18,29 +18,29 @@ fn is_main(profile_idc: u32, profile_compatibility_flags: u32) -> bool
 }
 
 #[tactic(auto, unfolding(spec_parameter_sets::specs::ProfileTierLevel::reserved_44bits))]
-fn read_reserved_44bits<'a>(reader: &mut BitReader<'a>) -> Result<u64, Refusal>
-    ensures { Reads (λ x. x) result reader.new (reserved_44bits reader.old) }
+fn read_reserved_44bits<'a>(reader: &mut FieldReader<'a>) -> Result<u64, Refusal>
+    ensures { Takes (λ x. x) result reader.old reader.new reserved_44bits }
 {
-    let high = u(reader, PARAMETER_SET_RULES, 32)?;
-    let low = u(reader, PARAMETER_SET_RULES, 12)?;
+    let high = reader.u(32)?;
+    let low = reader.u(12)?;
     Ok(u64::from(high) * 4096 + u64::from(low))
 }
 
 #[tactic(auto, unfolding(spec_parameter_sets::specs::ProfileTierLevel::profile))]
-fn read_profile<'a>(reader: &mut BitReader<'a>, is_general: bool) -> Result<Profile, Refusal>
-    ensures { Reads (λ x. x) result reader.new (profile is_general reader.old) }
+fn read_profile<'a>(reader: &mut FieldReader<'a>, is_general: bool) -> Result<Profile, Refusal>
+    ensures { Takes (λ x. x) result reader.old reader.new (profile is_general) }
 {
-    let profile_space = u(reader, PARAMETER_SET_RULES, 2)? as u8;
-    let tier_flag = flag(reader, PARAMETER_SET_RULES)?;
-    let profile_idc = u(reader, PARAMETER_SET_RULES, 5)?;
-    let profile_compatibility_flags = u(reader, PARAMETER_SET_RULES, 32)?;
+    let profile_space = reader.u(2)? as u8;
+    let tier_flag = reader.flag()?;
+    let profile_idc = reader.u(5)?;
+    let profile_compatibility_flags = reader.u(32)?;
     if is_general && !is_main(profile_idc, profile_compatibility_flags) {
         return Err(Refusal::Fault(FaultKind::Profile));
     }
-    let progressive_source_flag = flag(reader, PARAMETER_SET_RULES)?;
-    let interlaced_source_flag = flag(reader, PARAMETER_SET_RULES)?;
-    let non_packed_constraint_flag = flag(reader, PARAMETER_SET_RULES)?;
-    let frame_only_constraint_flag = flag(reader, PARAMETER_SET_RULES)?;
+    let progressive_source_flag = reader.flag()?;
+    let interlaced_source_flag = reader.flag()?;
+    let non_packed_constraint_flag = reader.flag()?;
+    let frame_only_constraint_flag = reader.flag()?;
     let reserved_zero_44bits = read_reserved_44bits(reader)?;
     Ok(Profile {
         profile_space,
@@ -57,21 +57,21 @@ fn read_profile<'a>(reader: &mut BitReader<'a>, is_general: bool) -> Result<Prof
 
 /// sub_layer_profile_present_flag and sub_layer_level_present_flag of one sub-layer.
 #[tactic(auto, unfolding(spec_parameter_sets::specs::ProfileTierLevel::sub_layer_flags))]
-fn read_sub_layer_flags<'a>(reader: &mut BitReader<'a>) -> Result<(bool, bool), Refusal>
-    ensures { Reads (λ x. x) result reader.new (sub_layer_flags reader.old) }
+fn read_sub_layer_flags<'a>(reader: &mut FieldReader<'a>) -> Result<(bool, bool), Refusal>
+    ensures { Takes (λ x. x) result reader.old reader.new sub_layer_flags }
 {
-    let profile_present = flag(reader, PARAMETER_SET_RULES)?;
-    let level_present = flag(reader, PARAMETER_SET_RULES)?;
+    let profile_present = reader.flag()?;
+    let level_present = reader.flag()?;
     Ok((profile_present, level_present))
 }
 
 /// Those flags of `count` sub-layers.
 fn read_present<'a>(
     alloc: Global,
-    reader: &mut BitReader<'a>,
+    reader: &mut FieldReader<'a>,
     count: u32,
 ) -> Result<Vec<(bool, bool)>, Refusal>
-    ensures { Reads (λ v. v.items) result reader.new (repeated count sub_layer_flags reader.old) }
+    ensures { Takes (λ v. v.items) result reader.old reader.new (repeated count sub_layer_flags) }
 {
     let mut present = Vec::new(alloc);
     for _ in 0..count {
@@ -82,21 +82,21 @@ fn read_present<'a>(
 
 /// reserved_zero_2bits of the sub-layers that aren't there up to the eighth, where `lower` aren't the highest.
 #[tactic(auto, unfolding(spec_parameter_sets::specs::ProfileTierLevel::reserved_2bits))]
-fn read_reserved_2bits<'a>(reader: &mut BitReader<'a>, lower: u32) -> Result<u32, Refusal>
+fn read_reserved_2bits<'a>(reader: &mut FieldReader<'a>, lower: u32) -> Result<u32, Refusal>
     requires { lower ≤ 6 }
-    ensures { Reads (λ x. x) result reader.new (reserved_2bits lower reader.old) }
+    ensures { Takes (λ x. x) result reader.old reader.new (reserved_2bits lower) }
 {
     match lower {
         0 => Ok(0),
-        _ => u(reader, PARAMETER_SET_RULES, 2 * (8 - lower)),
+        _ => reader.u(2 * (8 - lower)),
     }
 }
 
 fn read_sub_layer_profile<'a>(
-    reader: &mut BitReader<'a>,
+    reader: &mut FieldReader<'a>,
     present: bool,
 ) -> Result<Option<Profile>, Refusal>
-    ensures { Reads (λ x. x) result reader.new (optional present (profile false) reader.old) }
+    ensures { Takes (λ x. x) result reader.old reader.new (optional present (profile false)) }
 {
     if !present {
         return Ok(None);
@@ -105,23 +105,23 @@ fn read_sub_layer_profile<'a>(
 }
 
 fn read_sub_layer_level<'a>(
-    reader: &mut BitReader<'a>,
+    reader: &mut FieldReader<'a>,
     present: bool,
 ) -> Result<Option<u8>, Refusal>
-    ensures { Reads (λ x. x) result reader.new (optional present (u rules 8) reader.old) }
+    ensures { Takes (λ x. x) result reader.old reader.new (optional present (u 8)) }
 {
     if !present {
         return Ok(None);
     }
-    Ok(Some(u(reader, PARAMETER_SET_RULES, 8)? as u8))
+    Ok(Some(reader.u(8)? as u8))
 }
 
 #[tactic(auto, unfolding(spec_parameter_sets::specs::ProfileTierLevel::sub_layer))]
 fn read_sub_layer<'a>(
-    reader: &mut BitReader<'a>,
+    reader: &mut FieldReader<'a>,
     present: (bool, bool),
 ) -> Result<SubLayerProfile, Refusal>
-    ensures { Reads (λ x. x) result reader.new (sub_layer present reader.old) }
+    ensures { Takes (λ x. x) result reader.old reader.new (sub_layer present) }
 {
     let profile = read_sub_layer_profile(reader, present.0)?;
     let level_idc = read_sub_layer_level(reader, present.1)?;
@@ -131,10 +131,10 @@ fn read_sub_layer<'a>(
 /// What is said of each sub-layer, of which `present` tells what is there.
 fn read_sub_layers<'a>(
     alloc: Global,
-    reader: &mut BitReader<'a>,
+    reader: &mut FieldReader<'a>,
     present: &[(bool, bool)],
 ) -> Result<FieldList<SubLayerProfile>, Refusal>
-    ensures { Reads (λ x. x) result reader.new (each sub_layer present.now reader.old) }
+    ensures { Takes (λ x. x) result reader.old reader.new (each sub_layer present.now) }
 {
     let mut sub_layers = FieldList::new(alloc);
     for flags in present {
@@ -147,14 +147,14 @@ fn read_sub_layers<'a>(
 #[tactic(auto, unfolding(spec_parameter_sets::specs::ProfileTierLevel::profile_tier_level))]
 pub(crate) fn read_profile_tier_level<'a>(
     alloc: Global,
-    reader: &mut BitReader<'a>,
+    reader: &mut FieldReader<'a>,
     max_sub_layers_minus1: u32,
 ) -> Result<ProfileTierLevel, Refusal>
     requires { max_sub_layers_minus1 ≤ 6 }
-    ensures { Reads (λ x. x) result reader.new (profile_tier_level max_sub_layers_minus1 reader.old) }
+    ensures { Takes (λ x. x) result reader.old reader.new (profile_tier_level max_sub_layers_minus1) }
 {
     let general = read_profile(reader, true)?;
-    let general_level_idc = u(reader, PARAMETER_SET_RULES, 8)? as u8;
+    let general_level_idc = reader.u(8)? as u8;
     let present = read_present(alloc, reader, max_sub_layers_minus1)?;
     let reserved_zero_2bits = read_reserved_2bits(reader, max_sub_layers_minus1)?;
     let sub_layers = read_sub_layers(alloc, reader, present.as_slice())?;

@@ -1,14 +1,13 @@
 //! Scaling lists (7.3.4, 7.4.5).
 
 ghost use Rattle.std.specs.Prelude.{◌≡◌, ℕ, ◌≤◌, ◌<◌, ℤ, pos, neg_ℤ, ◌≤ℤ◌, Bool, List, length, IfOk, if◌then◌else◌, nat_lt};
+ghost use Rattle.header_fields.specs.Takes.{Takes};
 ghost use Rattle.header_types.specs.Scaling.{IsScalingLists};
-ghost use Rattle.spec_fields.specs.Fields.{Reads};
 ghost use Rattle.spec_parameter_sets.specs.Scaling.{default_factors, default_list, predicted_list, next_coef, coded_factor, coded_factors, coded_dc, coded_list, scaling_list, list_count, coef_num, lists_of, scaling_list_data};
 
-use header_fields::{flag, se_within, ue_to};
+use header_fields::FieldReader;
 use header_types::{FieldList, ScalingList, ScalingLists};
-use hv_base::{PARAMETER_SET_RULES, Refusal};
-use hv_bits::BitReader;
+use hv_base::Refusal;
 use spec_parameter_sets::{DEFAULT_INTER, DEFAULT_INTRA};
 use std::alloc::{AllocError, Global};
 
@@ -60,35 +59,24 @@ pub(crate) fn default_list(alloc: Global, size: u32, matrix: u32) -> Result<Scal
     })
 }
 
-/// A copy of a list.
-pub(crate) fn copy_of(alloc: Global, list: &ScalingList) -> Result<ScalingList, AllocError>
-    ensures { IfOk result (λ l. l ≡ list.now) }
-{
-    let factors = Vec::from_slice(alloc, list.factors.as_slice())?;
-    Ok(ScalingList {
-        factors: FieldList::from_items(factors),
-        dc: list.dc,
-    })
-}
-
 /// A list that is predicted: the default list, or that of refMatrixId among the former lists of its sizeId.
 #[tactic(auto, unfolding(spec_parameter_sets::specs::Scaling::predicted_list))]
 fn read_predicted_list<'a>(
     alloc: Global,
-    reader: &mut BitReader<'a>,
+    reader: &mut FieldReader<'a>,
     size: u32,
     former: &[ScalingList],
 ) -> Result<ScalingList, Refusal>
     requires size { size ≤ 3 }
     requires former { length former.now < 6 }
-    ensures { Reads (λ x. x) result reader.new (predicted_list size former.now reader.old) }
+    ensures { Takes (λ x. x) result reader.old reader.new (predicted_list size former.now) }
 {
     let matrix = former.len();
-    let delta = ue_to(reader, PARAMETER_SET_RULES, matrix as u32)? as usize;
+    let delta = reader.ue_to(matrix as u32)? as usize;
     if delta == 0 {
         return Ok(default_list(alloc, size, matrix as u32)?);
     }
-    Ok(copy_of(alloc, &former[matrix - delta])?)
+    Ok(former[matrix - delta].clone()?)
 }
 
 /// nextCoef behind scaling_list_delta_coef.
@@ -103,25 +91,23 @@ fn next_coef(next: u8, delta: i32) -> u8
 
 /// A factor, which is the next nextCoef.
 #[tactic(auto, unfolding(spec_parameter_sets::specs::Scaling::coded_factor))]
-fn read_factor<'a>(reader: &mut BitReader<'a>, next: u8) -> Result<u8, Refusal>
-    ensures { Reads (λ x. x) result reader.new (coded_factor next reader.old) }
+fn read_factor<'a>(reader: &mut FieldReader<'a>, next: u8) -> Result<u8, Refusal>
+    ensures { Takes (λ x. x) result reader.old reader.new (coded_factor next) }
 {
-    let delta = se_within(reader, PARAMETER_SET_RULES, 128, 127)?;
+    let delta = reader.se_within(128, 127)?;
     let factor = next_coef(next, delta);
-    if factor == 0 {
-        return Err(Refusal::Fault(PARAMETER_SET_RULES.range));
-    }
+    reader.ranged(factor > 0)?;
     Ok(factor)
 }
 
 /// So many factors behind a nextCoef.
 fn read_factors<'a>(
     alloc: Global,
-    reader: &mut BitReader<'a>,
+    reader: &mut FieldReader<'a>,
     count: u32,
     first: u8,
 ) -> Result<Vec<u8>, Refusal>
-    ensures { Reads (λ v. v.items) result reader.new (coded_factors count first reader.old) }
+    ensures { Takes (λ v. v.items) result reader.old reader.new (coded_factors count first) }
 {
     let mut factors = Vec::new(alloc);
     let mut next = first;
@@ -134,13 +120,13 @@ fn read_factors<'a>(
 
 /// The factor of the DC coefficient: 16 where it isn't coded.
 #[tactic(auto, unfolding(spec_parameter_sets::specs::Scaling::coded_dc))]
-fn read_dc<'a>(reader: &mut BitReader<'a>, size: u32) -> Result<u8, Refusal>
-    ensures { Reads (λ x. x) result reader.new (coded_dc size reader.old) }
+fn read_dc<'a>(reader: &mut FieldReader<'a>, size: u32) -> Result<u8, Refusal>
+    ensures { Takes (λ x. x) result reader.old reader.new (coded_dc size) }
 {
     if size <= 1 {
         return Ok(16);
     }
-    let scaling_list_dc_coef_minus8 = se_within(reader, PARAMETER_SET_RULES, 7, 247)?;
+    let scaling_list_dc_coef_minus8 = reader.se_within(7, 247)?;
     Ok((scaling_list_dc_coef_minus8 + 8).unsigned_abs() as u8)
 }
 
@@ -148,11 +134,11 @@ fn read_dc<'a>(reader: &mut BitReader<'a>, size: u32) -> Result<u8, Refusal>
 #[tactic(auto, unfolding(spec_parameter_sets::specs::Scaling::coded_list))]
 fn read_coded_list<'a>(
     alloc: Global,
-    reader: &mut BitReader<'a>,
+    reader: &mut FieldReader<'a>,
     size: u32,
 ) -> Result<ScalingList, Refusal>
     requires { size ≤ 3 }
-    ensures { Reads (λ x. x) result reader.new (coded_list size reader.old) }
+    ensures { Takes (λ x. x) result reader.old reader.new (coded_list size) }
 {
     let dc = read_dc(reader, size)?;
     let first = if size > 1 { dc } else { 8 };
@@ -167,15 +153,15 @@ fn read_coded_list<'a>(
 #[tactic(auto, unfolding(spec_parameter_sets::specs::Scaling::scaling_list))]
 fn read_list<'a>(
     alloc: Global,
-    reader: &mut BitReader<'a>,
+    reader: &mut FieldReader<'a>,
     size: u32,
     former: &[ScalingList],
 ) -> Result<ScalingList, Refusal>
     requires size { size ≤ 3 }
     requires former { length former.now < 6 }
-    ensures { Reads (λ x. x) result reader.new (scaling_list size former.now reader.old) }
+    ensures { Takes (λ x. x) result reader.old reader.new (scaling_list size former.now) }
 {
-    let scaling_list_pred_mode_flag = flag(reader, PARAMETER_SET_RULES)?;
+    let scaling_list_pred_mode_flag = reader.flag()?;
     if scaling_list_pred_mode_flag {
         read_coded_list(alloc, reader, size)
     } else {
@@ -187,11 +173,11 @@ fn read_list<'a>(
 #[tactic(auto, unfolding(spec_parameter_sets::specs::Scaling::lists_of))]
 fn read_lists<'a>(
     alloc: Global,
-    reader: &mut BitReader<'a>,
+    reader: &mut FieldReader<'a>,
     size: u32,
 ) -> Result<Vec<ScalingList>, Refusal>
     requires { size ≤ 3 }
-    ensures { Reads (λ v. v.items) result reader.new (lists_of size reader.old) }
+    ensures { Takes (λ v. v.items) result reader.old reader.new (lists_of size) }
 {
     let count = list_count(size);
     let mut lists = Vec::new(alloc);
@@ -206,22 +192,23 @@ fn read_lists<'a>(
 ///
 /// # Errors
 ///
-/// `ParamSyntax` where it ends inside a field or has a prefix of over 31 zeros; `ParamRange` where a field is out of range
-/// or a factor is 0.
+/// The syntax rule of the reader where it ends inside a field or has a prefix of over 31 zeros; its range rule where a field
+/// is out of range or a factor is 0.
+#[tactic(auto, using(crate::proofs::ListLoops::read_in_range))]
 pub fn read_scaling_list_data<'a>(
     alloc: Global,
-    reader: &mut BitReader<'a>,
+    reader: &mut FieldReader<'a>,
 ) -> Result<ScalingLists, Refusal>
     ensures in_range { IfOk result (λ s. IsScalingLists s) }
-    ensures value { Reads (λ x. x) result reader.new (scaling_list_data reader.old) }
+    ensures value { Takes (λ x. x) result reader.old reader.new scaling_list_data }
 {
     read_all_lists(alloc, reader)
 }
 
 /// The twenty lists.
 #[tactic(auto, unfolding(spec_parameter_sets::specs::Scaling::scaling_list_data))]
-fn read_all_lists<'a>(alloc: Global, reader: &mut BitReader<'a>) -> Result<ScalingLists, Refusal>
-    ensures { Reads (λ x. x) result reader.new (scaling_list_data reader.old) }
+fn read_all_lists<'a>(alloc: Global, reader: &mut FieldReader<'a>) -> Result<ScalingLists, Refusal>
+    ensures { Takes (λ x. x) result reader.old reader.new scaling_list_data }
 {
     let mut lists = read_lists(alloc, reader, 0)?;
     let mut of_8x8 = read_lists(alloc, reader, 1)?;

@@ -18,12 +18,12 @@ use Rattle.header_types.specs.declared.short_term_set.ShortTermRef.{ShortTermRef
 use Rattle.header_types.specs.declared.slice.PictureKind.{PictureKind}
 use Rattle.header_types.specs.declared.slice.ReferenceFields.{ReferenceFields}
 use Rattle.spec_reference_pictures.specs.PictureOrderCount.{is_irap}
-use Rattle.spec_reference_pictures.specs.ReferencePictureSet.{GivesSet, found_set, is_among, is_for, is_place, is_reference, lacks_current, long_term_places, long_term_set, mark_after, named_sets, no_entry, place_of, reference_picture_set, short_term_counts, short_term_set}
+use Rattle.spec_reference_pictures.specs.ReferencePictureSet.{GivesSet, found_set, is_among, is_for, is_place, is_reference, lacks_current, long_term_places, long_term_set, mark_after, named_sets, no_entry, place_of, reference_picture_set, short_term_pocs, short_term_set}
 use Rattle.slice_headers.specs.Ranges.{AreReferences}
 use Rattle.spec_output_order.specs.declared.current_picture.CurrentPicture.{CurrentPicture}
-use Rattle.spec_output_order.specs.declared.outputs.Outputs.{Outputs}
+use Rattle.plan_types.specs.declared.outputs.Outputs.{Outputs}
 use Rattle.spec_output_order.specs.OutputOrder.{outputs_of}
-use Rattle.spec_output_order.proofs.Emptying.{few_stay}
+use Rattle.spec_output_order.proofs.Bumping.{few_stay}
 
 -- how many pictures these marks keep
 abbrev kept_count : List Mark → ℕ
@@ -177,7 +177,7 @@ few_named : (kind : PictureKind) (references : ReferenceFields) (poc : ℤ) (dpb
 unfolding named_sets
 few_named kind references poc dpb are =
     let long = long_term_places kind references.long_term poc dpb in
-    let short = short_term_counts kind long dpb in
+    let short = short_term_pocs kind long dpb in
     let negative = references.short_term_ref_pic_set.negative in
     let positive = references.short_term_ref_pic_set.positive in
     let a = few_long long true references.long_term.entries in

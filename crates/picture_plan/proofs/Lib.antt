@@ -1,10 +1,7 @@
 pub mod FirstFlags
-pub mod Judging
 pub mod KeptPictures
-pub mod Openings
 pub mod Pictures
 pub mod Closings
-pub mod Continuing
 pub mod Taking
 pub mod Whole
 pub mod OneSet

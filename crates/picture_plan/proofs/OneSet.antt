@@ -3,10 +3,10 @@ use Rattle.std.proofs.Common.{◌≡◌, ℕ, ◌≤◌, ◌<◌, Bool, true, fa
 use Rattle.std.proofs.lemmas.Bool.{leb-false}
 use Rattle.std.proofs.lemmas.List.Elements.{All-nil, All-cons, All-append}
 use Rattle.hv_base.specs.declared.refusal.Stop.{Stop}
-use Rattle.spec_pictures.specs.declared.picture_plan.PicturePlan.{PicturePlan}
+use Rattle.plan_types.specs.declared.picture_plan.PicturePlan.{PicturePlan}
 use Rattle.header_types.specs.Content.{same_content}
 use Rattle.spec_units.specs.Judged.{Told}
-use Rattle.spec_pictures.specs.declared.between.Between.{Between}
+use Rattle.plan_types.specs.declared.between.Between.{Between}
 use Rattle.spec_pictures.specs.Pictures.{beginning}
 use Rattle.spec_pictures.specs.Steps.{Stepped, close, step}
 use Rattle.picture_plan.specs.Flights.{Gathered, goes_on_with, ended, cut, joined_by, joined_with, with_picture, waiting, with_pictures, cut_at_stop}

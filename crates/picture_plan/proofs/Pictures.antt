@@ -1,7 +1,7 @@
 -- No picture is lost or doubled on its way into flights.
 use Rattle.std.proofs.Common.{◌≡◌, ℕ, Bool, true, false, List, [], ◌∷◌, ◌++◌, length, nat_le, if◌then◌else◌, Result, Ok, Err, refl, sym, ap, ◌∙◌, append_assoc, append-nil}
 use Rattle.hv_base.specs.declared.refusal.Stop.{Stop}
-use Rattle.spec_pictures.specs.declared.picture_plan.PicturePlan.{PicturePlan}
+use Rattle.plan_types.specs.declared.picture_plan.PicturePlan.{PicturePlan}
 use Rattle.picture_plan.specs.Flights.{Gathered, goes_on_with, ended, cut, cut_full, joined_by, joined_with, with_picture, with_pictures, cut_at_stop, waiting, pictures_of}
 
 pub pictures_of-append : (xs ys : List (List PicturePlan)) → pictures_of (xs ++ ys) ≡ pictures_of xs ++ pictures_of ys

@@ -1,9 +1,9 @@
 -- The flights over a whole input.
 use Rattle.std.proofs.Common.{◌≡◌, ℕ, true, List, [], ◌∷◌, ◌++◌, Some, Result, Ok, Err, refl, sym, ap, ◌∙◌, append_assoc, append-nil}
 use Rattle.hv_base.specs.declared.refusal.Stop.{Stop}
-use Rattle.spec_pictures.specs.declared.picture_plan.PicturePlan.{PicturePlan}
+use Rattle.plan_types.specs.declared.picture_plan.PicturePlan.{PicturePlan}
 use Rattle.spec_units.specs.Judged.{Told}
-use Rattle.spec_pictures.specs.declared.between.Between.{Between}
+use Rattle.plan_types.specs.declared.between.Between.{Between}
 use Rattle.spec_pictures.specs.Pictures.{beginning}
 use Rattle.spec_pictures.specs.Steps.{Stepped, close, step}
 use Rattle.spec_pictures.specs.Planned.{Planned, behind_closed, planned_next, planned_from}

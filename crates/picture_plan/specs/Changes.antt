@@ -1,61 +1,62 @@
 -- What judging a unit finds: how the open picture is closed, and what changes behind it.
-use Rattle.std.specs.Prelude.{◌≡◌, ℕ, Option, Some, None, Result, Ok, Err, slice_set}
-use Rattle.hv_base.specs.declared.fault.Fault.{Fault}
+use Rattle.std.specs.Prelude.{◌≡◌, ℕ, ◌≤◌, List, [], ◌∷◌, ◌++◌, length, Option, Some, None, IfSome, Result, Ok, Err}
 use Rattle.hv_base.specs.declared.refusal.Refusal.{Refusal}
 use Rattle.hv_base.specs.declared.refusal.Refusal.TheVariants as refusal
 use Rattle.hv_base.specs.declared.breach.Breach.TheVariants as breach
 use Rattle.hv_base.specs.declared.refusal.Stop.{Stop}
-use Rattle.spec_pictures.specs.declared.picture_plan.PicturePlan.{PicturePlan}
-use Rattle.spec_pictures.specs.declared.between.Between.{Between}
-use Rattle.spec_pictures.specs.Pictures.{former_after}
-use Rattle.spec_pictures.specs.Closing.{broken_in}
-use Rattle.spec_pictures.specs.Steps.{stop_at, sequence_end, drops_after}
+use Rattle.hv_base.specs.declared.refusal.Stop.TheVariants as stop
+use Rattle.header_types.specs.declared.former.Former.{Former}
+use Rattle.plan_types.specs.declared.picture_plan.PicturePlan.{PicturePlan}
+use Rattle.plan_types.specs.declared.segment_plan.SegmentPlan.{SegmentPlan}
+use Rattle.plan_types.specs.declared.between.Between.{Between}
+use Rattle.spec_formats.specs.Fields.{Parses}
+use Rattle.spec_units.specs.Judged.{NalUnit}
+use Rattle.spec_pictures.specs.Steps.{Stepped, begun, close, continuing, put_pps, put_sps, sequence_end, stop_at}
 use Rattle.picture_plan.specs.declared.change.Change.{Change}
 use Rattle.picture_plan.specs.declared.change.Change.TheVariants as change
-use Rattle.picture_plan.specs.declared.change.Opening.{Opening}
 use Rattle.picture_plan.specs.declared.change.Closing.{Closing}
 use Rattle.picture_plan.specs.declared.change.Closing.TheVariants as closing
 
-abbrev pub closing_by : Between → PicturePlan → Option Fault → Closing
-closing_by s p None = closing.Over (former_after s.former p)
-closing_by s p (Some f) = closing.Broken f
+abbrev pub pictures_in : Option PicturePlan → List PicturePlan
+pictures_in None = []
+pictures_in (Some p) = p ∷ []
 
-abbrev pub closing_open : Between → Option PicturePlan → Closing
-closing_open s None = closing.Nothing
-closing_open s (Some p) = closing_by s p (broken_in p)
+-- the open picture, if there is one, is over
+abbrev pub over : Between → Former → Between
+over s former = record { sets = s.sets; former = former; drops_rasl = s.drops_rasl; picture = None }
 
--- how the open picture is closed
-abbrev pub closing_of : Between → Closing
-closing_of s = closing_open s s.picture
+abbrev pub closed_over : Between → Former → Stepped
+closed_over s former = record { closed = pictures_in s.picture; next = Ok (over s former) }
 
--- what is known behind the first slice segment of a picture
-abbrev pub opened_by : Between → Opening → Between
-opened_by s o = record {
-  sets = s.sets;
-  former = record s.former { first = Some o.first; slice = Some o.slice; address = Some o.first.segment.slice_segment_address };
-  drops_rasl = drops_after s.drops_rasl o.first;
-  picture = Some o.picture;
-}
+-- this is how the open picture is closed, and few pictures are in the buffer then
+abbrev pub Closes : Closing → Between → Type 0
+Closes closing.Nothing s = (close s ≡ record { closed = []; next = Ok s }) × (s.picture ≡ None)
+Closes (closing.Broken f) s = close s ≡ record { closed = []; next = Err (stop.Fault f) }
+Closes (closing.Over former) s = (close s ≡ closed_over s former) × (length former.dpb ≤ 128)
 
--- what is known behind a change
-abbrev pub changed : Between → Change → Between
-changed s change.Nothing = s
-changed s (change.SequenceSet sps) = record s { sets = record s.sets { sps = slice_set s.sets.sps sps.sps_seq_parameter_set_id (Some sps) } }
-changed s (change.PictureSet pps) = record s { sets = record s.sets { pps = slice_set s.sets.pps pps.pps_pic_parameter_set_id (Some pps) } }
-changed s change.SequenceEnd = sequence_end s
-changed s (change.Opened o) = opened_by s o
+-- what is known behind a change, or what stops the stream
+abbrev pub applied : Between → Change → Result Between Stop
+applied s change.Nothing = Ok s
+applied s (change.SequenceSet sps) = Ok (put_sps s sps)
+applied s (change.PictureSet pps) = Ok (put_pps s pps)
+applied s change.SequenceEnd = Ok (sequence_end s)
+applied s (change.Opened p) = Ok (begun s p)
+applied s (change.Stop e) = Err e
 
--- what is known behind a unit, or what it breaks or meets
-abbrev pub applied : Between → Result Change Stop → Result Between Stop
-applied s (Err e) = Err e
-applied s (Ok c) = Ok (changed s c)
+-- this stops the stream where the unit of this number is refused so
+abbrev pub Stops : ℕ → Refusal → Stop → Type 0
+Stops nal refusal.Memory e = ⊥
+Stops nal (refusal.Fault kind) e = e ≡ stop_at nal (breach.Fault kind)
+Stops nal (refusal.Limit kind) e = e ≡ stop_at nal (breach.Limit kind)
 
--- a refusal at a unit is what stops the stream there; want of memory says nothing
-abbrev pub StopsAt : {X : Type 0} → ℕ → Refusal → Result X Stop → Type 0
-StopsAt nal refusal.Memory judged = Unit {0}
-StopsAt nal (refusal.Fault kind) judged = judged ≡ Err (stop_at nal (breach.Fault kind))
-StopsAt nal (refusal.Limit kind) judged = judged ≡ Err (stop_at nal (breach.Limit kind))
+-- a picture with one more segment
+abbrev pub one_more : PicturePlan → SegmentPlan → PicturePlan
+one_more p s = record p { segments = p.segments ++ s ∷ [] }
 
-abbrev pub JudgesAt : {X : Type 0} → ℕ → Result X Refusal → Result X Stop → Type 0
-JudgesAt nal (Ok x) judged = judged ≡ Ok x
-JudgesAt nal (Err e) judged = StopsAt nal e judged
+-- what a slice segment was read as which goes on with the open picture
+abbrev pub IsNextSegment : Result SegmentPlan Refusal → Between → NalUnit → Type 0
+IsNextSegment read s u = IfSome s.picture (λ p. Parses (one_more p) read (continuing s.sets s.former u p))
+
+abbrev pub next_of : Option Stop → Between → Result Between Stop
+next_of (Some e) s = Err e
+next_of None s = Ok s

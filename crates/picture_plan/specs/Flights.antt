@@ -2,7 +2,7 @@
 use Rattle.std.specs.Prelude.{ℕ, Bool, true, List, [], ◌∷◌, ◌++◌, length, Option, Some, None, Result, Ok, Err, nat_le, if◌then◌else◌}
 use Rattle.hv_base.specs.declared.refusal.Stop.{Stop}
 use Rattle.header_types.specs.declared.sps.SpsFields.{SpsFields}
-use Rattle.spec_pictures.specs.declared.picture_plan.PicturePlan.{PicturePlan}
+use Rattle.plan_types.specs.declared.picture_plan.PicturePlan.{PicturePlan}
 use Rattle.header_types.specs.Content.{same_content}
 
 -- the flights that ended, and the pictures that wait for theirs to end

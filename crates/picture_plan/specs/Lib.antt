@@ -1,9 +1,7 @@
 pub mod Flights
 pub mod Plans
 pub mod Changes
-pub mod Openings
 pub mod Bounds
-pub mod Held
+pub mod States
 pub mod Taken
-pub mod Continuing
 pub mod Runs

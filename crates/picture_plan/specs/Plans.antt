@@ -1,9 +1,9 @@
 -- What a planner holds, and what each of its calls gives and leaves.
 use Rattle.std.specs.Prelude.{ℕ, List, [], ◌∷◌, Option, Some, None, Result, Ok, Err}
 use Rattle.hv_base.specs.declared.refusal.Stop.{Stop}
-use Rattle.spec_pictures.specs.declared.picture_plan.PicturePlan.{PicturePlan}
+use Rattle.plan_types.specs.declared.picture_plan.PicturePlan.{PicturePlan}
 use Rattle.spec_units.specs.Judged.{Told}
-use Rattle.spec_pictures.specs.declared.between.Between.{Between}
+use Rattle.plan_types.specs.declared.between.Between.{Between}
 use Rattle.spec_pictures.specs.Steps.{Stepped, close, step}
 use Rattle.spec_pictures.specs.Planned.{last_of}
 use Rattle.picture_plan.specs.Flights.{Gathered, waiting, cut, with_pictures, cut_at_stop}

@@ -1,6 +1,6 @@
 -- What a planner gives over a whole input.
 use Rattle.std.specs.Prelude.{◌≡◌, ℕ, ◌≤◌, true, List, [], ◌∷◌, ◌++◌, length, All, Ok}
-use Rattle.spec_pictures.specs.declared.picture_plan.PicturePlan.{PicturePlan}
+use Rattle.plan_types.specs.declared.picture_plan.PicturePlan.{PicturePlan}
 use Rattle.header_types.specs.Content.{same_content}
 use Rattle.spec_units.specs.Judged.{Told}
 use Rattle.spec_pictures.specs.Pictures.{beginning}

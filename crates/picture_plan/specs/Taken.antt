@@ -1,21 +1,33 @@
 -- What the steps of a planner end and leave.
-use Rattle.std.specs.Prelude.{◌≡◌, List, Ok}
-use Rattle.spec_pictures.specs.declared.picture_plan.PicturePlan.{PicturePlan}
-use Rattle.spec_pictures.specs.declared.between.Between.{Between}
-use Rattle.spec_pictures.specs.Steps.{Stepped, close}
-use Rattle.picture_plan.specs.declared.gathering.Gathering.{Gathering}
+use Rattle.std.specs.Prelude.{ℕ, List, ◌++◌, Option, Result}
+use Rattle.hv_base.specs.declared.refusal.Stop.{Stop}
+use Rattle.plan_types.specs.declared.picture_plan.PicturePlan.{PicturePlan}
+use Rattle.plan_types.specs.declared.between.Between.{Between}
+use Rattle.spec_pictures.specs.Steps.{Stepped}
+use Rattle.picture_plan.specs.declared.flight.Ended.{Ended}
 use Rattle.picture_plan.specs.declared.step.Step.{Step}
-use Rattle.picture_plan.specs.Flights.{waiting, with_pictures}
-use Rattle.picture_plan.specs.Held.{next_of}
+use Rattle.picture_plan.specs.Flights.{Gathered, some_flight, waiting, with_pictures}
+use Rattle.picture_plan.specs.Plans.{Plans}
+use Rattle.picture_plan.specs.Changes.{next_of}
+use Rattle.picture_plan.specs.States.{Held}
 
--- the open picture was closed
-pub record Ends (old new : Gathering) (before behind : Between) (ended : List (List PicturePlan)) : Type 0 where
-  pub flights : ended ≡ (with_pictures old.ahead (waiting old.pending) (close before).closed).flights
-  pub pending : new.pending ≡ (with_pictures old.ahead (waiting old.pending) (close before).closed).pending
-  pub next : (close before).next ≡ Ok behind
+-- what a planner holds
+abbrev pub held : Option Stop → Held → Plans
+held stopped h = record { ahead = h.ahead; pending = h.pending; next = next_of stopped h.between }
 
--- a step's pictures were taken, and what is known behind it or what stops the stream there
-pub record Takes (old new : Gathering) (behind : Between) (step : Step) (t : Stepped) : Type 0 where
-  pub flights : step.ended ≡ (with_pictures old.ahead (waiting old.pending) t.closed).flights
-  pub pending : new.pending ≡ (with_pictures old.ahead (waiting old.pending) t.closed).pending
-  pub next : next_of step.stop behind ≡ t.next
+abbrev pub ended_by : Ended → List (List PicturePlan)
+ended_by e = some_flight e.changed ++ some_flight e.full
+
+-- the flights that a step ended and the pictures that then wait, and what is known behind it or what stops the stream
+pub record Left : Type 0 where
+  pub ahead : ℕ
+  pub gathered : Gathered
+  pub next : Result Between Stop
+
+abbrev pub left_by : Step → Held → Left
+left_by step h =
+    record { ahead = h.ahead; gathered = record { flights = ended_by step.ended; pending = h.pending }; next = next_of step.stop h.between }
+
+-- what is left where a step closes these pictures
+abbrev pub taken : Held → Stepped → Left
+taken h t = record { ahead = h.ahead; gathered = with_pictures h.ahead (waiting h.pending) t.closed; next = t.next }

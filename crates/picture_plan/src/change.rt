@@ -1,14 +1,15 @@
 //! What judging a unit finds, before anything is changed.
 
-ghost use Rattle.std.specs.Prelude.{◌≡◌};
-ghost use Rattle.spec_pictures.specs.Steps.{drops_after};
+ghost use Rattle.std.specs.Prelude.{◌≡◌, IfOk};
+ghost use Rattle.spec_pictures.specs.Steps.{begun, drops_after};
 ghost use Rattle.picture_plan.specs.Bounds.{ChangesFew, IsBetween};
-ghost use Rattle.picture_plan.specs.Changes.{changed, opened_by};
+ghost use Rattle.picture_plan.specs.Changes.{Stops, applied, next_of};
 
-use header_types::{Former, Pps, SliceHeader, SliceHeaderFields, Sps};
-use hv_base::Fault;
+use header_types::{Former, PictureKind, Pps, Shared, Sps};
+use hv_base::{Fault, Limit, Refusal, Stop};
+use plan_types::{Between, PicturePlan};
 use ref_picture_sets::is_irap;
-use spec_pictures::{Between, PicturePlan};
+use std::alloc::AllocError;
 
 /// How a unit closes the open picture.
 #[derive(Drop)]
@@ -17,31 +18,39 @@ pub(crate) enum Closing {
     Nothing,
     /// Its slice segments break a rule together.
     Broken(Fault),
-    /// It is over, and this came before the next slice segment then.
+    /// It is over, and leaves this to the next one.
     Over(Former),
 }
 
-/// A picture that a slice segment opens, and two copies of its header.
-#[derive(Drop)]
-pub(crate) struct Opening {
-    pub first: SliceHeader,
-    pub slice: SliceHeader,
-    pub picture: PicturePlan,
-}
-
-/// What a unit changes once it has closed the open picture.
+/// What a unit changes once it has closed the open picture, or that the stream stops there.
 #[derive(Drop)]
 pub(crate) enum Change {
     Nothing,
-    SequenceSet(Sps),
-    PictureSet(Pps),
+    SequenceSet(Shared<Sps>),
+    PictureSet(Shared<Pps>),
     SequenceEnd,
-    Opened(Opening),
+    Opened(PicturePlan),
+    Stop(Stop),
 }
 
-/// Changes what is known between two units.
-pub(crate) fn apply(between: &mut Between, change: Change)
-    ensures value { between.new ≡ changed between.old change }
+/// What stops the stream where the unit of this number is refused so.
+pub(crate) fn stop_at(nal: u32, refusal: Refusal) -> Result<Stop, AllocError>
+    ensures { IfOk result (λ stop. Stops nal refusal stop) }
+{
+    match refusal {
+        Refusal::Memory => Err(AllocError),
+        Refusal::Fault(kind) => Ok(Stop::Fault(Fault {
+            kind,
+            nal,
+            ctu: None,
+        })),
+        Refusal::Limit(kind) => Ok(Stop::Limit(Limit { kind, nal })),
+    }
+}
+
+/// Changes what is known between two units, or tells what stops the stream.
+pub(crate) fn apply(between: &mut Between, change: Change) -> Option<Stop>
+    ensures value { next_of result between.new ≡ applied between.old change }
     ensures kept { IsBetween between.old → ChangesFew change → IsBetween between.new }
 {
     match change {
@@ -49,40 +58,30 @@ pub(crate) fn apply(between: &mut Between, change: Change)
         Change::SequenceSet(sps) => between.sets.put_sps(sps),
         Change::PictureSet(pps) => between.sets.put_pps(pps),
         Change::SequenceEnd => {
-            between.former.fresh = true;
+            between.former.first_in_sequence = true;
             between.drops_rasl = false;
         }
-        Change::Opened(opening) => open(between, opening),
+        Change::Opened(picture) => open(between, picture),
+        Change::Stop(stop) => return Some(stop),
     }
+    None
 }
 
 /// Goes on behind the first slice segment of a picture.
-fn open(between: &mut Between, opening: Opening)
-    ensures { between.new ≡ opened_by between.old opening }
+fn open(between: &mut Between, picture: PicturePlan)
+    ensures { between.new ≡ begun between.old picture }
 {
-    let header = opening.first.fields();
-    let address = header.segment.slice_segment_address;
-    between.drops_rasl = drops_after(between.drops_rasl, header);
-    put(&mut between.former.first, Some(opening.first));
-    put(&mut between.former.slice, Some(opening.slice));
-    between.former.address = Some(address);
-    put(&mut between.picture, Some(opening.picture));
+    between.drops_rasl = drops_after(between.drops_rasl, picture.kind);
+    between.picture = Some(picture);
 }
 
-/// Whether random access skipped leading pictures are dropped behind a picture of this header.
-fn drops_after(before: bool, header: &SliceHeaderFields) -> bool
-    ensures { result ≡ drops_after before header.now }
+/// Whether random access skipped leading pictures are dropped behind a picture of this kind.
+fn drops_after(before: bool, kind: PictureKind) -> bool
+    ensures { result ≡ drops_after before kind }
 {
-    if is_irap(header.kind.nal_type) {
-        header.kind.no_rasl_output
+    if is_irap(kind.nal_type) {
+        kind.no_rasl_output_flag
     } else {
         before
     }
-}
-
-/// Puts a value in the place of another.
-pub(crate) fn put<T: Drop>(place: &mut T, value: T)
-    ensures { place.new ≡ value }
-{
-    *place = value;
 }

@@ -14,8 +14,8 @@ ghost use Rattle.spec_pictures.specs.Closing.{
 };
 
 use hv_base::{Fault, FaultKind};
+use plan_types::{PicturePlan, SegmentPlan};
 use slice_headers::data_size;
-use spec_pictures::{PicturePlan, SegmentPlan};
 
 /// The first rule that the slice segments of a picture break together: with entropy coding sync, a slice or a segment
 /// that begins inside a row of coding tree units ends in it (`SliceOrder`), and there is an entry point for each row of

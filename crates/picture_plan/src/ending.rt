@@ -3,17 +3,15 @@
 ghost use Rattle.std.specs.Prelude.{◌≡◌, IfOk, OnErr};
 ghost use Rattle.spec_pictures.specs.Planned.{last_of};
 ghost use Rattle.spec_pictures.specs.Steps.{close};
-ghost use Rattle.picture_plan.specs.Bounds.{ClosesFew, IsBetween};
-ghost use Rattle.picture_plan.specs.Changes.{closing_of};
-ghost use Rattle.picture_plan.specs.Taken.{Takes};
+ghost use Rattle.picture_plan.specs.Changes.{Closes};
+ghost use Rattle.picture_plan.specs.Taken.{left_by, taken};
 
 use crate::change::Closing;
-use crate::gathering::Gathering;
-use crate::step::{Step, close_as, closing_of};
+use crate::state::State;
+use crate::step::Step;
 use header_types::FieldList;
 use output_order::last_outputs;
-use spec_pictures::Between;
-use std::alloc::{AllocError, Global};
+use std::alloc::AllocError;
 
 /// What closing the open picture gives at the end of the input, and which pictures go out then.
 #[derive(Drop)]
@@ -22,51 +20,28 @@ pub(crate) struct Ending {
     pub last: FieldList<u32>,
 }
 
-/// Closes the open picture at the end of the input. After want of memory all is as before.
-pub(crate) fn end_input(
-    alloc: Global,
-    gathering: &mut Gathering,
-    between: &mut Between,
-) -> Result<Ending, AllocError>
-    requires { IsBetween between.old }
-    ensures value { IfOk result (λ e. Takes gathering.old gathering.new between.new e.step (close between.old)) }
-    ensures last { IfOk result (λ e. e.last ≡ last_of (close between.old).next) }
-    ensures kept { IsBetween between.new }
-    ensures err { OnErr result (between.new ≡ between.old) }
-    ensures pending { OnErr result (gathering.new.pending ≡ gathering.old.pending) }
-    ensures ahead { gathering.new.ahead ≡ gathering.old.ahead }
-{
-    let how = closing_of(alloc, between)?;
-    let last = match last_behind(alloc, between, &how) {
-        Ok(last) => last,
-        Err(error) => {
-            drop(how);
-            return Err(error);
-        }
-    };
-    match close_as(gathering, between, how) {
-        Ok(step) => Ok(Ending { step, last }),
-        Err(error) => {
-            drop(last);
-            Err(error)
-        }
+impl State {
+    /// Closes the open picture at the end of the input. After want of memory all is as before.
+    pub(crate) fn end_input(&mut self) -> Result<Ending, AllocError>
+        ensures value { IfOk result (λ e. left_by e.step self.new ≡ taken self.old (close self.old.between)) }
+        ensures last { IfOk result (λ e. e.last ≡ last_of (close self.old.between).next) }
+        ensures err { OnErr result (self.new ≡ self.old) }
+    {
+        let how = self.closing()?;
+        let last = self.last_behind(&how)?;
+        let step = self.close_as(how)?;
+        Ok(Ending { step, last })
     }
-}
 
-/// The pictures that go out where the input ends and the open picture is closed so.
-fn last_behind(
-    alloc: Global,
-    between: &Between,
-    how: &Closing,
-) -> Result<FieldList<u32>, AllocError>
-    requires kept { IsBetween between.now }
-    requires closing { closing_of between.now ≡ how.now }
-    requires closes { ClosesFew how.now }
-    ensures { IfOk result (λ last. last ≡ last_of (close between.now).next) }
-{
-    match how {
-        Closing::Nothing => last_outputs(alloc, between.former.dpb.as_slice()),
-        Closing::Broken(_) => Ok(FieldList::new(alloc)),
-        Closing::Over(former) => last_outputs(alloc, former.dpb.as_slice()),
+    /// The pictures that go out where the input ends and the open picture is closed so.
+    fn last_behind(&self, how: &Closing) -> Result<FieldList<u32>, AllocError>
+        requires { Closes how.now self.now.between }
+        ensures { IfOk result (λ last. last ≡ last_of (close self.now.between).next) }
+    {
+        match how {
+            Closing::Nothing => last_outputs(self.alloc, self.between.former.dpb.as_slice()),
+            Closing::Broken(_) => Ok(FieldList::new(self.alloc)),
+            Closing::Over(former) => last_outputs(self.alloc, former.dpb.as_slice()),
+        }
     }
 }

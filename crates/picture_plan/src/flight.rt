@@ -3,7 +3,7 @@
 ghost use Rattle.std.specs.Prelude.{◌≡◌, ◌++◌, ◌∷◌, [], None, length, OnOk, OnErr, IfErr};
 ghost use Rattle.picture_plan.specs.Flights.{some_flight};
 
-use spec_pictures::PicturePlan;
+use plan_types::PicturePlan;
 use std::alloc::Global;
 use std::marker::Model;
 
@@ -15,7 +15,7 @@ pub struct Flight {
 
 impl Model for Flight {
     ghost use Rattle.std.specs.Prelude.{List};
-    ghost use Rattle.spec_pictures.specs.declared.picture_plan.PicturePlan.{PicturePlan};
+    ghost use Rattle.plan_types.specs.declared.picture_plan.PicturePlan.{PicturePlan};
 
     ghost Value = { List PicturePlan };
 
@@ -59,79 +59,37 @@ impl Flight {
     }
 }
 
-/// The flights that a picture ends, in decoding order, each for another reason. Contracts see the list.
+/// The flights that a call ends, in decoding order, each for another reason. Contracts see the list.
 #[derive(Debug, Drop)]
-pub(crate) struct Ended {
-    /// Ended since the picture is of another sequence parameter set.
+pub struct Flights {
+    /// Ended since a picture is of another sequence parameter set.
     changed: Option<Flight>,
     /// Ended since it has as many pictures as a flight may have.
     full: Option<Flight>,
-}
-
-impl Model for Ended {
-    ghost use Rattle.std.specs.Prelude.{List, ◌++◌};
-    ghost use Rattle.spec_pictures.specs.declared.picture_plan.PicturePlan.{PicturePlan};
-    ghost use Rattle.picture_plan.specs.Flights.{some_flight};
-
-    ghost Value = { List (List PicturePlan) };
-
-    ghost view = { λ e. some_flight e.changed ++ some_flight e.full };
-}
-
-impl Ended {
-    /// No flight.
-    pub(crate) fn none() -> Ended
-        ensures { result ≡ [] }
-    {
-        Ended {
-            changed: None,
-            full: None,
-        }
-    }
-
-    /// These flights.
-    pub(crate) fn new(changed: Option<Flight>, full: Option<Flight>) -> Ended
-        ensures { result ≡ some_flight changed ++ some_flight full }
-    {
-        Ended { changed, full }
-    }
-
-    /// Takes the first flight out, if there is one.
-    fn next(&mut self) -> Option<Flight>
-        ensures value { self.old ≡ some_flight result ++ self.new }
-        ensures none { result ≡ None → self.old ≡ [] }
-    {
-        match self.changed.take() {
-            Some(flight) => Some(flight),
-            None => self.full.take(),
-        }
-    }
-}
-
-/// The flights that a call ends, in decoding order. Contracts see the list.
-#[derive(Debug, Drop)]
-pub struct Flights {
-    ended: Ended,
     /// Ended since the stream stops or ends.
     stopped: Option<Flight>,
 }
 
 impl Model for Flights {
     ghost use Rattle.std.specs.Prelude.{List, ◌++◌};
-    ghost use Rattle.spec_pictures.specs.declared.picture_plan.PicturePlan.{PicturePlan};
+    ghost use Rattle.plan_types.specs.declared.picture_plan.PicturePlan.{PicturePlan};
     ghost use Rattle.picture_plan.specs.Flights.{some_flight};
 
     ghost Value = { List (List PicturePlan) };
 
-    ghost view = { λ f. f.ended ++ some_flight f.stopped };
+    ghost view = { λ f. (some_flight f.changed ++ some_flight f.full) ++ some_flight f.stopped };
 }
 
 impl Flights {
-    /// The flights that pictures end, and the one that ends where the stream stops or ends.
+    /// These flights.
     pub(crate) fn new(ended: Ended, stopped: Option<Flight>) -> Flights
-        ensures { result ≡ ended ++ some_flight stopped }
+        ensures { result ≡ (some_flight ended.changed ++ some_flight ended.full) ++ some_flight stopped }
     {
-        Flights { ended, stopped }
+        Flights {
+            changed: ended.changed,
+            full: ended.full,
+            stopped,
+        }
     }
 
     /// Takes the first flight out, if there is one.
@@ -139,9 +97,21 @@ impl Flights {
         ensures value { self.old ≡ some_flight result ++ self.new }
         ensures none { result ≡ None → self.old ≡ [] }
     {
-        match self.ended.next() {
-            Some(flight) => Some(flight),
-            None => self.stopped.take(),
+        if self.changed.is_some() {
+            return self.changed.take();
         }
+        if self.full.is_some() {
+            return self.full.take();
+        }
+        self.stopped.take()
     }
+}
+
+/// The flights that a picture ends.
+#[derive(Drop)]
+pub(crate) struct Ended {
+    /// Since it is of another sequence parameter set.
+    pub changed: Option<Flight>,
+    /// Since the flight has as many pictures as a flight may have.
+    pub full: Option<Flight>,
 }

@@ -4,9 +4,9 @@
 
 mod change;
 mod closing;
-mod decoded_pictures;
 mod ending;
 mod flight;
+mod former;
 mod gathering;
 mod headers;
 mod laws;
@@ -15,6 +15,7 @@ mod outputs;
 mod planner;
 mod segments;
 mod slices;
+mod state;
 mod step;
 mod unit_kinds;
 mod units;
@@ -22,6 +23,3 @@ mod units;
 pub use flight::{Flight, Flights};
 pub use laws::{flights_are_of_one_set, flights_are_the_pictures};
 pub use planner::{Planned, Planner};
-
-#[cfg(test)]
-mod closing_tests;

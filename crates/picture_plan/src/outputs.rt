@@ -4,16 +4,15 @@ ghost use Rattle.std.specs.Prelude.{◌≡◌, ◌≤◌, IfOk, length};
 ghost use Rattle.std.specs.List.{count_by};
 ghost use Rattle.spec_output_order.specs.OutputOrder.{outputs_of};
 ghost use Rattle.spec_reference_pictures.specs.ReferencePictureSet.{is_reference};
-ghost use Rattle.spec_pictures.specs.Steps.{current_picture, no_output_of_prior_pics};
+ghost use Rattle.spec_pictures.specs.Steps.{current_picture, no_output_of_prior_pics_flag};
 
 use header_types::{Former, Rps, SliceHeader, SliceHeaderFields, Sps};
+use hv_base::CRA_NUT;
 use output_order::outputs_of;
+use plan_types::Outputs;
 use ref_picture_sets::begins_anew;
-use spec_output_order::{CurrentPicture, Outputs};
+use spec_output_order::CurrentPicture;
 use std::alloc::{AllocError, Global};
-
-/// nal_unit_type of a clean random access picture.
-const CRA: u8 = 21;
 
 /// What a picture of this header and order count puts out, and what it leaves in the buffer: few pictures, since its
 /// header names few.
@@ -42,15 +41,15 @@ fn current_picture(header: &SliceHeaderFields, sps: &Sps, poc: i32) -> CurrentPi
     CurrentPicture {
         poc,
         begins_anew: begins_anew(header.kind),
-        no_output_of_prior_pics: no_output_of_prior_pics(header),
-        pic_output: header.slice.pic_output_flag,
+        no_output_of_prior_pics_flag: no_output_of_prior_pics_flag(header),
+        pic_output_flag: header.slice.pic_output_flag,
         ordering: sps.highest_ordering(),
     }
 }
 
 /// NoOutputOfPriorPicsFlag.
-fn no_output_of_prior_pics(header: &SliceHeaderFields) -> bool
-    ensures { result ≡ no_output_of_prior_pics header.now }
+fn no_output_of_prior_pics_flag(header: &SliceHeaderFields) -> bool
+    ensures { result ≡ no_output_of_prior_pics_flag header.now }
 {
-    header.kind.nal_type == CRA || header.segment.no_output_of_prior_pics_flag.unwrap_or(false)
+    header.kind.nal_type == CRA_NUT || header.segment.no_output_of_prior_pics_flag.unwrap_or(false)
 }

@@ -1,20 +1,18 @@
 //! Plans the pictures of a stream, unit by unit.
 
-ghost use Rattle.std.specs.Prelude.{◌≡◌, ◌≤◌, [], Ok, Some, OnErr, IfOk};
+ghost use Rattle.std.specs.Prelude.{◌≡◌, ◌≤◌, ◌++◌, [], Ok, Some, OnErr, IfOk};
 ghost use Rattle.spec_pictures.specs.Pictures.{beginning};
 ghost use Rattle.nal_stream.specs.Answers.{told_by};
-ghost use Rattle.picture_plan.specs.Flights.{cut};
-ghost use Rattle.picture_plan.specs.Plans.{at_end, behind_unit, cut_of, halted, stop_of};
+ghost use Rattle.picture_plan.specs.Flights.{some_flight};
+ghost use Rattle.picture_plan.specs.Plans.{at_end, behind_unit, halted, stop_of};
+ghost use Rattle.picture_plan.specs.Taken.{ended_by};
 
-use crate::ending::end_input;
-use crate::flight::{Ended, Flights};
-use crate::gathering::Gathering;
+use crate::flight::{Flight, Flights};
+use crate::state::State;
 use crate::step::Step;
-use crate::units::plan_next;
-use header_types::{FieldList, Former, Sets};
+use header_types::FieldList;
 use hv_base::Stop;
 use nal_stream::Next;
-use spec_pictures::Between;
 use std::alloc::{AllocError, Global};
 use std::marker::Model;
 
@@ -33,42 +31,29 @@ pub struct Planned {
 /// The pictures of a stream as its units come. Contracts see what it holds.
 #[derive(Drop)]
 pub struct Planner {
-    alloc: Global,
-    gathering: Gathering,
-    between: Between,
+    state: State,
     stopped: Option<Stop>,
 }
 
 impl Model for Planner {
     ghost use Rattle.picture_plan.specs.Plans.{Plans};
-    ghost use Rattle.picture_plan.specs.Bounds.{IsBetween};
-    ghost use Rattle.picture_plan.specs.Held.{held};
+    ghost use Rattle.picture_plan.specs.Taken.{held};
 
     ghost Value = { Plans };
 
-    ghost view = { λ p. held p.gathering p.stopped p.between };
-
-    ghost invariant = { λ p. IsBetween p.between };
+    ghost view = { λ p. held p.stopped p.state };
 }
 
 impl Planner {
     /// A planner of flights of at most `ahead` pictures, before the first unit. Whether stated picture hashes are to be
     /// compared changes nothing: no hash is read.
-    #[tactic(auto, unfolding(spec_pictures::specs::Pictures::beginning))]
     pub fn new(alloc: Global, ahead: u32, _hash: bool) -> Result<Planner, AllocError>
         requires some { 1 ≤ ahead }
         requires few { ahead ≤ 16 }
         ensures { IfOk result (λ p. p ≡ record { ahead = ahead; pending = []; next = Ok beginning }) }
     {
         Ok(Planner {
-            alloc,
-            gathering: Gathering::new(alloc, ahead),
-            between: Between {
-                sets: Sets::new(alloc)?,
-                former: Former::new(alloc),
-                drops_rasl: false,
-                picture: None,
-            },
+            state: State::new(alloc, ahead)?,
             stopped: None,
         })
     }
@@ -81,12 +66,17 @@ impl Planner {
         ensures stop { IfOk result (λ planned. planned.stop ≡ stop_of self.new.next) }
         ensures err { OnErr result (self.new ≡ self.old) }
     {
-        if let Some(stop) = self.stopped {
-            return Ok(only_stop(self.alloc, stop));
+        let last = FieldList::new(self.state.alloc);
+        if self.stopped.is_some() {
+            return Ok(given(Step::only(self.stopped), None, last));
         }
-        let step = plan_next(self.alloc, &mut self.gathering, &mut self.between, next)?;
+        let step = self.state.plan_next(next)?;
         self.stopped = step.stop;
-        Ok(behind_step(self.alloc, &mut self.gathering, step))
+        let pending = match step.stop {
+            None => None,
+            Some(_) => self.state.cut(),
+        };
+        Ok(given(step, pending, last))
     }
 
     /// The input ends: the open picture is closed, all flights end, and the pictures that wait go out.
@@ -99,9 +89,10 @@ impl Planner {
         if self.stopped.is_some() {
             return Ok(self.halt());
         }
-        let ending = end_input(self.alloc, &mut self.gathering, &mut self.between)?;
+        let ending = self.state.end_input()?;
         self.stopped = ending.step.stop;
-        Ok(with_all(&mut self.gathering, ending.last, ending.step))
+        let pending = self.state.cut();
+        Ok(given(ending.step, pending, ending.last))
     }
 
     /// No more units come, though the input hasn't ended: the pending flight ends, and no picture is closed.
@@ -110,58 +101,22 @@ impl Planner {
         ensures value { halted self.old ≡ record { flights = result.flights; last = result.last; left = self.new } }
         ensures stop { result.stop ≡ stop_of self.new.next }
     {
-        let step = Step {
-            ended: Ended::none(),
-            stop: self.stopped,
-        };
-        with_all(&mut self.gathering, FieldList::new(self.alloc), step)
+        let last = FieldList::new(self.state.alloc);
+        let pending = self.state.cut();
+        given(Step::only(self.stopped), pending, last)
     }
 }
 
-/// No flight, and what stopped the stream.
-fn only_stop(alloc: Global, stop: Stop) -> Planned
-    ensures flights { result.flights ≡ [] }
-    ensures last { result.last ≡ [] }
-    ensures stop { result.stop ≡ Some stop }
-{
-    Planned {
-        flights: Flights::new(Ended::none(), None),
-        last: FieldList::new(alloc),
-        stop: Some(stop),
-    }
-}
-
-/// What a step ended, and the pending flight where the stream stops.
-fn behind_step(alloc: Global, gathering: &mut Gathering, step: Step) -> Planned
-    ensures flights { result.flights ≡ (cut_of step.stop (record { flights = step.ended; pending = gathering.old.pending })).flights }
-    ensures pending { gathering.new.pending ≡ (cut_of step.stop (record { flights = step.ended; pending = gathering.old.pending })).pending }
-    ensures last { result.last ≡ [] }
-    ensures stop { result.stop ≡ step.stop }
-    ensures ahead { gathering.new.ahead ≡ gathering.old.ahead }
-{
-    let last = FieldList::new(alloc);
-    match step.stop {
-        None => Planned {
-            flights: Flights::new(step.ended, None),
-            last,
-            stop: None,
-        },
-        Some(_) => with_all(gathering, last, step),
-    }
-}
-
-/// What a step ended, the pending flight, and the pictures that go out at the end.
-fn with_all(gathering: &mut Gathering, last: FieldList<u32>, step: Step) -> Planned
-    ensures flights { result.flights ≡ (cut (record { flights = step.ended; pending = gathering.old.pending })).flights }
-    ensures pending { gathering.new.pending ≡ (cut (record { flights = step.ended; pending = gathering.old.pending })).pending }
+/// What a step ended and the pending flight, if it ends too, and the pictures that go out at the end.
+fn given(step: Step, pending: Option<Flight>, last: FieldList<u32>) -> Planned
+    ensures flights { result.flights ≡ ended_by step.ended ++ some_flight pending }
     ensures last { result.last ≡ last }
     ensures stop { result.stop ≡ step.stop }
-    ensures ahead { gathering.new.ahead ≡ gathering.old.ahead }
 {
-    let pending = gathering.cut();
+    let stop = step.stop;
     Planned {
         flights: Flights::new(step.ended, pending),
         last,
-        stop: step.stop,
+        stop,
     }
 }

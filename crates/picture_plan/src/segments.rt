@@ -1,16 +1,17 @@
 //! Slice segments as their picture holds them.
 
-ghost use Rattle.std.specs.Prelude.{◌≡◌, ◌-◌, IfOk, length, slice_get};
+ghost use Rattle.std.specs.Prelude.{◌≡◌, IfOk};
 ghost use Rattle.spec_slice_headers.specs.Substreams.{substream_ranges};
 ghost use Rattle.spec_units.specs.Judged.{unit_of};
-ghost use Rattle.spec_pictures.specs.Steps.{lists_of, segment_of, slice_number, slice_of};
+ghost use Rattle.spec_slice_headers.specs.Context.{last_segment, slice_of};
+ghost use Rattle.spec_pictures.specs.Steps.{lists_of, segment_of, slice_number};
 ghost use Rattle.picture_plan.specs.Bounds.{HasLists};
 
 use header_types::{FieldList, Lists, Rps, SliceHeader, Substream};
 use hv_base::Nal;
+use plan_types::SegmentPlan;
 use ref_picture_sets::build_lists;
 use slice_headers::substreams;
-use spec_pictures::SegmentPlan;
 use std::alloc::{AllocError, Global};
 
 /// A slice segment behind these of its picture, whose reference picture set this is.
@@ -24,22 +25,15 @@ pub(crate) fn segment_of(
     requires { HasLists header }
     ensures { IfOk result (λ s. s ≡ segment_of before.now rps.now (unit_of nal) header) }
 {
-    let slice = slice_number(before, &header);
-    let lists = lists_of(&header, rps);
-    match substreams_of(alloc, &nal, &header) {
-        Ok(substreams) => Ok(SegmentPlan {
-            header,
-            payload: nal.rbsp,
-            removed: nal.removed,
-            slice,
-            lists,
-            substreams,
-        }),
-        Err(error) => {
-            drop(header);
-            Err(error)
-        }
-    }
+    let substreams = substreams_of(alloc, &nal, &header)?;
+    Ok(SegmentPlan {
+        slice: slice_number(before, &header),
+        lists: lists_of(&header, rps),
+        header,
+        payload: nal.rbsp,
+        removed: nal.removed,
+        substreams,
+    })
 }
 
 /// The substreams of a segment's data.
@@ -73,7 +67,7 @@ fn slice_number(before: &[SegmentPlan], header: &SliceHeader) -> usize
 
 /// The number of the segment that begins the slice of the last of these.
 fn last_slice(segments: &[SegmentPlan]) -> usize
-    ensures { result ≡ slice_of (slice_get segments.now (length segments.now - 1)) }
+    ensures { result ≡ slice_of (last_segment segments.now) }
 {
     match segments.last() {
         None => 0,

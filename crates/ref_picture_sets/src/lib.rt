@@ -9,7 +9,6 @@ mod reference_picture_set;
 mod search;
 mod short_term;
 mod short_term_explicit;
-mod short_term_fields;
 mod short_term_places;
 mod short_term_predicted;
 
@@ -17,8 +16,3 @@ pub use picture_order_count::{begins_anew, is_idr, is_irap, poc_of};
 pub use reference_lists::build_lists;
 pub use reference_picture_set::{derive_rps, num_pic_total_curr};
 pub use short_term::read_st_rps;
-
-#[cfg(test)]
-mod reference_tests;
-#[cfg(test)]
-mod tests_short_term;

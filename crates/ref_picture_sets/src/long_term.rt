@@ -3,7 +3,7 @@
 ghost use Rattle.std.specs.Prelude.{◌≡◌, ◌+◌, ◌*◌, ◌^◌, ◌<◌, ◌≤◌, map, pos, negsuc, ◌+ℤ◌, ◌-ℤ◌, ◌≤ℤ◌, length, slice_index_or, IfOk};
 ghost use Rattle.std.specs.List.{range_with_len};
 ghost use Rattle.spec_reference_pictures.specs.PictureOrderCount.{lsb_of};
-ghost use Rattle.spec_reference_pictures.specs.ReferencePictureSet.{IsName, is_for, long_term_entry, long_term_name, long_term_places, long_term_set, msb_cycle_before, name_by, no_entry, place_of, reference_counts};
+ghost use Rattle.spec_reference_pictures.specs.ReferencePictureSet.{IsName, is_for, long_term_entry, long_term_name, long_term_places, long_term_set, msb_cycle_before, name_by, no_entry, place_of, reference_pocs};
 
 use crate::picture_order_count::lsb_of;
 use crate::search::place_of;

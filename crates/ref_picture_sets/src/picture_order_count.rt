@@ -4,20 +4,20 @@ ghost use Rattle.std.specs.Prelude.{◌≡◌, ◌<◌, ◌≤◌, pos, negsuc, 
 ghost use Rattle.spec_reference_pictures.specs.PictureOrderCount.{begins_anew, in_range, is_idr, is_irap, lsb_of, pic_order_cnt_msb, pic_order_cnt_val};
 
 use header_types::{PictureKind, ReferenceFields};
-use hv_base::FaultKind;
+use hv_base::{BLA_W_LP, CRA_NUT, FaultKind, IDR_N_LP, IDR_W_RADL};
 
 /// Whether slices of this nal_unit_type are of an intra random access point (7.4.2.2).
 pub fn is_irap(nal_type: u8) -> bool
     ensures { result ≡ is_irap nal_type }
 {
-    16 <= nal_type && nal_type <= 21
+    BLA_W_LP <= nal_type && nal_type <= CRA_NUT
 }
 
 /// Whether slices of this nal_unit_type are of an instantaneous decoding refresh picture (7.4.2.2).
 pub fn is_idr(nal_type: u8) -> bool
     ensures { result ≡ is_idr nal_type }
 {
-    nal_type == 19 || nal_type == 20
+    nal_type == IDR_W_RADL || nal_type == IDR_N_LP
 }
 
 /// Whether the picture is an intra random access point with NoRaslOutputFlag 1, which doesn't refer to any picture
@@ -25,7 +25,7 @@ pub fn is_idr(nal_type: u8) -> bool
 pub fn begins_anew(kind: PictureKind) -> bool
     ensures { result ≡ begins_anew kind }
 {
-    is_irap(kind.nal_type) && kind.no_rasl_output
+    is_irap(kind.nal_type) && kind.no_rasl_output_flag
 }
 
 /// PicOrderCntVal of the picture (8.3.1). `prev` is that of prevTid0Pic: the picture before it that has TemporalId 0 and

@@ -9,7 +9,7 @@ ghost use Rattle.spec_reference_pictures.specs.ReferencePictureSet.{GivesSet, fo
 use crate::long_term::{CurrentPicture, long_term_places, long_term_set};
 use crate::picture_order_count::is_irap;
 use crate::search::is_among;
-use crate::short_term_places::{add_short_term, reference_counts, short_term_counts};
+use crate::short_term_places::{reference_pocs, short_term_pocs, short_term_set};
 use header_types::{
     DpbPicture, FieldList, LongTermRef, Mark, NamedSets, PictureKind, ReferenceFields, Rps,
     ShortTermRef,
@@ -55,50 +55,23 @@ fn named_sets(
     requires few { length dpb.now < 2 ^ 32 }
     ensures { IfOk result (λ sets. sets ≡ named_sets picture.kind references.now picture.poc dpb.now) }
 {
-    let marked = reference_counts(alloc, picture.kind, dpb)?;
+    let marked = reference_pocs(alloc, picture.kind, dpb)?;
     let long = long_term_places(alloc, picture, &references.long_term, marked.as_slice())?;
-    let counts = short_term_counts(alloc, picture.kind, long.as_slice(), dpb)?;
-    let set = &references.short_term_ref_pic_set;
+    let counts = short_term_pocs(alloc, picture.kind, long.as_slice(), dpb)?;
+    let counts = counts.as_slice();
+    let before = references.short_term_ref_pic_set.negative.as_slice();
+    let after = references.short_term_ref_pic_set.positive.as_slice();
     let entries = references.long_term.entries.as_slice();
-    let mut st_curr_before = FieldList::new(alloc);
-    add_short_term(
-        &mut st_curr_before,
-        counts.as_slice(),
-        picture,
-        true,
-        set.negative.as_slice(),
-    )?;
-    let mut st_curr_after = FieldList::new(alloc);
-    add_short_term(
-        &mut st_curr_after,
-        counts.as_slice(),
-        picture,
-        true,
-        set.positive.as_slice(),
-    )?;
-    let mut st_foll = FieldList::new(alloc);
-    add_short_term(
-        &mut st_foll,
-        counts.as_slice(),
-        picture,
-        false,
-        set.negative.as_slice(),
-    )?;
-    add_short_term(
-        &mut st_foll,
-        counts.as_slice(),
-        picture,
-        false,
-        set.positive.as_slice(),
-    )?;
-    let lt_curr = long_term_set(alloc, long.as_slice(), true, entries)?;
-    let lt_foll = long_term_set(alloc, long.as_slice(), false, entries)?;
+    let mut st_foll = short_term_set(alloc, counts, picture, false, before)?;
+    st_foll.append(&mut short_term_set(alloc, counts, picture, false, after)?)?;
     Ok(NamedSets {
-        st_curr_before,
-        st_curr_after,
-        st_foll,
-        lt_curr,
-        lt_foll,
+        st_curr_before: FieldList::from_items(short_term_set(
+            alloc, counts, picture, true, before,
+        )?),
+        st_curr_after: FieldList::from_items(short_term_set(alloc, counts, picture, true, after)?),
+        st_foll: FieldList::from_items(st_foll),
+        lt_curr: long_term_set(alloc, long.as_slice(), true, entries)?,
+        lt_foll: long_term_set(alloc, long.as_slice(), false, entries)?,
     })
 }
 
@@ -116,12 +89,7 @@ fn lacks_current(sets: &NamedSets) -> bool
 fn lacks(places: &[Option<u32>]) -> bool
     ensures { result ≡ list_any is_none places.now }
 {
-    for place in places {
-        if place.is_none() {
-            return true;
-        }
-    }
-    false
+    places.iter().any(|place| place.is_none())
 }
 
 /// The set of the pictures that were found in a buffer of `size` pictures.
@@ -131,40 +99,29 @@ fn found_set(alloc: Global, sets: &NamedSets, size: usize) -> Result<Rps, AllocE
     ensures { IfOk result (λ rps. rps ≡ found_set sets.now size) }
 {
     Ok(Rps {
-        st_curr_before: found(alloc, sets.st_curr_before.as_slice())?,
-        st_curr_after: found(alloc, sets.st_curr_after.as_slice())?,
-        st_foll: found(alloc, sets.st_foll.as_slice())?,
-        lt_curr: found(alloc, sets.lt_curr.as_slice())?,
-        lt_foll: found(alloc, sets.lt_foll.as_slice())?,
-        marks: marks(alloc, sets, size)?,
+        st_curr_before: FieldList::from_items(found(alloc, sets.st_curr_before.as_slice())?),
+        st_curr_after: FieldList::from_items(found(alloc, sets.st_curr_after.as_slice())?),
+        st_foll: FieldList::from_items(found(alloc, sets.st_foll.as_slice())?),
+        lt_curr: FieldList::from_items(found(alloc, sets.lt_curr.as_slice())?),
+        lt_foll: FieldList::from_items(found(alloc, sets.lt_foll.as_slice())?),
+        marks: FieldList::from_items(marks(alloc, sets, size)?),
     })
 }
 
 /// The pictures that were found.
 #[tactic(auto, unfolding(spec_reference_pictures::specs::ReferencePictureSet::found))]
-fn found(alloc: Global, places: &[Option<u32>]) -> Result<FieldList<u32>, AllocError>
-    ensures { IfOk result (λ list. list ≡ found places.now) }
+fn found(alloc: Global, places: &[Option<u32>]) -> Result<Vec<u32>, AllocError>
+    ensures { IfOk result (λ list. list.items ≡ found places.now) }
 {
-    let mut list = FieldList::new(alloc);
-    for place in places {
-        match *place {
-            Some(found) => list.push(found)?,
-            None => {}
-        }
-    }
-    Ok(list)
+    places.iter().filter_map(|place| *place).collect(alloc)
 }
 
 /// How each picture is marked afterwards.
-fn marks(alloc: Global, sets: &NamedSets, size: usize) -> Result<FieldList<Mark>, AllocError>
+fn marks(alloc: Global, sets: &NamedSets, size: usize) -> Result<Vec<Mark>, AllocError>
     requires size { size < 2 ^ 32 }
-    ensures { IfOk result (λ marks. marks ≡ map (mark_after sets.now) (range_with_len 0 size)) }
+    ensures { IfOk result (λ marks. marks.items ≡ map (mark_after sets.now) (range_with_len 0 size)) }
 {
-    let mut marks = FieldList::new(alloc);
-    for k in 0..size {
-        marks.push(mark_after(sets, k as u32))?;
-    }
-    Ok(marks)
+    (0..size as u32).map(|k| mark_after(sets, k)).collect(alloc)
 }
 
 /// How the picture at place `k` is marked afterwards.
@@ -204,13 +161,7 @@ fn used_short(entries: &[ShortTermRef]) -> u32
     ensures value { result ≡ count_by (λ (r : ShortTermRef). r.used) entries.now }
     ensures few { result ≤ length entries.now }
 {
-    let mut count = 0;
-    for entry in entries {
-        if entry.used {
-            count += 1;
-        }
-    }
-    count
+    entries.iter().filter(|entry| entry.used).count() as u32
 }
 
 /// How many long-term entries are used by the picture itself.
@@ -219,11 +170,8 @@ fn used_long(entries: &[LongTermRef]) -> u32
     ensures value { result ≡ count_by (λ (r : LongTermRef). r.used_by_curr_pic_lt_flag) entries.now }
     ensures few { result ≤ length entries.now }
 {
-    let mut count = 0;
-    for entry in entries {
-        if entry.used_by_curr_pic_lt_flag {
-            count += 1;
-        }
-    }
-    count
+    entries
+        .iter()
+        .filter(|entry| entry.used_by_curr_pic_lt_flag)
+        .count() as u32
 }

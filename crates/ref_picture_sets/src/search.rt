@@ -50,12 +50,7 @@ fn is_named(name: PictureName, poc: i32) -> bool
 pub(crate) fn is_among(place: u32, places: &[Option<u32>]) -> bool
     ensures { result ≡ is_among place places.now }
 {
-    for other in places {
-        if is_place(place, *other) {
-            return true;
-        }
-    }
-    false
+    places.iter().any(|other| is_place(place, *other))
 }
 
 /// Whether this is the place.

@@ -1,14 +1,12 @@
 //! Short-term reference picture sets that tell their entries (7.3.7, 7.4.8).
 
 ghost use Rattle.std.specs.Prelude.{◌≡◌, ◌*◌, ◌≤◌, nat_abs, IfOk};
-ghost use Rattle.hv_base.specs.declared.field_rules.FieldRules.{FieldRules};
-ghost use Rattle.spec_fields.specs.Fields.{ReadsUnder};
+ghost use Rattle.header_fields.specs.Takes.{Takes};
 ghost use Rattle.spec_reference_pictures.specs.ShortTermSets.{signed, step, outward, explicit_set};
 
-use crate::short_term_fields::{flag, ue, ue_to};
+use header_fields::FieldReader;
 use header_types::{FieldList, ShortTermRef, StRps};
-use hv_base::SetError;
-use hv_bits::BitReader;
+use hv_base::Refusal;
 use std::alloc::Global;
 
 /// The difference of this size, below 0 where `negative`.
@@ -24,12 +22,12 @@ pub(crate) fn signed(negative: bool, size: u32) -> i32
 
 /// How much further out the next entry is, and whether it is used.
 #[tactic(auto, unfolding(spec_reference_pictures::specs::ShortTermSets::step))]
-fn step<'a>(reader: &mut BitReader<'a>) -> Result<(u32, bool), SetError>
-    ensures value { (rules : FieldRules) → ReadsUnder rules (λ x. x) result reader.new (step rules reader.old) }
+fn step<'a>(reader: &mut FieldReader<'a>) -> Result<(u32, bool), Refusal>
+    ensures value { Takes (λ x. x) result reader.old reader.new step }
     ensures small { IfOk result (λ x. x.0 ≤ 32768) }
 {
-    let delta_poc_minus1 = ue_to(reader, 32767)?;
-    let used_by_curr_pic_flag = flag(reader)?;
+    let delta_poc_minus1 = reader.ue_to(32767)?;
+    let used_by_curr_pic_flag = reader.flag()?;
     Ok((delta_poc_minus1 + 1, used_by_curr_pic_flag))
 }
 
@@ -47,12 +45,12 @@ fn entry_at(negative: bool, distance: u32, used: bool) -> ShortTermRef
 /// So many entries on one side, the nearest first.
 fn outward<'a>(
     alloc: Global,
-    reader: &mut BitReader<'a>,
+    reader: &mut FieldReader<'a>,
     negative: bool,
     count: u32,
-) -> Result<FieldList<ShortTermRef>, SetError>
+) -> Result<FieldList<ShortTermRef>, Refusal>
     requires { count ≤ 15 }
-    ensures { (rules : FieldRules) → ReadsUnder rules (λ x. x) result reader.new (outward rules negative 0 count reader.old) }
+    ensures { Takes (λ x. x) result reader.old reader.new (outward negative 0 count) }
 {
     let mut entries = FieldList::new(alloc);
     let mut distance = 0;
@@ -68,17 +66,15 @@ fn outward<'a>(
 #[tactic(auto, unfolding(spec_reference_pictures::specs::ShortTermSets::explicit_set))]
 pub(crate) fn read_explicit<'a>(
     alloc: Global,
-    reader: &mut BitReader<'a>,
+    reader: &mut FieldReader<'a>,
     greatest: u32,
-) -> Result<StRps, SetError>
+) -> Result<StRps, Refusal>
     requires { greatest ≤ 15 }
-    ensures { (rules : FieldRules) → ReadsUnder rules (λ x. x) result reader.new (explicit_set rules greatest reader.old) }
+    ensures { Takes (λ x. x) result reader.old reader.new (explicit_set greatest) }
 {
-    let num_negative_pics = ue(reader)?;
-    let num_positive_pics = ue(reader)?;
-    if num_negative_pics.saturating_add(num_positive_pics) > greatest {
-        return Err(SetError::Range);
-    }
+    let num_negative_pics = reader.ue()?;
+    let num_positive_pics = reader.ue()?;
+    reader.ranged(num_negative_pics.saturating_add(num_positive_pics) <= greatest)?;
     let negative = outward(alloc, reader, true, num_negative_pics)?;
     let positive = outward(alloc, reader, false, num_positive_pics)?;
     Ok(StRps { negative, positive })

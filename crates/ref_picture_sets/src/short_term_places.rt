@@ -2,7 +2,7 @@
 
 ghost use Rattle.std.specs.Prelude.{◌≡◌, ◌++◌, ◌*◌, ◌^◌, ◌<◌, ◌≤◌, pos, negsuc, ◌+ℤ◌, ◌≤ℤ◌, nat_abs, All, length, IfOk, OnOk};
 ghost use Rattle.header_types.specs.declared.short_term_set.ShortTermRef.{ShortTermRef};
-ghost use Rattle.spec_reference_pictures.specs.ReferencePictureSet.{is_reference, is_short_term, place_of, reference_count, reference_counts, short_term_count, short_term_counts, short_term_set};
+ghost use Rattle.spec_reference_pictures.specs.ReferencePictureSet.{is_reference, is_short_term, place_of, reference_poc, reference_pocs, short_term_poc, short_term_pocs, short_term_set};
 ghost use Rattle.header_types.specs.declared.reference_pictures.PictureName.TheVariants.{OrderCount};
 
 use crate::long_term::{CurrentPicture, is_for};
@@ -12,25 +12,23 @@ use header_types::{DpbPicture, FieldList, Mark, PictureKind, PictureName, ShortT
 use std::alloc::{AllocError, Global};
 
 /// The order counts of the pictures that are marked as reference when the set is derived.
-#[tactic(auto, using(crate::proofs::Growing::lengths), unfolding(spec_reference_pictures::specs::ReferencePictureSet::reference_counts))]
-pub(crate) fn reference_counts(
+#[tactic(auto, using(crate::proofs::Growing::lengths), unfolding(spec_reference_pictures::specs::ReferencePictureSet::reference_pocs))]
+pub(crate) fn reference_pocs(
     alloc: Global,
     kind: PictureKind,
     dpb: &[DpbPicture],
-) -> Result<FieldList<Option<i32>>, AllocError>
-    ensures value { IfOk result (λ counts. counts ≡ reference_counts kind dpb.now) }
-    ensures each { IfOk result (λ counts. length counts ≡ length dpb.now) }
+) -> Result<Vec<Option<i32>>, AllocError>
+    ensures value { IfOk result (λ counts. counts.items ≡ reference_pocs kind dpb.now) }
+    ensures each { IfOk result (λ counts. length counts.items ≡ length dpb.now) }
 {
-    let mut counts = FieldList::new(alloc);
-    for picture in dpb {
-        counts.push(reference_count(kind, *picture))?;
-    }
-    Ok(counts)
+    dpb.iter()
+        .map(|picture| reference_poc(kind, *picture))
+        .collect(alloc)
 }
 
 /// The order count of a picture that is marked as reference when the set is derived.
-fn reference_count(kind: PictureKind, picture: DpbPicture) -> Option<i32>
-    ensures { result ≡ reference_count kind picture }
+fn reference_poc(kind: PictureKind, picture: DpbPicture) -> Option<i32>
+    ensures { result ≡ reference_poc kind picture }
 {
     if begins_anew(kind) {
         return None;
@@ -42,32 +40,32 @@ fn reference_count(kind: PictureKind, picture: DpbPicture) -> Option<i32>
 }
 
 /// The order counts of the short-term pictures, where `long` are the places of those that long-term entries name.
-#[tactic(auto, using(crate::proofs::Growing::lengths), unfolding(spec_reference_pictures::specs::ReferencePictureSet::short_term_counts))]
-pub(crate) fn short_term_counts(
+#[tactic(auto, using(crate::proofs::Growing::lengths), unfolding(spec_reference_pictures::specs::ReferencePictureSet::short_term_pocs))]
+pub(crate) fn short_term_pocs(
     alloc: Global,
     kind: PictureKind,
     long: &[Option<u32>],
     dpb: &[DpbPicture],
 ) -> Result<FieldList<Option<i32>>, AllocError>
     requires few { length dpb.now < 2 ^ 32 }
-    ensures value { IfOk result (λ counts. counts ≡ short_term_counts kind long.now dpb.now) }
+    ensures value { IfOk result (λ counts. counts ≡ short_term_pocs kind long.now dpb.now) }
     ensures each { IfOk result (λ counts. length counts ≡ length dpb.now) }
 {
     let mut counts = FieldList::new(alloc);
     for (k, picture) in dpb.iter().enumerate() {
-        counts.push(short_term_count(kind, long, k as u32, *picture))?;
+        counts.push(short_term_poc(kind, long, k as u32, *picture))?;
     }
     Ok(counts)
 }
 
 /// The order count of the picture at place `k` if it is a short-term picture.
-fn short_term_count(
+fn short_term_poc(
     kind: PictureKind,
     long: &[Option<u32>],
     k: u32,
     picture: DpbPicture,
 ) -> Option<i32>
-    ensures { result ≡ short_term_count kind long.now k picture }
+    ensures { result ≡ short_term_poc kind long.now k picture }
 {
     if begins_anew(kind) || is_among(k, long) {
         return None;
@@ -78,23 +76,23 @@ fn short_term_count(
     }
 }
 
-/// Adds the places of the pictures that the entries for the picture itself name, or of those that the others name.
-pub(crate) fn add_short_term(
-    places: &mut FieldList<Option<u32>>,
+/// The places of the pictures that the entries for the picture itself name, or of those that the others name.
+#[tactic(auto, unfolding(spec_reference_pictures::specs::ReferencePictureSet::short_term_set))]
+pub(crate) fn short_term_set(
+    alloc: Global,
     counts: &[Option<i32>],
     picture: CurrentPicture,
     current: bool,
     entries: &[ShortTermRef],
-) -> Result<(), AllocError>
+) -> Result<Vec<Option<u32>>, AllocError>
     requires few { length counts.now < 2 ^ 32 }
-    ensures { OnOk result (places.new ≡ places.old ++ short_term_set counts.now picture.poc current entries.now) }
+    ensures { IfOk result (λ set. set.items ≡ short_term_set counts.now picture.poc current entries.now) }
 {
-    for entry in entries {
-        if is_for(current, entry.used) {
-            places.push(short_term_place(counts, picture, *entry))?;
-        }
-    }
-    Ok(())
+    entries
+        .iter()
+        .filter(|entry| is_for(current, entry.used))
+        .map(|entry| short_term_place(counts, picture, *entry))
+        .collect(alloc)
 }
 
 /// The place of the picture that an entry names.

@@ -1,36 +1,34 @@
 //! Short-term reference picture sets that are predicted from another set (7.3.7, 7.4.8).
 
 ghost use Rattle.std.specs.Prelude.{◌≡◌, ◌+◌, ◌*◌, ◌≤◌, ◌++◌, nat_abs, reverse, All, IfOk, OnOk};
-ghost use Rattle.hv_base.specs.declared.field_rules.FieldRules.{FieldRules};
+ghost use Rattle.header_fields.specs.Takes.{Takes};
 ghost use Rattle.header_types.specs.declared.short_term_set.ShortTermRef.{ShortTermRef};
-ghost use Rattle.spec_fields.specs.Fields.{ReadsUnder};
 ghost use Rattle.header_types.specs.ReferencePictures.{IsStRps};
 ghost use Rattle.spec_reference_pictures.specs.ShortTermSets.{use_delta, use_flags, moved_entry, moved, sides, moved_set, delta_idx_minus1, source_at, predicted_set};
 
 use crate::short_term_explicit::signed;
-use crate::short_term_fields::{flag, ue_to};
+use header_fields::FieldReader;
 use header_types::{FieldList, ShortTermRef, StRps};
-use hv_base::SetError;
-use hv_bits::BitReader;
+use hv_base::Refusal;
 use std::alloc::{AllocError, Global};
 
 /// use_delta_flag, which is 1 where an entry is used.
 #[tactic(auto, unfolding(spec_reference_pictures::specs::ShortTermSets::use_delta))]
-fn use_delta<'a>(reader: &mut BitReader<'a>, used: bool) -> Result<bool, SetError>
-    ensures { (rules : FieldRules) → ReadsUnder rules (λ x. x) result reader.new (use_delta rules used reader.old) }
+fn use_delta<'a>(reader: &mut FieldReader<'a>, used: bool) -> Result<bool, Refusal>
+    ensures { Takes (λ x. x) result reader.old reader.new (use_delta used) }
 {
     if used {
         return Ok(true);
     }
-    flag(reader)
+    reader.flag()
 }
 
 /// used_by_curr_pic_flag and use_delta_flag.
 #[tactic(auto, unfolding(spec_reference_pictures::specs::ShortTermSets::use_flags))]
-fn use_flags<'a>(reader: &mut BitReader<'a>) -> Result<(bool, bool), SetError>
-    ensures { (rules : FieldRules) → ReadsUnder rules (λ x. x) result reader.new (use_flags rules reader.old) }
+fn use_flags<'a>(reader: &mut FieldReader<'a>) -> Result<(bool, bool), Refusal>
+    ensures { Takes (λ x. x) result reader.old reader.new use_flags }
 {
-    let used_by_curr_pic_flag = flag(reader)?;
+    let used_by_curr_pic_flag = reader.flag()?;
     let use_delta_flag = use_delta(reader, used_by_curr_pic_flag)?;
     Ok((used_by_curr_pic_flag, use_delta_flag))
 }
@@ -58,13 +56,13 @@ fn add_moved(
 /// Those of `source` that are in use, each moved by `delta`.
 fn read_moved<'a>(
     alloc: Global,
-    reader: &mut BitReader<'a>,
+    reader: &mut FieldReader<'a>,
     delta: i32,
     source: &[ShortTermRef],
-) -> Result<Vec<ShortTermRef>, SetError>
+) -> Result<Vec<ShortTermRef>, Refusal>
     requires near { All (λ (r : ShortTermRef). nat_abs r.delta_poc ≤ 32768 * 78) source.now }
     requires small { nat_abs delta ≤ 32768 }
-    ensures { (rules : FieldRules) → ReadsUnder rules (λ v. v.items) result reader.new (moved rules delta source.now reader.old) }
+    ensures { Takes (λ v. v.items) result reader.old reader.new (moved delta source.now) }
 {
     let mut entries = Vec::new(alloc);
     for entry in source {
@@ -109,15 +107,15 @@ fn sides(alloc: Global, falling: Vec<ShortTermRef>) -> Result<StRps, AllocError>
 #[tactic(auto, unfolding(spec_reference_pictures::specs::ShortTermSets::moved_set))]
 fn read_moved_set<'a>(
     alloc: Global,
-    reader: &mut BitReader<'a>,
+    reader: &mut FieldReader<'a>,
     negative: &[ShortTermRef],
     positive: &[ShortTermRef],
     delta: i32,
-) -> Result<StRps, SetError>
+) -> Result<StRps, Refusal>
     requires negative { All (λ (r : ShortTermRef). nat_abs r.delta_poc ≤ 32768 * 78) negative.now }
     requires positive { All (λ (r : ShortTermRef). nat_abs r.delta_poc ≤ 32768 * 78) positive.now }
     requires small { nat_abs delta ≤ 32768 }
-    ensures { (rules : FieldRules) → ReadsUnder rules (λ x. x) result reader.new (moved_set rules (record { negative = negative.now; positive = positive.now }) delta reader.old) }
+    ensures { Takes (λ x. x) result reader.old reader.new (moved_set (record { negative = negative.now; positive = positive.now }) delta) }
 {
     let negative = read_moved(alloc, reader, delta, negative)?;
     let positive = read_moved(alloc, reader, delta, positive)?;
@@ -130,21 +128,23 @@ fn read_moved_set<'a>(
         alloc,
         joined(positive, own.as_slice(), negative.as_slice())?,
     )?;
-    if set.negative.len() + set.positive.len() > 16 {
-        return Err(SetError::Range);
-    }
+    reader.ranged(set.negative.len() + set.positive.len() <= 16)?;
     Ok(set)
 }
 
 /// delta_idx_minus1, which is 0 in a sequence parameter set.
 #[tactic(auto, unfolding(spec_reference_pictures::specs::ShortTermSets::delta_idx_minus1))]
-fn delta_idx_minus1<'a>(reader: &mut BitReader<'a>, index: u32, count: u32) -> Result<u32, SetError>
+fn delta_idx_minus1<'a>(
+    reader: &mut FieldReader<'a>,
+    index: u32,
+    count: u32,
+) -> Result<u32, Refusal>
     requires { 1 ≤ index }
-    ensures value { (rules : FieldRules) → ReadsUnder rules (λ x. x) result reader.new (delta_idx_minus1 rules index count reader.old) }
+    ensures value { Takes (λ x. x) result reader.old reader.new (delta_idx_minus1 index count) }
     ensures in_range { IfOk result (λ x. x + 1 ≤ index) }
 {
     if index == count {
-        return ue_to(reader, index - 1);
+        return reader.ue_to(index - 1);
     }
     Ok(0)
 }
@@ -168,18 +168,18 @@ fn entries_at(former: &[StRps], place: usize) -> (&[ShortTermRef], &[ShortTermRe
 #[tactic(auto, unfolding(spec_reference_pictures::specs::ShortTermSets::predicted_set))]
 pub(crate) fn read_predicted<'a>(
     alloc: Global,
-    reader: &mut BitReader<'a>,
+    reader: &mut FieldReader<'a>,
     index: u32,
     count: u32,
     former: &[StRps],
-) -> Result<StRps, SetError>
+) -> Result<StRps, Refusal>
     requires index { 1 ≤ index }
     requires former { All (IsStRps 78) former.now }
-    ensures { (rules : FieldRules) → ReadsUnder rules (λ x. x) result reader.new (predicted_set rules index count former.now reader.old) }
+    ensures { Takes (λ x. x) result reader.old reader.new (predicted_set index count former.now) }
 {
     let delta_idx_minus1 = delta_idx_minus1(reader, index, count)?;
-    let delta_rps_sign = flag(reader)?;
-    let abs_delta_rps_minus1 = ue_to(reader, 32767)?;
+    let delta_rps_sign = reader.flag()?;
+    let abs_delta_rps_minus1 = reader.ue_to(32767)?;
     let delta = signed(delta_rps_sign, abs_delta_rps_minus1 + 1);
     let (negative, positive) = entries_at(former, (index - (delta_idx_minus1 + 1)) as usize);
     read_moved_set(alloc, reader, negative, positive, delta)

@@ -1,4 +1,2 @@
-pub mod Logarithm
-pub mod Repeating
-pub mod EntryWeights
+pub mod Items
 pub mod UnitPlaces

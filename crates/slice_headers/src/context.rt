@@ -1,18 +1,18 @@
 //! What a slice segment header is read under.
 
-ghost use Rattle.std.specs.Prelude.{◌≡◌, ◌≤◌};
+ghost use Rattle.std.specs.Prelude.{◌≡◌, ◌≤◌, IfOk, slice_get};
 ghost use Rattle.std.specs.Option.{option_copied};
-ghost use Rattle.header_types.specs.SequenceParameterSets.{max_lsb};
-ghost use Rattle.spec_fields.specs.Fields.{Reads};
-ghost use Rattle.spec_slice_headers.specs.Context.{ceil_log2, first_of, flag_where, no_rasl_output};
+ghost use Rattle.header_fields.specs.Takes.{Takes};
+ghost use Rattle.spec_formats.specs.Fields.{flag, optional};
+ghost use Rattle.spec_slice_headers.specs.Context.{ceil_log2, first_of, flag_or, header_of, last_address, last_segment, no_rasl_output_flag, slice_header, slice_of, ue_or};
 ghost use Rattle.slice_headers.specs.Views.{context_of};
 
-use header_fields::flag;
-use header_types::{Former, Sets, SliceHeaderFields, Sps};
-use hv_base::{Refusal, SLICE_HEADER_RULES};
-use hv_bits::BitReader;
+use header_fields::FieldReader;
+use header_types::{Former, Sets, SliceHeaderFields};
+use hv_base::{BLA_W_LP, CRA_NUT, IDR_N_LP, Refusal};
+use plan_types::SegmentPlan;
 
-/// A slice segment's NAL unit, and what came before it.
+/// A slice segment's NAL unit, what the pictures before left to its picture, and the segments of its picture before it.
 #[derive(Clone, Copy)]
 pub struct SegmentContext<'a> {
     /// The number of the unit.
@@ -23,6 +23,7 @@ pub struct SegmentContext<'a> {
     pub temporal_id: u8,
     pub sets: &'a Sets,
     pub former: &'a Former,
+    pub segments: &'a [SegmentPlan],
 }
 
 /// The first header of the picture, for a segment that isn't the first.
@@ -32,36 +33,84 @@ pub fn first_of<'a>(context: SegmentContext<'a>, is_first: bool) -> Option<&'a S
     if is_first {
         return None;
     }
-    match &context.former.first {
+    header_at(context.segments, 0)
+}
+
+/// The header of the segment of this number.
+fn header_at(segments: &[SegmentPlan], number: usize) -> Option<&SliceHeaderFields>
+    ensures { option_copied result ≡ header_of (slice_get segments.now number) }
+{
+    match segments.get(number) {
         None => None,
-        Some(header) => Some(header.fields()),
+        Some(segment) => Some(segment.header.fields()),
     }
 }
 
-/// MaxPicOrderCntLsb.
-pub fn max_lsb(sps: &Sps) -> u32
-    ensures value { result ≡ max_lsb sps.now }
-    ensures low { 16 ≤ result }
-    ensures high { result ≤ 65536 }
+/// The header of the last slice of these segments.
+pub fn slice_header(segments: &[SegmentPlan]) -> Option<&SliceHeaderFields>
+    ensures { option_copied result ≡ slice_header segments.now }
 {
-    sps.max_lsb()
+    header_at(segments, last_slice(segments))
 }
 
-/// NoRaslOutputFlag of a unit of this type, where `fresh` says whether a sequence begins.
-pub fn no_rasl_output(nal_type: u8, fresh: bool) -> bool
-    ensures { result ≡ no_rasl_output nal_type fresh }
+/// The number of the segment that begins the last slice of these.
+fn last_slice(segments: &[SegmentPlan]) -> usize
+    ensures { result ≡ slice_of (last_segment segments.now) }
 {
-    (16 <= nal_type && nal_type <= 20) || (nal_type == 21 && fresh)
-}
-
-/// A flag that is 0 where it isn't coded.
-pub fn flag_where<'a>(reader: &mut BitReader<'a>, is_coded: bool) -> Result<bool, Refusal>
-    ensures { Reads (λ x. x) result reader.new (flag_where is_coded reader.old) }
-{
-    if !is_coded {
-        return Ok(false);
+    match segments.last() {
+        None => 0,
+        Some(segment) => segment.slice,
     }
-    flag(reader, SLICE_HEADER_RULES)
+}
+
+/// The address of the last of these segments.
+pub fn last_address(segments: &[SegmentPlan]) -> Option<u32>
+    ensures { result ≡ last_address segments.now }
+{
+    match segments.last() {
+        None => None,
+        Some(segment) => Some(segment.header.fields().segment.slice_segment_address),
+    }
+}
+
+/// NoRaslOutputFlag of a unit of this type, where `first_in_sequence` says whether a sequence begins.
+pub fn no_rasl_output_flag(nal_type: u8, first_in_sequence: bool) -> bool
+    ensures { result ≡ no_rasl_output_flag nal_type first_in_sequence }
+{
+    (BLA_W_LP <= nal_type && nal_type <= IDR_N_LP) || (nal_type == CRA_NUT && first_in_sequence)
+}
+
+/// A flag, or what is inferred where it isn't coded.
+pub fn flag_or<'a>(
+    reader: &mut FieldReader<'a>,
+    is_coded: bool,
+    inferred: bool,
+) -> Result<bool, Refusal>
+    ensures { Takes (λ x. x) result reader.old reader.new (flag_or is_coded inferred) }
+{
+    if is_coded {
+        reader.flag()
+    } else {
+        Ok(inferred)
+    }
+}
+
+/// ue(v) of at most `greatest`, or what is inferred where it isn't coded.
+pub fn ue_or<'a>(
+    reader: &mut FieldReader<'a>,
+    is_coded: bool,
+    greatest: u32,
+    inferred: u32,
+) -> Result<u32, Refusal>
+    requires { inferred ≤ greatest }
+    ensures value { Takes (λ x. x) result reader.old reader.new (ue_or is_coded greatest inferred) }
+    ensures in_range { IfOk result (λ x. x ≤ greatest) }
+{
+    if is_coded {
+        reader.ue_to(greatest)
+    } else {
+        Ok(inferred)
+    }
 }
 
 /// How many bits u(v) has for a field of `n` values: Ceil(Log2(n)).
@@ -70,11 +119,6 @@ pub fn ceil_log2(n: u32) -> u32
     ensures value { result ≡ ceil_log2 n }
     ensures few { result ≤ 32 }
 {
-    let mut count = 0;
-    for k in 0..32_u32 {
-        if (1_u64 << k) < u64::from(n) {
-            count += 1;
-        }
-    }
-    count
+    let highest = n.saturating_sub(1);
+    (0..32_u32).filter(|k| highest >> *k > 0).count() as u32
 }

@@ -1,11 +1,11 @@
 //! Reads slice segment headers (H.265 7.3.6, 7.4.7).
 #![tactic(auto)]
 
-mod agreement;
 mod context;
 mod entry_points;
 mod inter_fields;
 mod named_sets;
+mod reference_rules;
 mod references;
 mod segment_header;
 mod segment_start;
@@ -14,10 +14,3 @@ mod weights;
 
 pub use entry_points::{data_size, substreams};
 pub use segment_header::read_slice_header;
-
-#[cfg(test)]
-mod entry_point_tests;
-#[cfg(test)]
-mod header_rows;
-#[cfg(test)]
-mod tests;

@@ -1,14 +1,13 @@
 //! The parameter sets that a slice names, and the rules on them (7.4.7.1).
 
-ghost use Rattle.std.specs.Prelude.{◌≡◌, ◌==◌, None, slice_index_or};
-ghost use Rattle.std.specs.Option.{option_copied, option_map};
-ghost use Rattle.spec_fields.specs.Fields.{Parses};
-ghost use Rattle.spec_slice_headers.specs.Context.{agrees};
+ghost use Rattle.std.specs.Prelude.{◌≡◌};
+ghost use Rattle.std.specs.Option.{option_map};
+ghost use Rattle.spec_formats.specs.Fields.{Parses};
 ghost use Rattle.spec_slice_headers.specs.NamedSets.{named_by, named_sets, is_active};
 ghost use Rattle.slice_headers.specs.Views.{context_of, named_of};
 
-use crate::context::{SegmentContext, first_of, no_rasl_output};
-use header_types::{Pps, Sets, SliceHeaderFields, Sps, same_content};
+use crate::context::{SegmentContext, first_of, no_rasl_output_flag};
+use header_types::{Pps, Sets, Shared, Sps};
 use hv_base::{FaultKind, Refusal};
 use param_sets::fits;
 
@@ -19,52 +18,25 @@ pub struct SliceSets<'a> {
     pub sps: &'a Sps,
 }
 
-/// The accepted picture parameter set of an id.
-fn pps_at(sets: &[Option<Pps>], id: u32) -> Option<&Pps>
-    ensures { option_copied result ≡ slice_index_or sets.now id None }
-{
-    match sets.get(id as usize) {
-        Some(Some(pps)) => Some(pps),
-        _ => None,
-    }
-}
-
-/// The accepted sequence parameter set of an id.
-fn sps_at(sets: &[Option<Sps>], id: u32) -> Option<&Sps>
-    ensures { option_copied result ≡ slice_index_or sets.now id None }
-{
-    match sets.get(id as usize) {
-        Some(Some(sps)) => Some(sps),
-        _ => None,
-    }
-}
-
 /// The accepted picture parameter set of an id, and the accepted sequence parameter set that it names.
 fn named_by(sets: &Sets, id: u32) -> Option<SliceSets<'_>>
     ensures { option_map named_of result ≡ named_by sets.now id }
 {
-    let pps = pps_at(sets.pps.as_slice(), id)?;
-    let sps = sps_at(sets.sps.as_slice(), pps.fields().pps_seq_parameter_set_id)?;
-    Some(SliceSets { pps, sps })
-}
-
-/// Whether the picture's first segment names the same picture parameter set.
-fn is_same_set(former: Option<&SliceHeaderFields>, id: u32) -> bool
-    ensures { result ≡ agrees (option_copied former.entry) (λ h. h.segment.slice_pic_parameter_set_id == id) }
-{
-    match former {
-        None => true,
-        Some(first) => first.segment.slice_pic_parameter_set_id == id,
-    }
+    let pps = sets.pps(id)?;
+    let sps = sets.sps(pps.fields().pps_seq_parameter_set_id)?;
+    Some(SliceSets {
+        pps: &**pps,
+        sps: &**sps,
+    })
 }
 
 /// Whether the active sequence parameter set has the same content.
-fn is_active(active: &Option<Sps>, sps: &Sps) -> bool
+fn is_active(active: &Option<Shared<Sps>>, sps: &Sps) -> bool
     ensures { result ≡ is_active active.now sps.now }
 {
     match active {
         None => false,
-        Some(active) => same_content(active.fields(), sps.fields()),
+        Some(active) => *active.fields() == *sps.fields(),
     }
 }
 
@@ -84,12 +56,12 @@ pub fn read_named_sets<'a>(
     if !fits(named.sps.fields(), named.pps.fields()) {
         return Err(Refusal::Fault(FaultKind::SetMismatch));
     }
-    let begins = no_rasl_output(context.nal_type, context.former.fresh);
+    let begins = no_rasl_output_flag(context.nal_type, context.former.first_in_sequence);
     if !begins && !is_active(&context.former.active, named.sps) {
         return Err(Refusal::Fault(FaultKind::SpsChanged));
     }
     let former = first_of(context, is_first);
-    if !is_same_set(former, id) {
+    if !former.is_none_or(|h| h.segment.slice_pic_parameter_set_id == id) {
         return Err(Refusal::Fault(FaultKind::SliceMismatch));
     }
     Ok(named)

@@ -1,2 +1,5 @@
 pub mod TableRules
 pub mod Renormalization
+pub mod Times
+pub mod Prefix
+pub mod Fixed

@@ -41,9 +41,9 @@ pub scaled_below : (offset range more n : ℕ) → offset < range → more < 2 ^
 scaled_below offset range more n below small = grind arith
 
 -- what renormalization leaves is live, in numbers of 32 bits too
-pub renormalized_live : (range offset more n : ℕ) (left : List Bool) → 2 ≤ range → range ≤ 510 → offset < range → n ≡ doublings range → more < 2 ^ n
-    → IsLive (record { range = range * 2 ^ n % 4294967296; offset = offset * 2 ^ n % 4294967296 + more; left = left })
-renormalized_live range offset more n left low high below is small =
+pub renormalized_live : (range offset more n at : ℕ) (bits : List Bool) → 2 ≤ range → range ≤ 510 → offset < range → n ≡ doublings range → more < 2 ^ n
+    → IsLive (record { range = range * 2 ^ n % 4294967296; offset = offset * 2 ^ n % 4294967296 + more; bits = bits; at = at })
+renormalized_live range offset more n at bits low high below is small =
     let d : Doubled range = Doubled-range range low high in
     let least : 256 ≤ range * 2 ^ n = rw is d.low in
     let greatest : range * 2 ^ n ≤ 510 = rw is d.high in

@@ -1,8 +1,10 @@
 -- Contexts: their first values, and how a bin changes them. A context is 2 * pStateIdx + valMps.
-use Rattle.std.specs.Prelude.{ℕ, ◌+◌, ◌-◌, ◌*◌, ◌/◌, ◌%◌, ◌==◌, nat_le, if◌then◌else◌, slice_index, ℤ, pos, ◌+ℤ◌, ◌-ℤ◌, ◌*ℤ◌}
+use Rattle.std.specs.Prelude.{ℕ, ◌+◌, ◌-◌, ◌*◌, ◌/◌, ◌%◌, ◌==◌, nat_le, if◌then◌else◌, slice_index, get_or, List, [], map, ℤ, pos, ◌+ℤ◌, ◌-ℤ◌, ◌*ℤ◌}
 use Rattle.std.specs.Int.{int_shr, int_max, int_min}
+use Rattle.std.specs.List.{range_with_len}
 use lib.Signed.{mag}
 use Rattle.spec_cabac.specs.declared.tables.TheConstants.{RANGE_TAB_LPS, TRANS_IDX_LPS, TRANS_IDX_MPS}
+use Rattle.spec_cabac.specs.declared.init_values.TheConstants.{INIT_VALUES}
 
 -- ivlLpsRange, where qRangeIdx is (ivlCurrRange >> 6) & 3 (9.3.4.3.2)
 unfoldable pub lps_range_of : ℕ → ℕ → ℕ
@@ -41,3 +43,11 @@ context_of_pre_state pre = if nat_le pre 63 then 2 * (63 - pre) else 2 * (pre - 
 -- the first value of a context variable (9.3.2.2)
 unfoldable pub first_context : ℕ → ℕ → ℕ
 first_context qp init_value = context_of_pre_state (pre_context_state qp init_value)
+
+-- the contexts of these initValues
+abbrev pub contexts_of : ℕ → List ℕ → List ℕ
+contexts_of qp init_values = map (λ i. first_context qp (slice_index init_values i)) (range_with_len 0 154)
+
+-- all contexts before the first bin of a slice, from SliceQpY and initType (9.3.2.2)
+unfoldable pub first_contexts : ℤ → ℕ → List ℕ
+first_contexts qp init_type = contexts_of (mag (clip3 (pos 0) (pos 51) qp)) (get_or INIT_VALUES init_type [])

@@ -1,3 +1,4 @@
 pub mod Contexts
 pub mod Engine
+pub mod Bins
 pub mod Plain

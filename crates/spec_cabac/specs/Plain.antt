@@ -3,4 +3,4 @@ use Rattle.spec_cabac.specs.declared.plain.PlainEngine.{PlainEngine}
 use Rattle.spec_cabac.specs.Engine.{Engine}
 
 abbrev pub engine_of : PlainEngine → Engine
-engine_of e = record { range = e.range; offset = e.offset; left = e.left.now }
+engine_of e = record { range = e.range; offset = e.offset; bits = e.bits.now; at = e.at }

@@ -2,32 +2,38 @@
 
 ghost use Rattle.std.specs.Prelude.{◌≡◌, ◌+◌, ◌*◌, ◌^◌, ◌<◌, ◌≤◌, length, IfSome, OnSome, false};
 ghost use Rattle.spec_bits.specs.Bits.{Finds};
-ghost use Rattle.spec_cabac.specs.Engine.{IsLive, start_at, doublings, renormalized_at, decision_at, bypass_at, terminate_at};
+ghost use Rattle.spec_cabac.specs.Engine.{IsLive, left, number_at, start_at, doublings, renormalized_at, decision_at, bypass_at, terminate_at};
 ghost use Rattle.spec_cabac.specs.Plain.{engine_of};
 
 use crate::context::{after_lps, after_mps};
 use crate::tables::lps_range;
 use spec_bits::unsigned;
 
-/// ivlCurrRange, ivlOffset, and the bits that are not read yet.
+/// ivlCurrRange, ivlOffset, the bits of the substream, and the place of the one that is read next.
 #[derive(Clone, Copy, Debug)]
 pub struct PlainEngine<'a> {
     pub range: u32,
     pub offset: u32,
-    pub left: &'a [bool],
+    pub bits: &'a [bool],
+    pub at: usize,
 }
 
 /// The engine after initialization (9.3.2.5); `None` where there are fewer than nine bits.
-#[tactic(auto, unfolding(crate::specs::Engine::start_at))]
+#[tactic(auto, unfolding(crate::specs::Engine::started_at))]
 pub fn start(bits: &[bool]) -> Option<PlainEngine<'_>>
     ensures value { Finds engine_of result (start_at bits.now) }
     ensures live { IfSome result (λ e. IsLive (engine_of e)) }
 {
-    let (offset, left) = unsigned(9, bits)?;
-    Some(PlainEngine {
+    let first = PlainEngine {
         range: 510,
+        offset: 0,
+        bits,
+        at: 0,
+    };
+    let (offset, after) = number(9, first)?;
+    Some(PlainEngine {
         offset: offset.min(509),
-        left,
+        ..after
     })
 }
 
@@ -44,10 +50,10 @@ pub fn decision(e: PlainEngine<'_>, context: u8) -> Option<(bool, PlainEngine<'_
     let mps = context % 2 == 1;
     let rest = e.range - lps;
     if rest <= e.offset {
-        let after = renormalized(lps, e.offset - rest, e.left)?;
+        let after = renormalized(lps, e.offset - rest, e)?;
         Some((!mps, after, after_lps(context)))
     } else {
-        let after = renormalized(rest, e.offset, e.left)?;
+        let after = renormalized(rest, e.offset, e)?;
         Some((mps, after, after_mps(context)))
     }
 }
@@ -59,25 +65,14 @@ pub fn bypass(e: PlainEngine<'_>) -> Option<(bool, PlainEngine<'_>)>
     ensures value { Finds (λ f. (f.0, engine_of f.1)) result (bypass_at (engine_of e.entry)) }
     ensures live { IfSome result (λ f. IsLive (engine_of f.1)) }
 {
-    let (bit, left) = unsigned(1, e.left)?;
-    let range = e.range;
+    let (bit, after) = number(1, e)?;
+    let range = after.range;
     let offset = 2 * e.offset + bit;
     if range <= offset {
-        let after = PlainEngine {
-            range,
-            offset: offset - range,
-            left,
-        };
-        Some((true, after))
+        let offset = offset - range;
+        Some((true, PlainEngine { offset, ..after }))
     } else {
-        Some((
-            false,
-            PlainEngine {
-                range,
-                offset,
-                left,
-            },
-        ))
+        Some((false, PlainEngine { offset, ..after }))
     }
 }
 
@@ -92,25 +87,25 @@ pub fn terminate(e: PlainEngine<'_>) -> Option<(bool, PlainEngine<'_>)>
     if range <= e.offset {
         Some((true, PlainEngine { range, ..e }))
     } else {
-        Some((false, renormalized(range, e.offset, e.left)?))
+        Some((false, renormalized(range, e.offset, e)?))
     }
 }
 
 /// The engine after renormalization (9.3.4.3.3); `None` where bits lack.
 #[tactic(auto, unfolding(crate::specs::Engine::renormalized_at))]
-fn renormalized(range: u32, offset: u32, left: &[bool]) -> Option<PlainEngine<'_>>
+fn renormalized(range: u32, offset: u32, e: PlainEngine<'_>) -> Option<PlainEngine<'_>>
     requires low { 2 ≤ range }
     requires high { range ≤ 510 }
     requires below { offset < range }
-    ensures value { Finds engine_of result (renormalized_at (record { range = range; offset = offset; left = left.now })) }
+    ensures value { Finds engine_of result (renormalized_at range offset (engine_of e.entry)) }
     ensures live { IfSome result (λ e. IsLive (engine_of e)) }
 {
     let n = doublings(range);
-    let (more, left) = unsigned(n, left)?;
+    let (more, after) = number(n, e)?;
     Some(PlainEngine {
         range: range << n,
         offset: (offset << n) + more,
-        left,
+        ..after
     })
 }
 
@@ -122,4 +117,28 @@ fn doublings(range: u32) -> u32
 {
     let thresholds = [256u32, 128, 64, 32, 16, 8, 4, 2];
     thresholds.iter().filter(|t| range < **t).count() as u32
+}
+
+/// The number that the next `n` bits spell, and the engine behind them; `None` where fewer are left.
+#[tactic(auto, unfolding(crate::specs::Engine::number_at, spec_bits::specs::Bits::u_at))]
+fn number(n: u32, e: PlainEngine<'_>) -> Option<(u32, PlainEngine<'_>)>
+    requires { n ≤ 32 }
+    ensures value { Finds (λ f. (f.0, engine_of f.1)) result (number_at n (engine_of e.entry)) }
+    ensures small { IfSome result (λ f. f.0 < 2 ^ n) }
+    ensures range { IfSome result (λ f. f.1.range ≡ e.entry.range) }
+{
+    let (number, _) = unsigned(n, left(e))?;
+    let at = e.at + n as usize;
+    Some((number, PlainEngine { at, ..e }))
+}
+
+/// The bits that are not read yet.
+fn left(e: PlainEngine<'_>) -> &[bool]
+    ensures { result.now ≡ left (engine_of e.entry) }
+{
+    if e.at < e.bits.len() {
+        &e.bits[e.at..]
+    } else {
+        &[]
+    }
 }

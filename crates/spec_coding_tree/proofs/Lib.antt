@@ -1,3 +1,2 @@
-pub mod FixedLength
 pub mod Bins
 pub mod Spelling

@@ -2,12 +2,11 @@
 -- coding block 8x8: its elements in reading order. The coding quadtree splits without a bin, since the block of 16x16
 -- passes the picture, and its first quarter is the one coding unit (7.3.8.4). The transform tree isn't split, without
 -- a bin, since max_transform_hierarchy_depth_intra is 0 (7.3.8.8).
-use Rattle.std.specs.Prelude.{ℕ, ◌-◌, Bool, true, false, not, ◌&&◌, List, [], ◌∷◌, length, drop, map, Option, Some, None, Result, Ok, Err, if◌then◌else◌}
+use Rattle.std.specs.Prelude.{ℕ, Bool, true, false, List, map, Option, Some, None, Result, Ok, Err, if◌then◌else◌}
 use Rattle.std.specs.Bool.{beq}
-use Rattle.std.specs.List.{list_all}
 use Rattle.spec_bits.specs.Bits.{bits}
 use Rattle.spec_cabac.specs.Contexts.{first_context}
-use Rattle.spec_cabac.specs.Engine.{Engine, start_at}
+use Rattle.spec_cabac.specs.Engine.{Engine, start_at, is_trailing}
 use Rattle.hv_base.specs.declared.breach.Breach.{Breach}
 use Rattle.hv_base.specs.declared.breach.Breach.TheVariants as breach
 use Rattle.hv_base.specs.declared.fault.FaultKind.TheVariants as rule
@@ -79,26 +78,16 @@ coding_tree_unit has_pcm_flag = do
 unfoldable pub contexts_at : ℕ → List ℕ
 contexts_at qp = map (first_context qp) INIT_VALUES
 
--- a 1 and zero bits
-abbrev pub is_stop : List Bool → Bool
-is_stop [] = false
-is_stop (bit ∷ bits) = bit && list_all not bits
-
--- whether what stands from the last bit that was read on is rbsp_slice_segment_trailing_bits: the last bit is the stop
--- bit, and zero bits follow it (7.3.2.10, 9.3.2.5)
-unfoldable pub is_trailing : List Bool → List Bool → Bool
-is_trailing all left = is_stop (drop (length all - length left - 1) all)
-
 -- what follows the elements
-abbrev pub trailed : List Bool → Result (CodingUnit × State) Breach → Result CodingUnit Breach
-trailed all (Err e) = Err e
-trailed all (Ok x) = if is_trailing all x.1.0.left then Ok x.0 else Err (breach.Fault rule.TrailingBits)
+abbrev pub trailed : Result (CodingUnit × State) Breach → Result CodingUnit Breach
+trailed (Err e) = Err e
+trailed (Ok x) = if is_trailing x.1.0 then Ok x.0 else Err (breach.Fault rule.TrailingBits)
 
-abbrev pub started : Bool → List Bool → ℕ → Option Engine → Result CodingUnit Breach
-started has_pcm_flag all qp None = Err data_end
-started has_pcm_flag all qp (Some e) = trailed all (coding_tree_unit has_pcm_flag (e, contexts_at qp))
+abbrev pub started : Bool → ℕ → Option Engine → Result CodingUnit Breach
+started has_pcm_flag qp None = Err data_end
+started has_pcm_flag qp (Some e) = trailed (coding_tree_unit has_pcm_flag (e, contexts_at qp))
 
 -- slice_segment_data of the one coding tree unit, and rbsp_slice_segment_trailing_bits (7.3.8.1, 7.3.2.9): whether its
 -- coding unit has a pcm_flag, SliceQpY and the bytes
 unfoldable pub segment_data : Bool → ℕ → List ℕ → Result CodingUnit Breach
-segment_data has_pcm_flag qp bytes = started has_pcm_flag (bits bytes) qp (start_at (bits bytes))
+segment_data has_pcm_flag qp bytes = started has_pcm_flag qp (start_at (bits bytes))

@@ -1,4 +1,3 @@
 pub mod Reading
 pub mod Elements
 pub mod Grammar
-pub mod Plain

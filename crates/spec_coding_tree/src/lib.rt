@@ -1,10 +1,9 @@
-//! The syntax of a coding tree unit as the standard says it (7.3.8, 9.3): its elements in reading order, the bins that
-//! spell them, and a plain program that reads them.
+//! The syntax of a coding tree unit as the standard says it (7.3.8, 9.3): its elements in reading order, and the bins
+//! that spell them.
 #![tactic(auto)]
 
 mod contexts;
 mod laws;
-mod plain;
 mod tree;
 
 pub use contexts::{
@@ -12,5 +11,4 @@ pub use contexts::{
     PREV_INTRA_LUMA_PRED_FLAG,
 };
 pub use laws::read_as_spelled;
-pub use plain::{PlainState, coding_tree_unit, first_contexts, segment_data};
 pub use tree::{CodingUnit, LumaMode};

@@ -6,7 +6,7 @@ use Rattle.std.proofs.lemmas.List.Folds.{concat-append}
 use Rattle.hv_base.specs.declared.outcome.Outcome.{Outcome}
 use Rattle.hv_base.specs.declared.outcome.Outcome.TheVariants as outcome
 use Rattle.hv_base.specs.declared.refusal.Stop.{Stop}
-use Rattle.spec_pictures.specs.declared.picture_plan.PicturePlan.{PicturePlan}
+use Rattle.plan_types.specs.declared.picture_plan.PicturePlan.{PicturePlan}
 use Rattle.spec_pictures.specs.Planned.{Planned, planned_of, Extends}
 use Rattle.spec_pictures.proofs.Fronts.{of_extends}
 use Rattle.spec_decoder.specs.Decoder.{Decoded, Continues, decoded_picture, put_out, decoded_from, decoded_plan, decoded}

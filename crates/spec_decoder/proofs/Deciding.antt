@@ -5,8 +5,8 @@ use Rattle.hv_base.specs.declared.breach.Breach.TheVariants as breach
 use Rattle.hv_base.specs.declared.limit.Feature.{Feature}
 use Rattle.hv_base.specs.declared.refusal.Stop.{Stop}
 use Rattle.hv_base.specs.declared.refusal.Stop.TheVariants as stop
-use Rattle.spec_pictures.specs.declared.picture_plan.SegmentPlan.{SegmentPlan}
-use Rattle.spec_pictures.specs.declared.picture_plan.PicturePlan.{PicturePlan}
+use Rattle.plan_types.specs.declared.segment_plan.SegmentPlan.{SegmentPlan}
+use Rattle.plan_types.specs.declared.picture_plan.PicturePlan.{PicturePlan}
 use Rattle.spec_coding_tree.specs.declared.tree.CodingUnit.{CodingUnit}
 use Rattle.spec_pictures.specs.Planned.{planned_of}
 use Rattle.spec_decoder.specs.Features.{unbuilt}

@@ -9,8 +9,6 @@ use Rattle.hv_base.specs.declared.breach.Breach.{Breach}
 use Rattle.hv_base.specs.declared.fault.Fault.{Fault}
 use Rattle.hv_base.specs.declared.fault.FaultKind.{FaultKind}
 use Rattle.hv_base.specs.declared.refusal.Stop.{Stop}
-use Rattle.header_types.specs.declared.sps.SpsFields.{SpsFields}
-use Rattle.header_types.specs.declared.pps.PpsFields.{PpsFields}
 use Rattle.header_types.specs.declared.former.Former.{Former}
 use Rattle.header_types.specs.declared.former.Sets.{Sets}
 use Rattle.header_types.specs.declared.reference_pictures.DpbPicture.{DpbPicture}
@@ -26,17 +24,17 @@ use Rattle.spec_reference_pictures.specs.PictureOrderCount.{is_idr, pic_order_cn
 use Rattle.spec_reference_pictures.specs.ReferencePictureSet.{named_sets, reference_picture_set}
 use Rattle.spec_reference_pictures.proofs.DerivedSets.{marks_length, set_is}
 use Rattle.spec_slice_headers.specs.NamedSets.{Named, named_by}
-use Rattle.spec_output_order.specs.OutputOrder.{GoesOutAtOnce, NoneWaits, all_marked, outputs_of}
+use Rattle.spec_output_order.specs.OutputOrder.{GoesOutAtOnce, NoneNeededForOutput, all_marked, outputs_of}
 use Rattle.spec_output_order.proofs.AtOnce.{at_once, none_last}
-use Rattle.spec_pictures.specs.declared.picture_plan.SegmentPlan.{SegmentPlan}
-use Rattle.spec_pictures.specs.declared.picture_plan.PicturePlan.{PicturePlan}
-use Rattle.spec_pictures.specs.declared.between.Between.{Between}
+use Rattle.plan_types.specs.declared.segment_plan.SegmentPlan.{SegmentPlan}
+use Rattle.plan_types.specs.declared.picture_plan.PicturePlan.{PicturePlan}
+use Rattle.plan_types.specs.declared.between.Between.{Between}
 use Rattle.spec_pictures.specs.declared.unit_kind.UnitKind.{UnitKind}
 use Rattle.spec_pictures.specs.declared.unit_kind.UnitKind.TheVariants as unit
 use Rattle.spec_pictures.specs.UnitKinds.{kind_of_type, is_rasl}
 use Rattle.spec_pictures.specs.Closing.{broken_in}
 use Rattle.spec_pictures.specs.Pictures.{beginning, former_after}
-use Rattle.spec_pictures.specs.Steps.{Stepped, accepted, behind, close, closed_by, closed_open, closing, current_picture, first_flag, goes_on, joined, judged_header, kind_step, open_segments, opened, picture_of, segment_of, sequence_end, slice_judged, slice_step, step, then_next, unit_step, with_order, with_pps, with_set, with_sets, with_sps}
+use Rattle.spec_pictures.specs.Steps.{Stepped, begun, behind, behind_read, close, closed_by, closed_open, closing, continued, continued_by, continuing, current_picture, first_flag, goes_on, joined, judged_header, kind_step, opened_by, opening, picture_of, put_pps, put_sps, segment_of, sequence_end, slice_judged, slice_step, step, then_next, unit_step, with_order, with_set, with_sets}
 use Rattle.spec_pictures.specs.Planned.{Planned, last_of, planned_from, planned_next, planned_of}
 use Rattle.spec_decoder.specs.Decoder.{GoOutAtOnce}
 use Rattle.spec_decoder.specs.Features.{is_hidden, needs_inter}
@@ -101,12 +99,12 @@ more_once p segment once = λ e.
 -- ---- the state between two units
 
 abbrev IsQuiet : Between → Type 0
-IsQuiet s = NoneWaits s.former.dpb × IfSome s.picture IsOnce
+IsQuiet s = NoneNeededForOutput s.former.dpb × IfSome s.picture IsOnce
 
 abbrev IsQuietStep : Stepped → Type 0
 IsQuietStep t = GoOutAtOnce t.closed (IfOk t.next IsQuiet)
 
-behind_quiet : (s : Between) (p : PicturePlan) → NoneWaits p.outputs.dpb → IsQuiet (behind s p)
+behind_quiet : (s : Between) (p : PicturePlan) → NoneNeededForOutput p.outputs.dpb → IsQuiet (behind s p)
 unfolding former_after
 behind_quiet s p quiet = (quiet, tt)
 
@@ -130,17 +128,13 @@ then_next_quiet closed (Ok t) f quiet keeps = once_then closed (IsQuiet t) (IfOk
 closing_quiet : (s : Between) (f : Between → Result Between Stop) → IsQuiet s → ((t : Between) → IsQuiet t → IfOk (f t) IsQuiet) → IsQuietStep (closing s f)
 closing_quiet s f quiet keeps = then_next_quiet (close s).closed (close s).next f (close_quiet s quiet) keeps
 
-with_sps_quiet : (s : Between) (nal : ℕ) (r : Result SpsFields Breach) → IsQuiet s → IfOk (with_sps s nal r) IsQuiet
-with_sps_quiet s nal (Err e) quiet = tt
-with_sps_quiet s nal (Ok sps) quiet = quiet
-
-with_pps_quiet : (s : Between) (nal : ℕ) (r : Result PpsFields Breach) → IsQuiet s → IfOk (with_pps s nal r) IsQuiet
-with_pps_quiet s nal (Err e) quiet = tt
-with_pps_quiet s nal (Ok pps) quiet = quiet
+read_quiet : {X : Type 0} → (nal : ℕ) (r : Result X Breach) (f : X → Between) → ((x : X) → r ≡ Ok x → IsQuiet (f x)) → IfOk (behind_read nal r f) IsQuiet
+read_quiet nal (Err e) f keeps = tt
+read_quiet nal (Ok x) f keeps = keeps x refl
 
 -- ---- slice segments
 
-opened_once : (former : Former) (u : NalUnit) (header : SliceHeaderFields) (n : Named) (poc : ℤ) (rps : Rps) → NoneWaits former.dpb → length rps.marks ≡ length former.dpb
+opened_once : (former : Former) (u : NalUnit) (header : SliceHeaderFields) (n : Named) (poc : ℤ) (rps : Rps) → NoneNeededForOutput former.dpb → length rps.marks ≡ length former.dpb
     → IfOk (with_set former.dpb u header n poc (Ok rps)) IsOnce
 opened_once former u header n poc rps quiet marks =
     let first : SegmentPlan = segment_of [] rps u header in
@@ -158,42 +152,56 @@ opened_once former u header n poc rps quiet marks =
     subst (λ (size : ℕ). GoesOutAtOnce size p.outputs) (marked_length former.dpb rps.marks marks)
     (at_once (current_picture header n.sps poc) former.dpb rps.marks quiet (first_shown first is.shown) is.ordered)
 
-with_set_once : (former : Former) (u : NalUnit) (header : SliceHeaderFields) (n : Named) (poc : ℤ) (r : Result Rps FaultKind) → NoneWaits former.dpb
+with_set_once : (former : Former) (u : NalUnit) (header : SliceHeaderFields) (n : Named) (poc : ℤ) (r : Result Rps FaultKind) → NoneNeededForOutput former.dpb
     → ((rps : Rps) → r ≡ Ok rps → length rps.marks ≡ length former.dpb) → IfOk (with_set former.dpb u header n poc r) IsOnce
 with_set_once former u header n poc (Err kind) quiet marks = tt
 with_set_once former u header n poc (Ok rps) quiet marks = opened_once former u header n poc rps quiet (marks rps refl)
 
-with_order_once : (former : Former) (u : NalUnit) (header : SliceHeaderFields) (n : Named) (r : Result ℤ FaultKind) → NoneWaits former.dpb → IfOk (with_order former u header n r) IsOnce
+with_order_once : (former : Former) (u : NalUnit) (header : SliceHeaderFields) (n : Named) (r : Result ℤ FaultKind) → NoneNeededForOutput former.dpb → IfOk (with_order former u header n r) IsOnce
 with_order_once former u header n (Err kind) quiet = tt
 with_order_once former u header n (Ok poc) quiet =
     with_set_once former u header n poc (reference_picture_set header.kind header.slice.references poc former.dpb) quiet
     (λ rps e. ap (λ (r : Rps). length r.marks) (set_is header.kind header.slice.references poc former.dpb rps e)
     ∙ marks_length (named_sets header.kind header.slice.references poc former.dpb) (length former.dpb))
 
-with_sets_once : (former : Former) (u : NalUnit) (header : SliceHeaderFields) (n : Option Named) → NoneWaits former.dpb → IfOk (with_sets former u header n) IsOnce
+with_sets_once : (former : Former) (u : NalUnit) (header : SliceHeaderFields) (n : Option Named) → NoneNeededForOutput former.dpb → IfOk (with_sets former u header n) IsOnce
 with_sets_once former u header None quiet = tt
 with_sets_once former u header (Some n) quiet =
-    with_order_once former u header n (pic_order_cnt_val header.kind header.slice.references.slice_pic_order_cnt_lsb former.prev) quiet
+    with_order_once former u header n (pic_order_cnt_val header.kind header.slice.references.slice_pic_order_cnt_lsb former.prev_tid0_pic_order_cnt) quiet
 
-picture_once : (sets : Sets) (former : Former) (u : NalUnit) (header : SliceHeaderFields) → NoneWaits former.dpb → IfOk (picture_of sets former u header) IsOnce
+picture_once : (sets : Sets) (former : Former) (u : NalUnit) (header : SliceHeaderFields) → NoneNeededForOutput former.dpb → IfOk (picture_of sets former u header) IsOnce
 unfolding picture_of
 picture_once sets former u header quiet = with_sets_once former u header (named_by sets header.segment.slice_pic_parameter_set_id) quiet
 
-opened_quiet : (s : Between) (u : NalUnit) (header : SliceHeaderFields) (r : Result PicturePlan Breach) → NoneWaits s.former.dpb → IfOk r IsOnce → IfOk (opened s u header r) IsQuiet
-opened_quiet s u header (Err e) quiet once = tt
-opened_quiet s u header (Ok p) quiet once = (quiet, once)
+opened_by_once : (sets : Sets) (former : Former) (u : NalUnit) (r : Result SliceHeaderFields Breach) → NoneNeededForOutput former.dpb → IfOk (opened_by sets former u r) IsOnce
+opened_by_once sets former u (Err e) quiet = tt
+opened_by_once sets former u (Ok header) quiet = picture_once sets former u header quiet
 
-joined_quiet : (s : Between) (u : NalUnit) (header : SliceHeaderFields) (p : Option PicturePlan) → NoneWaits s.former.dpb → IfSome p IsOnce → IfOk (joined s u header p) IsQuiet
-joined_quiet s u header None quiet once = opened_quiet s u header (picture_of s.sets s.former u header) quiet (picture_once s.sets s.former u header quiet)
-joined_quiet s u header (Some p) quiet once = (quiet, more_once p (segment_of p.segments p.rps u header) once)
+opening_once : (sets : Sets) (former : Former) (u : NalUnit) → NoneNeededForOutput former.dpb → IfOk (opening sets former u) IsOnce
+unfolding opening
+opening_once sets former u quiet = opened_by_once sets former u (judged_header sets former [] u) quiet
 
-accepted_quiet : (s : Between) (u : NalUnit) (r : Result SliceHeaderFields Stop) → IsQuiet s → IfOk (accepted s u r) IsQuiet
-accepted_quiet s u (Err e) quiet = tt
-accepted_quiet s u (Ok header) quiet = joined_quiet s u header s.picture quiet.0 quiet.1
+continued_by_once : (u : NalUnit) (p : PicturePlan) (r : Result SliceHeaderFields Breach) → IsOnce p → IfOk (continued_by u p r) IsOnce
+continued_by_once u p (Err e) once = tt
+continued_by_once u p (Ok header) once = more_once p (segment_of p.segments p.rps u header) once
+
+continuing_once : (sets : Sets) (former : Former) (u : NalUnit) (p : PicturePlan) → IsOnce p → IfOk (continuing sets former u p) IsOnce
+unfolding continuing
+continuing_once sets former u p once = continued_by_once u p (judged_header sets former p.segments u) once
+
+if_ok_once : (r : Result PicturePlan Breach) (p : PicturePlan) → IfOk r IsOnce → r ≡ Ok p → IsOnce p
+if_ok_once (Err e) p once is = cc
+if_ok_once (Ok q) p once is = let same : p ≡ q = cc in rw same once
+
+joined_quiet : (u : NalUnit) (s : Between) (p : Option PicturePlan) → NoneNeededForOutput s.former.dpb → IfSome p IsOnce → IfOk (joined u s p) IsQuiet
+joined_quiet u s None quiet once =
+    read_quiet u.index (opening s.sets s.former u) (begun s) (λ p is. (quiet, if_ok_once (opening s.sets s.former u) p (opening_once s.sets s.former u quiet) is))
+joined_quiet u s (Some p) quiet once =
+    read_quiet u.index (continuing s.sets s.former u p) (continued s) (λ q is. (quiet, if_ok_once (continuing s.sets s.former u p) q (continuing_once s.sets s.former u p once) is))
 
 slice_quiet : (u : NalUnit) (s : Between) → IsQuiet s → IfOk (slice_judged u s) IsQuiet
 unfolding slice_judged
-slice_quiet u s quiet = accepted_quiet s u (judged_header s.sets s.former (open_segments s.picture) u) quiet
+slice_quiet u s quiet = joined_quiet u s s.picture quiet.0 quiet.1
 
 either_quiet : (b : Bool) (x y : Stepped) → IsQuietStep x → IsQuietStep y → IsQuietStep (if b then x else y)
 either_quiet true x y h k = h
@@ -211,9 +219,9 @@ slice_step_quiet s u quiet =
 kind_step_quiet : (s : Between) (u : NalUnit) (k : UnitKind) → IsQuiet s → IsQuietStep (kind_step s u k)
 kind_step_quiet s u unit.Slice quiet = slice_step_quiet s u quiet
 kind_step_quiet s u unit.SequenceSet quiet =
-    closing_quiet s (λ t. with_sps t u.index (sequence_parameter_set_of u.payload)) quiet (λ t k. with_sps_quiet t u.index (sequence_parameter_set_of u.payload) k)
+    closing_quiet s (λ t. behind_read u.index (sequence_parameter_set_of u.payload) (put_sps t)) quiet (λ t k. read_quiet u.index (sequence_parameter_set_of u.payload) (put_sps t) (λ sps is. k))
 kind_step_quiet s u unit.PictureSet quiet =
-    closing_quiet s (λ t. with_pps t u.index (picture_parameter_set_of u.payload)) quiet (λ t k. with_pps_quiet t u.index (picture_parameter_set_of u.payload) k)
+    closing_quiet s (λ t. behind_read u.index (picture_parameter_set_of u.payload) (put_pps t)) quiet (λ t k. read_quiet u.index (picture_parameter_set_of u.payload) (put_pps t) (λ pps is. k))
 kind_step_quiet s u unit.SequenceEnd quiet = closing_quiet s (λ t. Ok (sequence_end t)) quiet (λ t k. k)
 kind_step_quiet s u unit.Border quiet = close_quiet s quiet
 kind_step_quiet s u unit.Other quiet = quiet
@@ -252,7 +260,7 @@ from_once ended s (t ∷ ts) quiet =
 
 beginning_quiet : IsQuiet beginning
 unfolding beginning
-beginning_quiet = (All-nil (λ (p : DpbPicture). p.waiting ≡ false), tt)
+beginning_quiet = (All-nil (λ (p : DpbPicture). p.needed_for_output ≡ false), tt)
 
 pub planned_once : (ended : Bool) (bytes : List ℕ) → GoOutAtOnce (planned_of ended bytes).pictures ((planned_of ended bytes).last ≡ [])
 unfolding planned_of

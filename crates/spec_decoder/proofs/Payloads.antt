@@ -12,15 +12,13 @@ use Rattle.hv_base.specs.declared.fault.FaultKind.{FaultKind}
 use Rattle.hv_base.specs.declared.fault.FaultKind.TheVariants as rule
 use Rattle.hv_base.specs.declared.limit.LimitKind.TheVariants as bound
 use Rattle.hv_base.specs.declared.refusal.Stop.{Stop}
-use Rattle.header_types.specs.declared.sps.SpsFields.{SpsFields}
-use Rattle.header_types.specs.declared.pps.PpsFields.{PpsFields}
 use Rattle.header_types.specs.declared.former.Former.{Former}
 use Rattle.header_types.specs.declared.former.Sets.{Sets}
 use Rattle.header_types.specs.declared.reference_pictures.DpbPicture.{DpbPicture}
 use Rattle.header_types.specs.declared.reference_pictures.Rps.{Rps}
 use Rattle.header_types.specs.declared.slice.SliceHeaderFields.{SliceHeaderFields}
-use Rattle.spec_pictures.specs.declared.picture_plan.SegmentPlan.{SegmentPlan}
-use Rattle.spec_pictures.specs.declared.picture_plan.PicturePlan.{PicturePlan}
+use Rattle.plan_types.specs.declared.segment_plan.SegmentPlan.{SegmentPlan}
+use Rattle.plan_types.specs.declared.picture_plan.PicturePlan.{PicturePlan}
 use Rattle.spec_bits.specs.Bits.{bits}
 use Rattle.spec_units.specs.Units.{Part, Raw, Stray, parts_of}
 use Rattle.spec_units.specs.Judged.{NalUnit, Told, Whole, Broken, Met, places, stands_at, payload_of, is_too_large, has_reserved, has_bad_header, broken, read_unit, judged, next_number, then_told, told_from, told_of}
@@ -29,13 +27,13 @@ use Rattle.spec_parameter_sets.specs.SequenceParameterSet.{sequence_parameter_se
 use Rattle.spec_reference_pictures.specs.PictureOrderCount.{pic_order_cnt_val}
 use Rattle.spec_reference_pictures.specs.ReferencePictureSet.{reference_picture_set}
 use Rattle.spec_slice_headers.specs.NamedSets.{Named, named_by}
-use Rattle.spec_pictures.specs.declared.between.Between.{Between}
+use Rattle.plan_types.specs.declared.between.Between.{Between}
 use Rattle.spec_pictures.specs.declared.unit_kind.UnitKind.{UnitKind}
 use Rattle.spec_pictures.specs.declared.unit_kind.UnitKind.TheVariants as unit
 use Rattle.spec_pictures.specs.UnitKinds.{kind_of_type, is_rasl}
 use Rattle.spec_pictures.specs.Closing.{broken_in}
 use Rattle.spec_pictures.specs.Pictures.{beginning}
-use Rattle.spec_pictures.specs.Steps.{Stepped, close, closed_by, closed_open, then_next, closing, with_sps, with_pps, sequence_end, first_flag, open_segments, segment_of, with_set, with_order, with_sets, picture_of, opened, joined, accepted, judged_header, slice_judged, goes_on, slice_step, kind_step, unit_step, step}
+use Rattle.spec_pictures.specs.Steps.{Stepped, behind_read, begun, close, closed_by, closed_open, continued, continued_by, continuing, then_next, closing, put_sps, put_pps, sequence_end, first_flag, segment_of, with_set, with_order, with_sets, picture_of, joined, judged_header, opened_by, opening, slice_judged, goes_on, slice_step, kind_step, unit_step, step}
 use Rattle.spec_pictures.specs.Planned.{Planned, planned_next, planned_from, planned_of}
 use Rattle.spec_decoder.specs.Decoder.{data_of, HasWholeData}
 
@@ -124,13 +122,9 @@ then_next_short closed (Ok t) f all h keeps = record { closed = all; next = keep
 closing_short : (s : Between) (f : Between → Result Between Stop) → IsShortBetween s → ((t : Between) → IsShortBetween t → IfOk (f t) IsShortBetween) → IsShortStep (closing s f)
 closing_short s f h keeps = let c = close_short s h in then_next_short (close s).closed (close s).next f c.closed c.next keeps
 
-with_sps_short : (s : Between) (nal : ℕ) (r : Result SpsFields Breach) → IsShortBetween s → IfOk (with_sps s nal r) IsShortBetween
-with_sps_short s nal (Err e) h = tt
-with_sps_short s nal (Ok sps) h = h
-
-with_pps_short : (s : Between) (nal : ℕ) (r : Result PpsFields Breach) → IsShortBetween s → IfOk (with_pps s nal r) IsShortBetween
-with_pps_short s nal (Err e) h = tt
-with_pps_short s nal (Ok pps) h = h
+behind_read_short : {X : Type 0} → (nal : ℕ) (r : Result X Breach) (f : X → Between) → ((x : X) → r ≡ Ok x → IsShortBetween (f x)) → IfOk (behind_read nal r f) IsShortBetween
+behind_read_short nal (Err e) f h = tt
+behind_read_short nal (Ok x) f h = h x refl
 
 one_segment : (before : List SegmentPlan) (rps : Rps) (u : NalUnit) (header : SliceHeaderFields) → length u.payload ≤ 67108864
     → All IsShort (segment_of before rps u header ∷ [])
@@ -147,27 +141,41 @@ with_order_short former u header n (Ok poc) h = with_set_short former.dpb u head
 
 with_sets_short : (former : Former) (u : NalUnit) (header : SliceHeaderFields) (n : Option Named) → length u.payload ≤ 67108864 → IfOk (with_sets former u header n) IsShortPlan
 with_sets_short former u header None h = tt
-with_sets_short former u header (Some n) h = with_order_short former u header n (pic_order_cnt_val header.kind header.slice.references.slice_pic_order_cnt_lsb former.prev) h
+with_sets_short former u header (Some n) h = with_order_short former u header n (pic_order_cnt_val header.kind header.slice.references.slice_pic_order_cnt_lsb former.prev_tid0_pic_order_cnt) h
 
 picture_short : (sets : Sets) (former : Former) (u : NalUnit) (header : SliceHeaderFields) → length u.payload ≤ 67108864 → IfOk (picture_of sets former u header) IsShortPlan
 unfolding picture_of
 picture_short sets former u header h = with_sets_short former u header (named_by sets header.segment.slice_pic_parameter_set_id) h
 
-opened_short : (s : Between) (u : NalUnit) (header : SliceHeaderFields) (r : Result PicturePlan Breach) → IfOk r IsShortPlan → IfOk (opened s u header r) IsShortBetween
-opened_short s u header (Err e) h = tt
-opened_short s u header (Ok p) h = h
+opened_by_short : (sets : Sets) (former : Former) (u : NalUnit) (r : Result SliceHeaderFields Breach) → length u.payload ≤ 67108864 → IfOk (opened_by sets former u r) IsShortPlan
+opened_by_short sets former u (Err e) h = tt
+opened_by_short sets former u (Ok header) h = picture_short sets former u header h
 
-joined_short : (s : Between) (u : NalUnit) (header : SliceHeaderFields) (p : Option PicturePlan) → length u.payload ≤ 67108864 → IfSome p IsShortPlan → IfOk (joined s u header p) IsShortBetween
-joined_short s u header None h short = opened_short s u header (picture_of s.sets s.former u header) (picture_short s.sets s.former u header h)
-joined_short s u header (Some p) h short = All-append IsShort p.segments (segment_of p.segments p.rps u header ∷ []) short (one_segment p.segments p.rps u header h)
+opening_short : (sets : Sets) (former : Former) (u : NalUnit) → length u.payload ≤ 67108864 → IfOk (opening sets former u) IsShortPlan
+unfolding opening
+opening_short sets former u h = opened_by_short sets former u (judged_header sets former [] u) h
 
-accepted_short : (s : Between) (u : NalUnit) (r : Result SliceHeaderFields Stop) → length u.payload ≤ 67108864 → IsShortBetween s → IfOk (accepted s u r) IsShortBetween
-accepted_short s u (Err e) h short = tt
-accepted_short s u (Ok header) h short = joined_short s u header s.picture h short
+continued_by_short : (u : NalUnit) (p : PicturePlan) (r : Result SliceHeaderFields Breach) → length u.payload ≤ 67108864 → IsShortPlan p → IfOk (continued_by u p r) IsShortPlan
+continued_by_short u p (Err e) h short = tt
+continued_by_short u p (Ok header) h short = All-append IsShort p.segments (segment_of p.segments p.rps u header ∷ []) short (one_segment p.segments p.rps u header h)
+
+continuing_short : (sets : Sets) (former : Former) (u : NalUnit) (p : PicturePlan) → length u.payload ≤ 67108864 → IsShortPlan p → IfOk (continuing sets former u p) IsShortPlan
+unfolding continuing
+continuing_short sets former u p h short = continued_by_short u p (judged_header sets former p.segments u) h short
+
+if_ok_short : (r : Result PicturePlan Breach) (p : PicturePlan) → IfOk r IsShortPlan → r ≡ Ok p → IsShortPlan p
+if_ok_short (Err e) p h is = cc
+if_ok_short (Ok q) p h is = let same : p ≡ q = cc in rw same h
+
+joined_short : (u : NalUnit) (s : Between) (p : Option PicturePlan) → length u.payload ≤ 67108864 → IfSome p IsShortPlan → IfOk (joined u s p) IsShortBetween
+joined_short u s None h short =
+    behind_read_short u.index (opening s.sets s.former u) (begun s) (λ p is. if_ok_short (opening s.sets s.former u) p (opening_short s.sets s.former u h) is)
+joined_short u s (Some p) h short =
+    behind_read_short u.index (continuing s.sets s.former u p) (continued s) (λ q is. if_ok_short (continuing s.sets s.former u p) q (continuing_short s.sets s.former u p h short) is)
 
 slice_short : (u : NalUnit) (s : Between) → length u.payload ≤ 67108864 → IsShortBetween s → IfOk (slice_judged u s) IsShortBetween
 unfolding slice_judged
-slice_short u s h short = accepted_short s u (judged_header s.sets s.former (open_segments s.picture) u) h short
+slice_short u s h short = joined_short u s s.picture h short
 
 either_short : (b : Bool) (x y : Stepped) → IsShortStep x → IsShortStep y → IsShortStep (if b then x else y)
 either_short true x y h k = h
@@ -184,9 +192,9 @@ slice_step_short s u h short =
 kind_step_short : (s : Between) (u : NalUnit) (k : UnitKind) → length u.payload ≤ 67108864 → IsShortBetween s → IsShortStep (kind_step s u k)
 kind_step_short s u unit.Slice h short = slice_step_short s u h short
 kind_step_short s u unit.SequenceSet h short =
-    closing_short s (λ t. with_sps t u.index (sequence_parameter_set_of u.payload)) short (λ t k. with_sps_short t u.index (sequence_parameter_set_of u.payload) k)
+    closing_short s (λ t. behind_read u.index (sequence_parameter_set_of u.payload) (put_sps t)) short (λ t k. behind_read_short u.index (sequence_parameter_set_of u.payload) (put_sps t) (λ sps is. k))
 kind_step_short s u unit.PictureSet h short =
-    closing_short s (λ t. with_pps t u.index (picture_parameter_set_of u.payload)) short (λ t k. with_pps_short t u.index (picture_parameter_set_of u.payload) k)
+    closing_short s (λ t. behind_read u.index (picture_parameter_set_of u.payload) (put_pps t)) short (λ t k. behind_read_short u.index (picture_parameter_set_of u.payload) (put_pps t) (λ pps is. k))
 kind_step_short s u unit.SequenceEnd h short = closing_short s (λ t. Ok (sequence_end t)) short (λ t k. k)
 kind_step_short s u unit.Border h short = close_short s short
 kind_step_short s u unit.Other h short = record { closed = All-nil IsShortPlan; next = short }

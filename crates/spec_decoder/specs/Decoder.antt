@@ -12,8 +12,8 @@ use Rattle.hv_base.specs.declared.refusal.Stop.{Stop}
 use Rattle.hv_base.specs.declared.refusal.Stop.TheVariants as stop
 use Rattle.header_types.specs.declared.sps.PcmFormat.{PcmFormat}
 use Rattle.header_types.specs.SequenceParameterSets.{min_pcm_log2, max_pcm_log2}
-use Rattle.spec_pictures.specs.declared.picture_plan.SegmentPlan.{SegmentPlan}
-use Rattle.spec_pictures.specs.declared.picture_plan.PicturePlan.{PicturePlan}
+use Rattle.plan_types.specs.declared.segment_plan.SegmentPlan.{SegmentPlan}
+use Rattle.plan_types.specs.declared.picture_plan.PicturePlan.{PicturePlan}
 use Rattle.spec_slice_headers.specs.SliceFields.{slice_qp}
 use Rattle.spec_coding_tree.specs.declared.tree.CodingUnit.{CodingUnit}
 use Rattle.spec_coding_tree.specs.Elements.{segment_data}

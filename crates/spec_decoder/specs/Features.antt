@@ -6,8 +6,8 @@ use Rattle.hv_base.specs.declared.limit.Feature.TheVariants as feature
 use Rattle.header_types.specs.declared.sps.BlockSizes.{BlockSizes}
 use Rattle.header_types.specs.declared.sps.PictureFormat.{PictureFormat}
 use Rattle.header_types.specs.SequenceParameterSets.{max_tb_log2, highest_ordering}
-use Rattle.spec_pictures.specs.declared.picture_plan.SegmentPlan.{SegmentPlan}
-use Rattle.spec_pictures.specs.declared.picture_plan.PicturePlan.{PicturePlan}
+use Rattle.plan_types.specs.declared.segment_plan.SegmentPlan.{SegmentPlan}
+use Rattle.plan_types.specs.declared.picture_plan.PicturePlan.{PicturePlan}
 use Rattle.spec_reference_pictures.specs.PictureOrderCount.{is_idr}
 
 -- a segment whose picture isn't put out

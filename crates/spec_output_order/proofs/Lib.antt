@@ -1,3 +1,3 @@
 pub mod Counts
-pub mod Emptying
+pub mod Bumping
 pub mod AtOnce

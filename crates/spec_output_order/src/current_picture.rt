@@ -10,9 +10,9 @@ pub struct CurrentPicture {
     /// Whether it is an intra random access point with NoRaslOutputFlag 1.
     pub begins_anew: bool,
     /// NoOutputOfPriorPicsFlag, where it begins anew.
-    pub no_output_of_prior_pics: bool,
+    pub no_output_of_prior_pics_flag: bool,
     /// PicOutputFlag.
-    pub pic_output: bool,
+    pub pic_output_flag: bool,
     /// The buffering and reordering of the highest sub-layer.
     pub ordering: SubLayerOrdering,
 }

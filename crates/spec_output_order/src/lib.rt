@@ -3,8 +3,8 @@
 
 mod current_picture;
 mod laws;
-mod outputs;
+mod next_output;
 
 pub use current_picture::CurrentPicture;
 pub use laws::{few_pictures_stay, lone_pictures_go_out_at_once};
-pub use outputs::Outputs;
+pub use next_output::NextOutput;

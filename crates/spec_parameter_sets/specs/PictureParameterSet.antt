@@ -3,73 +3,67 @@ use Rattle.std.specs.Prelude.{ℕ, ℤ, pos, Bool, true, false, not, List, Resul
 use Rattle.hv_base.specs.declared.breach.Breach.{Breach}
 use Rattle.hv_base.specs.declared.breach.Breach.TheVariants as breach
 use Rattle.hv_base.specs.declared.limit.LimitKind.TheVariants as bound
-use Rattle.hv_base.specs.declared.field_rules.FieldRules.{FieldRules}
 use Rattle.hv_base.specs.declared.field_rules.TheConstants.{PARAMETER_SET_RULES}
 use Rattle.header_types.specs.declared.pps.DeblockingControl.{DeblockingControl}
 use Rattle.header_types.specs.declared.pps.PpsFields.{PpsFields}
 use Rattle.spec_bits.specs.Bits.{bits}
-use Rattle.spec_fields.specs.Fields.{Reading, value_of, ◌>>=◌, give, wanted, u, flag, ue, ue_to, se_within, optional}
+use Rattle.spec_formats.specs.Format.{wanted}
+use Rattle.spec_formats.specs.Fields.{Header, read, value_of, ◌>>=◌, give, u, flag, ue, ue_to, se_within, optional}
 use Rattle.spec_parameter_sets.specs.Scaling.{scaling_list_data}
 
--- the rules of each field
-abbrev pub rules : FieldRules
-rules = PARAMETER_SET_RULES
-
--- the offsets of deblocking, where it isn't disabled
-unfoldable pub deblocking_offsets : Bool → Reading (ℤ × ℤ)
-deblocking_offsets true = give (pos 0, pos 0)
-deblocking_offsets false = do
-  pps_beta_offset_div2 ← se_within rules 6 6
-  pps_tc_offset_div2 ← se_within rules 6 6
-  give (pps_beta_offset_div2, pps_tc_offset_div2)
+-- an offset of deblocking, where it isn't disabled
+unfoldable pub deblocking_offset : Bool → Header ℤ
+deblocking_offset true = give (pos 0)
+deblocking_offset false = se_within 6 6
 
 -- the fields behind deblocking_filter_control_present_flag
-unfoldable pub deblocking_control : Reading DeblockingControl
+unfoldable pub deblocking_control : Header DeblockingControl
 deblocking_control = do
-  deblocking_filter_override_enabled_flag ← flag rules
-  pps_deblocking_filter_disabled_flag ← flag rules
-  offsets ← deblocking_offsets pps_deblocking_filter_disabled_flag
+  deblocking_filter_override_enabled_flag ← flag
+  pps_deblocking_filter_disabled_flag ← flag
+  pps_beta_offset_div2 ← deblocking_offset pps_deblocking_filter_disabled_flag
+  pps_tc_offset_div2 ← deblocking_offset pps_deblocking_filter_disabled_flag
   give (record {
     deblocking_filter_override_enabled_flag = deblocking_filter_override_enabled_flag;
     pps_deblocking_filter_disabled_flag = pps_deblocking_filter_disabled_flag;
-    pps_beta_offset_div2 = offsets.0;
-    pps_tc_offset_div2 = offsets.1;
+    pps_beta_offset_div2 = pps_beta_offset_div2;
+    pps_tc_offset_div2 = pps_tc_offset_div2;
   })
 
 -- a picture parameter set
-unfoldable pub picture_parameter_set : Reading PpsFields
+unfoldable pub picture_parameter_set : Header PpsFields
 picture_parameter_set = do
-  pps_pic_parameter_set_id ← ue_to rules 63
-  pps_seq_parameter_set_id ← ue_to rules 15
-  dependent_slice_segments_enabled_flag ← flag rules
-  output_flag_present_flag ← flag rules
-  num_extra_slice_header_bits ← u rules 3
-  sign_data_hiding_enabled_flag ← flag rules
-  cabac_init_present_flag ← flag rules
-  num_ref_idx_l0_default_active_minus1 ← ue_to rules 14
-  num_ref_idx_l1_default_active_minus1 ← ue_to rules 14
-  init_qp_minus26 ← se_within rules 26 25
-  constrained_intra_pred_flag ← flag rules
-  transform_skip_enabled_flag ← flag rules
-  cu_qp_delta_enabled_flag ← flag rules
-  diff_cu_qp_delta_depth ← optional cu_qp_delta_enabled_flag (ue rules)
-  pps_cb_qp_offset ← se_within rules 12 12
-  pps_cr_qp_offset ← se_within rules 12 12
-  pps_slice_chroma_qp_offsets_present_flag ← flag rules
-  weighted_pred_flag ← flag rules
-  weighted_bipred_flag ← flag rules
-  transquant_bypass_enabled_flag ← flag rules
-  tiles_enabled_flag ← flag rules
+  pps_pic_parameter_set_id ← ue_to 63
+  pps_seq_parameter_set_id ← ue_to 15
+  dependent_slice_segments_enabled_flag ← flag
+  output_flag_present_flag ← flag
+  num_extra_slice_header_bits ← u 3
+  sign_data_hiding_enabled_flag ← flag
+  cabac_init_present_flag ← flag
+  num_ref_idx_l0_default_active_minus1 ← ue_to 14
+  num_ref_idx_l1_default_active_minus1 ← ue_to 14
+  init_qp_minus26 ← se_within 26 25
+  constrained_intra_pred_flag ← flag
+  transform_skip_enabled_flag ← flag
+  cu_qp_delta_enabled_flag ← flag
+  diff_cu_qp_delta_depth ← optional cu_qp_delta_enabled_flag (ue)
+  pps_cb_qp_offset ← se_within 12 12
+  pps_cr_qp_offset ← se_within 12 12
+  pps_slice_chroma_qp_offsets_present_flag ← flag
+  weighted_pred_flag ← flag
+  weighted_bipred_flag ← flag
+  transquant_bypass_enabled_flag ← flag
+  tiles_enabled_flag ← flag
   no_tiles ← wanted (not tiles_enabled_flag) (breach.Limit bound.Tiles)
-  entropy_coding_sync_enabled_flag ← flag rules
-  pps_loop_filter_across_slices_enabled_flag ← flag rules
-  deblocking_filter_control_present_flag ← flag rules
+  entropy_coding_sync_enabled_flag ← flag
+  pps_loop_filter_across_slices_enabled_flag ← flag
+  deblocking_filter_control_present_flag ← flag
   deblocking_control ← optional deblocking_filter_control_present_flag deblocking_control
-  pps_scaling_list_data_present_flag ← flag rules
+  pps_scaling_list_data_present_flag ← flag
   scaling_lists ← optional pps_scaling_list_data_present_flag scaling_list_data
-  lists_modification_present_flag ← flag rules
-  log2_parallel_merge_level_minus2 ← ue rules
-  slice_segment_header_extension_present_flag ← flag rules
+  lists_modification_present_flag ← flag
+  log2_parallel_merge_level_minus2 ← ue
+  slice_segment_header_extension_present_flag ← flag
   give (record {
     pps_pic_parameter_set_id = pps_pic_parameter_set_id;
     pps_seq_parameter_set_id = pps_seq_parameter_set_id;
@@ -102,4 +96,4 @@ picture_parameter_set = do
 -- the picture parameter set whose payload, behind the unit's header, these bytes are, or what it breaks or meets first;
 -- no bit behind the last field is looked at
 unfoldable pub picture_parameter_set_of : List ℕ → Result PpsFields Breach
-picture_parameter_set_of bytes = value_of (picture_parameter_set (bits bytes))
+picture_parameter_set_of bytes = value_of (read PARAMETER_SET_RULES picture_parameter_set (bits bytes))

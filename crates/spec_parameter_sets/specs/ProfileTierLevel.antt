@@ -2,16 +2,11 @@
 use Rattle.std.specs.Prelude.{ℕ, zero, suc, ◌+◌, ◌-◌, ◌*◌, ◌/◌, ◌%◌, ◌^◌, Bool, true, false, not, ◌||◌, ◌==◌}
 use Rattle.hv_base.specs.declared.breach.Breach.TheVariants as breach
 use Rattle.hv_base.specs.declared.fault.FaultKind.TheVariants as fault
-use Rattle.hv_base.specs.declared.field_rules.FieldRules.{FieldRules}
-use Rattle.hv_base.specs.declared.field_rules.TheConstants.{PARAMETER_SET_RULES}
 use Rattle.header_types.specs.declared.profile.Profile.{Profile}
 use Rattle.header_types.specs.declared.profile.ProfileTierLevel.{ProfileTierLevel}
 use Rattle.header_types.specs.declared.profile.SubLayerProfile.{SubLayerProfile}
-use Rattle.spec_fields.specs.Fields.{Reading, ◌>>=◌, give, wanted, u, flag, optional, repeated, each}
-
--- the rules of each field
-abbrev pub rules : FieldRules
-rules = PARAMETER_SET_RULES
+use Rattle.spec_formats.specs.Format.{wanted}
+use Rattle.spec_formats.specs.Fields.{Header, ◌>>=◌, give, u, flag, optional, repeated, each}
 
 -- profile_compatibility_flag[1]: the second of 32, of which the first is the greatest bit
 abbrev pub compatibility_flag_1 : ℕ → Bool
@@ -22,24 +17,24 @@ abbrev pub is_main : ℕ → ℕ → Bool
 is_main profile_idc flags = (profile_idc == 1) || compatibility_flag_1 flags
 
 -- reserved_zero_44bits, as their first 32 and their last 12
-unfoldable pub reserved_44bits : Reading ℕ
+unfoldable pub reserved_44bits : Header ℕ
 reserved_44bits = do
-  high ← u rules 32
-  low ← u rules 12
+  high ← u 32
+  low ← u 12
   give (high * 4096 + low)
 
 -- the 88 bits of a profile, which is to be the Main profile where it is the general one
-unfoldable pub profile : Bool → Reading Profile
+unfoldable pub profile : Bool → Header Profile
 profile is_general = do
-  profile_space ← u rules 2
-  tier_flag ← flag rules
-  profile_idc ← u rules 5
-  profile_compatibility_flags ← u rules 32
+  profile_space ← u 2
+  tier_flag ← flag
+  profile_idc ← u 5
+  profile_compatibility_flags ← u 32
   main ← wanted (not is_general || is_main profile_idc profile_compatibility_flags) (breach.Fault fault.Profile)
-  progressive_source_flag ← flag rules
-  interlaced_source_flag ← flag rules
-  non_packed_constraint_flag ← flag rules
-  frame_only_constraint_flag ← flag rules
+  progressive_source_flag ← flag
+  interlaced_source_flag ← flag
+  non_packed_constraint_flag ← flag
+  frame_only_constraint_flag ← flag
   reserved_zero_44bits ← reserved_44bits
   give (record {
     profile_space = profile_space;
@@ -54,29 +49,29 @@ profile is_general = do
   })
 
 -- sub_layer_profile_present_flag and sub_layer_level_present_flag
-unfoldable pub sub_layer_flags : Reading (Bool × Bool)
+unfoldable pub sub_layer_flags : Header (Bool × Bool)
 sub_layer_flags = do
-  profile_present ← flag rules
-  level_present ← flag rules
+  profile_present ← flag
+  level_present ← flag
   give (profile_present, level_present)
 
 -- reserved_zero_2bits of the sub-layers that aren't there up to the eighth, where there are lower sub-layers
-unfoldable pub reserved_2bits : ℕ → Reading ℕ
+unfoldable pub reserved_2bits : ℕ → Header ℕ
 reserved_2bits zero = give 0
-reserved_2bits (suc n) = u rules (2 * (7 - n))
+reserved_2bits (suc n) = u (2 * (7 - n))
 
 -- what is said of one sub-layer
-unfoldable pub sub_layer : Bool × Bool → Reading SubLayerProfile
+unfoldable pub sub_layer : Bool × Bool → Header SubLayerProfile
 sub_layer present = do
   profile ← optional present.0 (profile false)
-  level_idc ← optional present.1 (u rules 8)
+  level_idc ← optional present.1 (u 8)
   give (record { profile = profile; level_idc = level_idc })
 
 -- profile_tier_level(1, max_sub_layers_minus1)
-unfoldable pub profile_tier_level : ℕ → Reading ProfileTierLevel
+unfoldable pub profile_tier_level : ℕ → Header ProfileTierLevel
 profile_tier_level max_sub_layers_minus1 = do
   general ← profile true
-  general_level_idc ← u rules 8
+  general_level_idc ← u 8
   present ← repeated max_sub_layers_minus1 sub_layer_flags
   reserved ← reserved_2bits max_sub_layers_minus1
   sub_layers ← each sub_layer present

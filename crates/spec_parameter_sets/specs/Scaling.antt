@@ -1,15 +1,11 @@
 -- scaling_list_data (7.3.4, 7.4.5).
 use Rattle.std.specs.Prelude.{ℕ, zero, suc, ◌-◌, ◌*◌, ◌%◌, ℤ, pos, ◌+ℤ◌, unsigned_abs, List, [], ◌∷◌, ◌++◌, length, map, replicate, slice_index_or, nat_lt, ◌==◌, if◌then◌else◌}
 use Rattle.std.specs.List.{range_with_len}
-use Rattle.hv_base.specs.declared.field_rules.FieldRules.{FieldRules}
-use Rattle.hv_base.specs.declared.field_rules.TheConstants.{PARAMETER_SET_RULES}
 use Rattle.header_types.specs.declared.scaling.ScalingList.{ScalingList}
 use Rattle.header_types.specs.declared.scaling.ScalingLists.{ScalingLists}
-use Rattle.spec_fields.specs.Fields.{Reading, ◌>>=◌, give, ranged, flag, ue_to, se_within}
+use Rattle.spec_formats.specs.Format.{when◌then◌else◌}
+use Rattle.spec_formats.specs.Fields.{Header, ◌>>=◌, give, ranged, flag, ue_to, se_within}
 use Rattle.spec_parameter_sets.specs.declared.tables.TheConstants.{DEFAULT_INTRA, DEFAULT_INTER}
-
-abbrev rules : FieldRules
-rules = PARAMETER_SET_RULES
 
 -- how many lists a sizeId has, one a matrixId
 abbrev pub list_count : ℕ → ℕ
@@ -40,9 +36,9 @@ default_lists = record { lists = default_lists_of 0 ++ default_lists_of 1 ++ def
 
 -- where scaling_list_pred_mode_flag is 0: the default list, or among the former lists of its sizeId that of refMatrixId.
 -- A list's matrixId is how many lists of its sizeId stand before it.
-unfoldable pub predicted_list : ℕ → List ScalingList → Reading ScalingList
+unfoldable pub predicted_list : ℕ → List ScalingList → Header ScalingList
 predicted_list size former = do
-  scaling_list_pred_matrix_id_delta ← ue_to rules (length former)
+  scaling_list_pred_matrix_id_delta ← ue_to (length former)
   give (if scaling_list_pred_matrix_id_delta == 0
       then default_list size (length former)
       else slice_index_or former (length former - scaling_list_pred_matrix_id_delta) (default_list size (length former)))
@@ -52,14 +48,14 @@ unfoldable pub next_coef : ℕ → ℤ → ℕ
 next_coef next delta = unsigned_abs (pos next +ℤ delta +ℤ pos 256) % 256
 
 -- a factor, which is the next nextCoef
-unfoldable pub coded_factor : ℕ → Reading ℕ
+unfoldable pub coded_factor : ℕ → Header ℕ
 coded_factor next = do
-  scaling_list_delta_coef ← se_within rules 128 127
-  above_zero ← ranged (nat_lt 0 (next_coef next scaling_list_delta_coef)) rules
+  scaling_list_delta_coef ← se_within 128 127
+  above_zero ← ranged (nat_lt 0 (next_coef next scaling_list_delta_coef))
   give (next_coef next scaling_list_delta_coef)
 
 -- so many factors behind a nextCoef
-unfoldable pub coded_factors : ℕ → ℕ → Reading (List ℕ)
+unfoldable pub coded_factors : ℕ → ℕ → Header (List ℕ)
 coded_factors zero next = give []
 coded_factors (suc n) next = do
   factor ← coded_factor next
@@ -67,39 +63,39 @@ coded_factors (suc n) next = do
   give (factor ∷ others)
 
 -- scaling_list_dc_coef_minus8 and 8, coded for blocks of 16x16 and more
-unfoldable pub coded_dc : ℕ → Reading ℕ
+unfoldable pub coded_dc : ℕ → Header ℕ
 coded_dc size =
-    if nat_lt 1 size
+    when nat_lt 1 size
     then (do
-      scaling_list_dc_coef_minus8 ← se_within rules 7 247
+      scaling_list_dc_coef_minus8 ← se_within 7 247
       give (unsigned_abs (scaling_list_dc_coef_minus8 +ℤ pos 8)))
     else give 16
 
 -- where scaling_list_pred_mode_flag is 1: the first nextCoef is the DC factor, where it is coded, or 8
-unfoldable pub coded_list : ℕ → Reading ScalingList
+unfoldable pub coded_list : ℕ → Header ScalingList
 coded_list size = do
   dc ← coded_dc size
   factors ← coded_factors (coef_num size) (if nat_lt 1 size then dc else 8)
   give (record { factors = factors; dc = dc })
 
 -- a list behind the former ones of its sizeId
-unfoldable pub scaling_list : ℕ → List ScalingList → Reading ScalingList
+unfoldable pub scaling_list : ℕ → List ScalingList → Header ScalingList
 scaling_list size former = do
-  scaling_list_pred_mode_flag ← flag rules
-  if scaling_list_pred_mode_flag then coded_list size else predicted_list size former
+  scaling_list_pred_mode_flag ← flag
+  when scaling_list_pred_mode_flag then coded_list size else predicted_list size former
 
 -- the lists of a sizeId, of which so many are left behind the former ones
-unfoldable pub lists_behind : ℕ → ℕ → List ScalingList → Reading (List ScalingList)
+unfoldable pub lists_behind : ℕ → ℕ → List ScalingList → Header (List ScalingList)
 lists_behind size zero former = give former
 lists_behind size (suc n) former = do
   list ← scaling_list size former
   lists_behind size n (former ++ list ∷ [])
 
 -- the lists of a sizeId
-unfoldable pub lists_of : ℕ → Reading (List ScalingList)
+unfoldable pub lists_of : ℕ → Header (List ScalingList)
 lists_of size = lists_behind size (list_count size) []
 
-unfoldable pub scaling_list_data : Reading ScalingLists
+unfoldable pub scaling_list_data : Header ScalingLists
 scaling_list_data = do
   of_4x4 ← lists_of 0
   of_8x8 ← lists_of 1

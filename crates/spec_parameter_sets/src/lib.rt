@@ -2,9 +2,7 @@
 #![tactic(auto)]
 
 mod laws;
-mod laws_locality;
 mod tables;
 
-pub use laws::scaling_lists_are_in_range;
-pub use laws_locality::parameter_sets_are_local;
+pub use laws::{parameter_sets_are_local, parameter_sets_are_spelled, scaling_lists_are_in_range};
 pub use tables::{DEFAULT_INTER, DEFAULT_INTRA};

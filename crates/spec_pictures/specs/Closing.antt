@@ -6,8 +6,8 @@ use Rattle.hv_base.specs.declared.fault.Fault.{Fault}
 use Rattle.header_types.specs.declared.slice.SliceHeaderFields.{SliceHeaderFields}
 use Rattle.header_types.specs.SequenceParameterSets.{width_in_ctbs, size_in_ctbs}
 use Rattle.spec_slice_headers.specs.Substreams.{data_size}
-use Rattle.spec_pictures.specs.declared.picture_plan.SegmentPlan.{SegmentPlan}
-use Rattle.spec_pictures.specs.declared.picture_plan.PicturePlan.{PicturePlan}
+use Rattle.plan_types.specs.declared.segment_plan.SegmentPlan.{SegmentPlan}
+use Rattle.plan_types.specs.declared.picture_plan.PicturePlan.{PicturePlan}
 
 -- a segment's first coding tree unit
 abbrev pub address_of : SegmentPlan → ℕ

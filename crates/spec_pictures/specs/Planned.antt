@@ -3,8 +3,8 @@ use Rattle.std.specs.Prelude.{◌≡◌, ℕ, Bool, true, false, List, [], ◌�
 use Rattle.hv_base.specs.declared.refusal.Stop.{Stop}
 use Rattle.spec_units.specs.Judged.{Told, told_of}
 use Rattle.spec_output_order.specs.OutputOrder.{last_outputs}
-use Rattle.spec_pictures.specs.declared.picture_plan.PicturePlan.{PicturePlan}
-use Rattle.spec_pictures.specs.declared.between.Between.{Between}
+use Rattle.plan_types.specs.declared.picture_plan.PicturePlan.{PicturePlan}
+use Rattle.plan_types.specs.declared.between.Between.{Between}
 use Rattle.spec_pictures.specs.Pictures.{beginning}
 use Rattle.spec_pictures.specs.Steps.{Stepped, close, step}
 

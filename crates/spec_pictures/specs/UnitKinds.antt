@@ -1,31 +1,32 @@
 -- What a NAL unit is to the pictures of a stream, by its nal_unit_type (7.4.2.2, 7.4.2.4.4).
 use Rattle.std.specs.Prelude.{ℕ, ◌%◌, Bool, not, ◌&&◌, ◌||◌, nat_le, ◌==◌, if◌then◌else◌}
+use Rattle.hv_base.specs.declared.nal_types.TheConstants.{AUD_NUT, BLA_W_LP, CRA_NUT, EOB_NUT, EOS_NUT, PPS_NUT, PREFIX_SEI_NUT, RADL_N, RADL_R, RASL_N, RASL_R, RSV_VCL_N14, SPS_NUT, VPS_NUT}
 use Rattle.spec_pictures.specs.declared.unit_kind.UnitKind.{UnitKind}
 use Rattle.spec_pictures.specs.declared.unit_kind.UnitKind.TheVariants.{Slice, SequenceSet, PictureSet, SequenceEnd, Border, Other}
 
--- types 0 to 9 and 16 to 21: the slice segments that may be decoded
+-- the slice segments that may be decoded
 abbrev pub is_slice : ℕ → Bool
-is_slice nal_type = nat_le nal_type 9 || (nat_le 16 nal_type && nat_le nal_type 21)
+is_slice nal_type = nat_le nal_type RASL_R || (nat_le BLA_W_LP nal_type && nat_le nal_type CRA_NUT)
 
 unfoldable pub kind_of_type : ℕ → UnitKind
 kind_of_type nal_type =
     if is_slice nal_type then Slice
-    else (if nal_type == 33 then SequenceSet
-    else (if nal_type == 34 then PictureSet
-    else (if (nal_type == 36) || (nal_type == 37) then SequenceEnd
-    else (if (nal_type == 32) || (nal_type == 35) || (nal_type == 39) then Border
+    else (if nal_type == SPS_NUT then SequenceSet
+    else (if nal_type == PPS_NUT then PictureSet
+    else (if (nal_type == EOS_NUT) || (nal_type == EOB_NUT) then SequenceEnd
+    else (if (nal_type == VPS_NUT) || (nal_type == AUD_NUT) || (nal_type == PREFIX_SEI_NUT) then Border
     else Other))))
 
 -- random access skipped leading pictures, and random access decodable ones
 abbrev pub is_rasl : ℕ → Bool
-is_rasl nal_type = (nal_type == 8) || (nal_type == 9)
+is_rasl nal_type = (nal_type == RASL_N) || (nal_type == RASL_R)
 
 abbrev pub is_radl : ℕ → Bool
-is_radl nal_type = (nal_type == 6) || (nal_type == 7)
+is_radl nal_type = (nal_type == RADL_N) || (nal_type == RADL_R)
 
--- sub-layer non-reference pictures: the even types up to 14
+-- sub-layer non-reference pictures: of even type
 abbrev pub is_sub_layer_non_reference : ℕ → Bool
-is_sub_layer_non_reference nal_type = nat_le nal_type 14 && (nal_type % 2 == 0)
+is_sub_layer_non_reference nal_type = nat_le nal_type RSV_VCL_N14 && (nal_type % 2 == 0)
 
 -- whether a picture may be prevTid0Pic of later ones (8.3.1)
 abbrev pub is_order_base : ℕ → ℕ → Bool

@@ -18,7 +18,7 @@ use Rattle.header_types.specs.declared.slice.PictureKind.{PictureKind}
 use Rattle.header_types.specs.declared.slice.ReferenceFields.{ReferenceFields}
 use Rattle.hv_base.specs.declared.fault.FaultKind.TheVariants.{MissingReference}
 use Rattle.spec_reference_pictures.specs.PictureOrderCount.{begins_anew, is_irap}
-use Rattle.spec_reference_pictures.specs.ReferencePictureSet.{found_set, is_among, is_for, is_short_term, is_sought, IsLongTerm, IsMarked, IsShortTerm, lacks_current, long_term_name, long_term_places, long_term_set, mark_after, named_sets, no_entry, no_picture, place_of, reference_count, reference_counts, reference_picture_set, short_term_count, short_term_counts, short_term_set}
+use Rattle.spec_reference_pictures.specs.ReferencePictureSet.{found_set, is_among, is_for, is_short_term, is_sought, IsLongTerm, IsMarked, IsShortTerm, lacks_current, long_term_name, long_term_places, long_term_set, mark_after, named_sets, no_entry, no_picture, place_of, reference_poc, reference_pocs, reference_picture_set, short_term_poc, short_term_pocs, short_term_set}
 use Rattle.spec_reference_pictures.proofs.Found.{among_append, among_at, among_contains, among_mapped, among_picked, contains_among, greatest_holds}
 
 -- what place_of answers is the place of a picture that is sought
@@ -27,14 +27,14 @@ unfolding place_of
 place_sought name counts k e = greatest_holds (λ i. is_sought name (slice_index_or counts i None)) (length counts) k e
 
 short_count_at : (kind : PictureKind) (long : List (Option ℕ)) (dpb : List DpbPicture) (k : ℕ) → k < length dpb
-    → slice_index_or (short_term_counts kind long dpb) k None ≡ short_term_count kind long k (slice_index_or dpb k no_picture)
-unfolding short_term_counts
+    → slice_index_or (short_term_pocs kind long dpb) k None ≡ short_term_poc kind long k (slice_index_or dpb k no_picture)
+unfolding short_term_pocs
 short_count_at kind long dpb k inside =
-    get_or-map-range_with_len (λ i. short_term_count kind long i (slice_index_or dpb i no_picture)) 0 (length dpb) k k None inside (omega arith)
+    get_or-map-range_with_len (λ i. short_term_poc kind long i (slice_index_or dpb i no_picture)) 0 (length dpb) k k None inside (omega arith)
 
-short_counts_length : (kind : PictureKind) (long : List (Option ℕ)) (dpb : List DpbPicture) → length (short_term_counts kind long dpb) ≡ length dpb
-unfolding short_term_counts
-short_counts_length kind long dpb = length-map-range_with_len (λ i. short_term_count kind long i (slice_index_or dpb i no_picture)) 0 (length dpb)
+short_counts_length : (kind : PictureKind) (long : List (Option ℕ)) (dpb : List DpbPicture) → length (short_term_pocs kind long dpb) ≡ length dpb
+unfolding short_term_pocs
+short_counts_length kind long dpb = length-map-range_with_len (λ i. short_term_poc kind long i (slice_index_or dpb i no_picture)) 0 (length dpb)
 
 not_long : (name : PictureName) (anew long : Bool) (count : Option ℤ) → is_sought name (if anew || long then None else count) ≡ true → long ≡ false
 not_long name true long count e = cc
@@ -42,10 +42,10 @@ not_long name false true count e = cc
 not_long name false false count e = refl
 
 -- a place that a short-term entry names is in the buffer, and no long-term entry names it
-short_place : (kind : PictureKind) (long : List (Option ℕ)) (dpb : List DpbPicture) (name : PictureName) (k : ℕ) → place_of name (short_term_counts kind long dpb) ≡ Some k
+short_place : (kind : PictureKind) (long : List (Option ℕ)) (dpb : List DpbPicture) (name : PictureName) (k : ℕ) → place_of name (short_term_pocs kind long dpb) ≡ Some k
     → (k < length dpb) × (is_among k long ≡ false)
 short_place kind long dpb name k e =
-    let sought = place_sought name (short_term_counts kind long dpb) k e in
+    let sought = place_sought name (short_term_pocs kind long dpb) k e in
     let inside : k < length dpb = omega (arith, sought.0, short_counts_length kind long dpb) in
     let at = subst (λ (c : Option ℤ). is_sought name c ≡ true) (short_count_at kind long dpb k inside) sought.1 in
     let picture : DpbPicture = slice_index_or dpb k no_picture in
@@ -53,10 +53,10 @@ short_place kind long dpb name k e =
 
 -- a place in a short-term list
 pub short_listed : (kind : PictureKind) (long : List (Option ℕ)) (dpb : List DpbPicture) (poc : ℤ) (current : Bool) (entries : List ShortTermRef) (k : ℕ)
-    → is_among k (short_term_set (short_term_counts kind long dpb) poc current entries) ≡ true → (k < length dpb) × (is_among k long ≡ false)
+    → is_among k (short_term_set (short_term_pocs kind long dpb) poc current entries) ≡ true → (k < length dpb) × (is_among k long ≡ false)
 unfolding short_term_set
 short_listed kind long dpb poc current entries k e =
-    let (r, is) = among_picked (λ (r : ShortTermRef). place_of (OrderCount (poc +ℤ r.delta_poc)) (short_term_counts kind long dpb)) (λ (r : ShortTermRef). is_for current r.used) entries k e in
+    let (r, is) = among_picked (λ (r : ShortTermRef). place_of (OrderCount (poc +ℤ r.delta_poc)) (short_term_pocs kind long dpb)) (λ (r : ShortTermRef). is_for current r.used) entries k e in
     short_place kind long dpb (OrderCount (poc +ℤ r.delta_poc)) k is.names
 
 -- a place in a long-term list
@@ -68,11 +68,11 @@ long_listed places current entries k e =
     among_at places i k is.names
 
 pub long_inside : (kind : PictureKind) (long : LongTermRefs) (poc : ℤ) (dpb : List DpbPicture) (k : ℕ) → is_among k (long_term_places kind long poc dpb) ≡ true → k < length dpb
-unfolding long_term_places reference_counts
+unfolding long_term_places reference_pocs
 long_inside kind long poc dpb k e =
-    let (i, is) = among_mapped (λ (i : ℕ). place_of (long_term_name kind long poc i) (map (reference_count kind) dpb)) (range_with_len 0 (length long.entries)) k e in
-    let sought = place_sought (long_term_name kind long poc i) (map (reference_count kind) dpb) k is in
-    omega (arith, sought.0, length-map dpb (reference_count kind))
+    let (i, is) = among_mapped (λ (i : ℕ). place_of (long_term_name kind long poc i) (map (reference_poc kind) dpb)) (range_with_len 0 (length long.entries)) k e in
+    let sought = place_sought (long_term_name kind long poc i) (map (reference_poc kind) dpb) k is in
+    omega (arith, sought.0, length-map dpb (reference_poc kind))
 
 -- the marks by what is among the lists
 long_or : (a b c : Bool) → (if a || b then mark.Long else (if c then mark.Short else mark.Unused)) ≡ mark.Long → (a ≡ true) ⊎ (b ≡ true)
@@ -160,10 +160,10 @@ long_marked kind fields poc dpb k h =
 
 -- a place in one of the short-term lists
 pub foll_listed : (kind : PictureKind) (long : List (Option ℕ)) (dpb : List DpbPicture) (poc : ℤ) (negative positive : List ShortTermRef) (k : ℕ)
-    → is_among k (short_term_set (short_term_counts kind long dpb) poc false negative ++ short_term_set (short_term_counts kind long dpb) poc false positive) ≡ true
+    → is_among k (short_term_set (short_term_pocs kind long dpb) poc false negative ++ short_term_set (short_term_pocs kind long dpb) poc false positive) ≡ true
     → (k < length dpb) × (is_among k long ≡ false)
 foll_listed kind long dpb poc negative positive k e =
-    let counts : List (Option ℤ) = short_term_counts kind long dpb in
+    let counts : List (Option ℤ) = short_term_pocs kind long dpb in
     elim (among_append k (short_term_set counts poc false negative) (short_term_set counts poc false positive) e) [
       | inl a ↦ short_listed kind long dpb poc false negative k a
       | inr b ↦ short_listed kind long dpb poc false positive k b

@@ -9,7 +9,7 @@ use Rattle.header_types.specs.declared.reference_pictures.PictureName.TheVariant
 use Rattle.header_types.specs.declared.short_term_set.ShortTermRef.{ShortTermRef}
 use Rattle.header_types.specs.declared.slice.PictureKind.{PictureKind}
 use Rattle.header_types.specs.declared.slice.ReferenceFields.{ReferenceFields}
-use Rattle.spec_reference_pictures.specs.ReferencePictureSet.{HasDistinctDeltas, found_set, is_among, is_for, is_named, is_sought, long_term_places, named_sets, place_of, short_term_counts, short_term_set}
+use Rattle.spec_reference_pictures.specs.ReferencePictureSet.{HasDistinctDeltas, found_set, is_among, is_for, is_named, is_sought, long_term_places, named_sets, place_of, short_term_pocs, short_term_set}
 use Rattle.spec_reference_pictures.proofs.Found.{among_append, among_contains, among_picked, IsNamedBy}
 use Rattle.spec_reference_pictures.proofs.DerivedSets.{place_sought}
 
@@ -55,7 +55,7 @@ pub before_after_apart : (kind : PictureKind) (fields : ReferenceFields) (poc : 
 unfolding found_set named_sets
 before_after_apart kind fields poc dpb n k distinct first second =
     let sets : NamedSets = named_sets kind fields poc dpb in
-    let counts : List (Option ℤ) = short_term_counts kind (long_term_places kind fields.long_term poc dpb) dpb in
+    let counts : List (Option ℤ) = short_term_pocs kind (long_term_places kind fields.long_term poc dpb) dpb in
     apart counts poc true true fields.short_term_ref_pic_set.negative fields.short_term_ref_pic_set.positive k
     (λ a b in_a in_b same used_a used_b. distinct.sides a b in_a in_b same)
     (among_contains k sets.st_curr_before first) (among_contains k sets.st_curr_after second)
@@ -65,7 +65,7 @@ pub before_foll_apart : (kind : PictureKind) (fields : ReferenceFields) (poc : �
 unfolding found_set named_sets
 before_foll_apart kind fields poc dpb n k distinct first second =
     let sets : NamedSets = named_sets kind fields poc dpb in
-    let counts : List (Option ℤ) = short_term_counts kind (long_term_places kind fields.long_term poc dpb) dpb in
+    let counts : List (Option ℤ) = short_term_pocs kind (long_term_places kind fields.long_term poc dpb) dpb in
     let negative : List ShortTermRef = fields.short_term_ref_pic_set.negative in
     let positive : List ShortTermRef = fields.short_term_ref_pic_set.positive in
     let one = among_contains k sets.st_curr_before first in
@@ -79,7 +79,7 @@ pub after_foll_apart : (kind : PictureKind) (fields : ReferenceFields) (poc : �
 unfolding found_set named_sets
 after_foll_apart kind fields poc dpb n k distinct first second =
     let sets : NamedSets = named_sets kind fields poc dpb in
-    let counts : List (Option ℤ) = short_term_counts kind (long_term_places kind fields.long_term poc dpb) dpb in
+    let counts : List (Option ℤ) = short_term_pocs kind (long_term_places kind fields.long_term poc dpb) dpb in
     let negative : List ShortTermRef = fields.short_term_ref_pic_set.negative in
     let positive : List ShortTermRef = fields.short_term_ref_pic_set.positive in
     let one = among_contains k sets.st_curr_after first in

@@ -5,4 +5,3 @@ pub mod DerivedSets
 pub mod Entries
 pub mod Distinct
 pub mod Total
-pub mod Locality

@@ -1,47 +1,24 @@
 -- What a short-term reference picture set is that was read.
-use Rattle.std.proofs.Common.{◌≡◌, ℕ, zero, suc, ◌+◌, ◌-◌, ◌*◌, ◌<◌, ◌≤◌, ℤ, pos, ◌+ℤ◌, ◌<ℤ◌, ◌≤ℤ◌, nat_abs, Bool, true, false, List, [], ◌∷◌, ◌++◌, length, reverse, nat_le, Result, Ok, Err, if◌then◌else◌, refl, sym, ap, ⊎_elim, arith}
+use Rattle.std.proofs.Common.{◌≡◌, ℕ, zero, suc, ◌+◌, ◌-◌, ◌*◌, ◌<◌, ◌≤◌, ℤ, pos, ◌+ℤ◌, ◌<ℤ◌, ◌≤ℤ◌, nat_abs, Bool, true, false, List, [], ◌∷◌, ◌++◌, length, reverse, Ok, refl, sym, ap, ⊎_elim, arith}
 use Rattle.std.specs.List.{All, AllPairs, filter}
 use Rattle.std.proofs.lemmas.Int.{ints}
 use Rattle.std.proofs.lemmas.Bool.{leb-true, cases_lt}
 use Rattle.std.proofs.lemmas.List.{get_or_past}
 use Rattle.std.proofs.lemmas.List.Elements.{All-nil, All-head, All-tail, All-cons, All-weaker, All-append, All-filter, All-get_or, filter_passes}
 use Rattle.std.proofs.lemmas.List.Kept.{AllPairs-cons, AllPairs-filter}
-use Rattle.hv_base.specs.declared.breach.Breach.{Breach}
-use Rattle.hv_base.specs.declared.breach.Breach.TheVariants as breach
 use Rattle.hv_base.specs.declared.field_rules.FieldRules.{FieldRules}
 use Rattle.header_types.specs.declared.short_term_set.ShortTermRef.{ShortTermRef}
 use Rattle.header_types.specs.declared.short_term_set.StRps.{StRps}
-use Rattle.spec_fields.specs.Fields.{Reading, bind, give, wanted, flag, ue_to, ue}
+use Rattle.spec_formats.specs.Format.{when◌then◌else◌}
+use Rattle.spec_formats.specs.Fields.{read}
+use Rattle.spec_formats.proofs.Values.{CanBe, can_be}
 use Rattle.header_types.specs.ReferencePictures.{IsStRps}
-use Rattle.spec_reference_pictures.specs.ShortTermSets.{IsNearestFirst, IsRising, IsFalling, is_before, is_after, signed, step, outward, explicit_set, use_flags, moved_entry, moved, itself, sides, moved_set, delta_idx_minus1, source_at, predicted_set, is_predicted, st_ref_pic_set, KeepsOrder, StaysNear}
+use Rattle.spec_reference_pictures.specs.ShortTermSets.{IsNearestFirst, IsRising, IsFalling, is_before, is_after, signed, step, outward, explicit_set, moved_entry, moved, itself, sides, moved_set, source_at, predicted_set, st_ref_pic_set, KeepsOrder, StaysNear}
 use Rattle.spec_reference_pictures.proofs.Lists.{pairs_nil, pairs_head, pairs_tail, pairs_append, All-reverse, pairs_reverse}
 
--- where two parts are read, the first is
-bind_ok : {X Y : Type 0} (m : Result (X × List Bool) Breach) (f : X → Reading Y) (y : Y × List Bool) → bind m f ≡ Ok y → (x : X × List Bool) × (m ≡ Ok x) × (f x.0 x.1 ≡ Ok y)
-bind_ok (Ok x) f y h = (x, refl, h)
-bind_ok (Err e) f y h = cc
-
--- where reading goes on behind a fact, the fact holds
-wanted_ok : {Y : Type 0} (fact : Bool) (e : Breach) (bits : List Bool) (f : Bool → Reading Y) (y : Y × List Bool) → bind (wanted fact e bits) f ≡ Ok y → (fact ≡ true) × (f true bits ≡ Ok y)
-wanted_ok true e bits f y h = (refl, h)
-wanted_ok false e bits f y h = cc
-
-ue_to_within : (rules : FieldRules) (greatest : ℕ) (bits : List Bool) (x : ℕ × List Bool) → ue_to rules greatest bits ≡ Ok x → x.0 ≤ greatest
-unfolding ue_to
-ue_to_within rules greatest bits x h =
-    let v = bind_ok (ue rules bits) _ x h in
-    let g = wanted_ok _ _ v.0.1 _ x v.2 in
-    let e : x ≡ (v.0.0, v.0.1) = cc (g.1) in
-    rw e (leb-true _ _ g.0)
-
-step_within : (rules : FieldRules) (bits : List Bool) (x : (ℕ × Bool) × List Bool) → step rules bits ≡ Ok x → (0 < x.0.0) × (x.0.0 ≤ 32768)
+step_within : (x : ℕ × Bool) → CanBe step x → (0 < x.0) × (x.0 ≤ 32768)
 unfolding step
-step_within rules bits x h =
-    let v = bind_ok (ue_to rules 32767 bits) _ x h in
-    let f = bind_ok (flag rules v.0.1) _ x v.2 in
-    let small = ue_to_within rules 32767 bits v.0 v.1 in
-    let e : x ≡ ((v.0.0 + 1, f.0.0), f.0.1) = cc (f.2) in
-    rw e (omega arith, omega arith)
+step_within x (delta_poc_minus1, small, (used, is_flag, e)) = rw (← e) (omega arith, omega arith)
 
 -- whether the second is further out on one side than the first
 abbrev pub nearer : Bool → ℤ → ℤ → Type 0
@@ -93,32 +70,21 @@ one_further negative distance further n used rs positive small others =
       ordered = AllPairs-cons (λ (a b : ShortTermRef). nearer negative a.delta_poc b.delta_poc) r rs others.beyond others.ordered;
     }
 
-outward_is : (rules : FieldRules) (negative : Bool) (distance n : ℕ) (bits : List Bool) (x : List ShortTermRef × List Bool) → outward rules negative distance n bits ≡ Ok x → IsOutward negative distance n x.0
+outward_is : (negative : Bool) (distance n : ℕ) (rs : List ShortTermRef) → CanBe (outward negative distance n) rs → IsOutward negative distance n rs
 unfolding outward
-outward_is rules negative distance zero bits x h =
-    let e : x ≡ ([], bits) = cc in
-    rw e (nothing_outward negative distance zero refl)
-outward_is rules negative distance (suc n) bits x h =
-    let s = bind_ok (step rules bits) _ x h in
-    let o = bind_ok (outward rules negative (distance + s.0.0.0) n s.0.1) _ x s.2 in
-    let d = step_within rules bits s.0 s.1 in
-    let e : x ≡ (record { delta_poc = signed negative (distance + s.0.0.0); used = s.0.0.1 } ∷ o.0.0, o.0.1) = cc (o.2) in
-    rw e (one_further negative distance s.0.0.0 n s.0.0.1 o.0.0 d.0 d.1 (outward_is rules negative (distance + s.0.0.0) n s.0.1 o.0 o.1))
+outward_is negative distance zero rs e = rw (← e) (nothing_outward negative distance zero refl)
+outward_is negative distance (suc n) rs (further, one, (others, rest, e)) =
+    let d = step_within further one in
+    rw (← e) (one_further negative distance further.0 n further.1 others d.0 d.1 (outward_is negative (distance + further.0) n others rest))
 
-explicit_is : (rules : FieldRules) (greatest : ℕ) (bits : List Bool) (x : StRps × List Bool) → explicit_set rules greatest bits ≡ Ok x → IsNearestFirst x.0 × (greatest ≤ 15 → (n : ℕ) → 14 ≤ n → IsStRps (n + 1) x.0)
+explicit_is : (greatest : ℕ) (s : StRps) → CanBe (explicit_set greatest) s → IsNearestFirst s × (greatest ≤ 15 → (n : ℕ) → 14 ≤ n → IsStRps (n + 1) s)
 unfolding explicit_set signed
-explicit_is rules greatest bits x h =
-    let a = bind_ok (ue rules bits) _ x h in
-    let b = bind_ok (ue rules a.0.1) _ x a.2 in
-    let g = wanted_ok (nat_le (a.0.0 + b.0.0) greatest) (breach.Fault rules.range) b.0.1 _ x b.2 in
-    let s = bind_ok (outward rules true 0 a.0.0 b.0.1) _ x g.1 in
-    let t = bind_ok (outward rules false 0 b.0.0 s.0.1) _ x s.2 in
-    let e : x ≡ (record { negative = s.0.0; positive = t.0.0 }, t.0.1) = cc (t.2) in
-    let few : a.0.0 + b.0.0 ≤ greatest = leb-true (a.0.0 + b.0.0) greatest g.0 in
-    let negative = outward_is rules true 0 a.0.0 b.0.1 s.0 s.1 in
-    let positive = outward_is rules false 0 b.0.0 s.0.1 t.0 t.1 in
+explicit_is greatest s (a, is_a, (b, is_b, (fact, in_range, (before, negatives, (after, positives, e))))) =
+    let few : a + b ≤ greatest = leb-true (a + b) greatest in_range in
+    let negative = outward_is true 0 a before negatives in
+    let positive = outward_is false 0 b after positives in
     let out = λ (m n : ℕ) (rs : List ShortTermRef) (le : m ≤ n + 1) (h : All (λ (r : ShortTermRef). nat_abs r.delta_poc ≤ 0 + 32768 * m) rs). All-weaker (λ (r : ShortTermRef). nat_abs r.delta_poc ≤ 0 + 32768 * m) (λ (r : ShortTermRef). nat_abs r.delta_poc ≤ 32768 * (n + 1)) (λ r k. omega arith) rs h in
-    rw e (
+    rw (← e) (
       record {
         before = negative.beyond;
         after = positive.beyond;
@@ -127,8 +93,8 @@ explicit_is rules greatest bits x h =
       },
       λ small n far. record {
         few = omega (arith, negative.len, positive.len);
-        negative = out a.0.0 n s.0.0 (omega arith) negative.within;
-        positive = out b.0.0 n t.0.0 (omega arith) positive.within;
+        negative = out a n before (omega arith) negative.within;
+        positive = out b n after (omega arith) positive.within;
       },
     )
 
@@ -144,31 +110,21 @@ entry_pairs R delta entry (used, true) rs all pairs = AllPairs-cons (λ (a b : S
 entry_pairs R delta entry (used, false) rs all pairs = pairs
 
 -- what holds of each entry once it is moved holds of those that are in use
-moved_all : (Q : ℤ → Type 0) (rules : FieldRules) (delta : ℤ) (source : List ShortTermRef) (bits : List Bool) (x : List ShortTermRef × List Bool) → All (λ (r : ShortTermRef). Q (r.delta_poc +ℤ delta)) source → moved rules delta source bits ≡ Ok x → All (λ (r : ShortTermRef). Q r.delta_poc) x.0
+moved_all : (Q : ℤ → Type 0) (delta : ℤ) (source rs : List ShortTermRef) → All (λ (r : ShortTermRef). Q (r.delta_poc +ℤ delta)) source → CanBe (moved delta source) rs → All (λ (r : ShortTermRef). Q r.delta_poc) rs
 unfolding moved
-moved_all Q rules delta [] bits x all h =
-    let e : x ≡ ([], bits) = cc in
-    rw e (All-nil (λ (r : ShortTermRef). Q r.delta_poc))
-moved_all Q rules delta (entry ∷ entries) bits x all h =
-    let f = bind_ok (use_flags rules bits) _ x h in
-    let o = bind_ok (moved rules delta entries f.0.1) _ x f.2 in
-    let e : x ≡ (moved_entry delta entry f.0.0 ++ o.0.0, o.0.1) = cc (o.2) in
+moved_all Q delta [] rs all e = rw (← e) (All-nil (λ (r : ShortTermRef). Q r.delta_poc))
+moved_all Q delta (entry ∷ entries) rs all (flags, is_flags, (others, rest, e)) =
     let moves = λ (r : ShortTermRef). Q (r.delta_poc +ℤ delta) in
-    rw e (entry_all Q delta entry f.0.0 o.0.0 (All-head moves entry entries all) (moved_all Q rules delta entries f.0.1 o.0 (All-tail moves entry entries all) o.1))
+    rw (← e) (entry_all Q delta entry flags others (All-head moves entry entries all) (moved_all Q delta entries others (All-tail moves entry entries all) rest))
 
-moved_pairs : (R : ℤ → ℤ → Type 0) (rules : FieldRules) (delta : ℤ) (source : List ShortTermRef) (bits : List Bool) (x : List ShortTermRef × List Bool) → AllPairs (λ (a b : ShortTermRef). R (a.delta_poc +ℤ delta) (b.delta_poc +ℤ delta)) source → moved rules delta source bits ≡ Ok x
-    → AllPairs (λ (a b : ShortTermRef). R a.delta_poc b.delta_poc) x.0
+moved_pairs : (R : ℤ → ℤ → Type 0) (delta : ℤ) (source rs : List ShortTermRef) → AllPairs (λ (a b : ShortTermRef). R (a.delta_poc +ℤ delta) (b.delta_poc +ℤ delta)) source → CanBe (moved delta source) rs
+    → AllPairs (λ (a b : ShortTermRef). R a.delta_poc b.delta_poc) rs
 unfolding moved
-moved_pairs R rules delta [] bits x pairs h =
-    let e : x ≡ ([], bits) = cc in
-    rw e (pairs_nil (λ (a b : ShortTermRef). R a.delta_poc b.delta_poc))
-moved_pairs R rules delta (entry ∷ entries) bits x pairs h =
-    let f = bind_ok (use_flags rules bits) _ x h in
-    let o = bind_ok (moved rules delta entries f.0.1) _ x f.2 in
-    let e : x ≡ (moved_entry delta entry f.0.0 ++ o.0.0, o.0.1) = cc (o.2) in
+moved_pairs R delta [] rs pairs e = rw (← e) (pairs_nil (λ (a b : ShortTermRef). R a.delta_poc b.delta_poc))
+moved_pairs R delta (entry ∷ entries) rs pairs (flags, is_flags, (others, rest, e)) =
     let both = λ (a b : ShortTermRef). R (a.delta_poc +ℤ delta) (b.delta_poc +ℤ delta) in
-    rw e (entry_pairs R delta entry f.0.0 o.0.0 (moved_all (R (entry.delta_poc +ℤ delta)) rules delta entries f.0.1 o.0 (pairs_head both entry entries pairs) o.1)
-    (moved_pairs R rules delta entries f.0.1 o.0 (pairs_tail both entry entries pairs) o.1))
+    rw (← e) (entry_pairs R delta entry flags others (moved_all (R (entry.delta_poc +ℤ delta)) delta entries others (pairs_head both entry entries pairs) rest)
+    (moved_pairs R delta entries others (pairs_tail both entry entries pairs) rest))
 
 -- a set by its entries in falling order
 sides_ordered : (rs : List ShortTermRef) → IsFalling rs → IsNearestFirst (sides rs)
@@ -220,49 +176,45 @@ falling_moves delta rs h i j d lt in_list =
     let k = h i j d lt in_list in
     omega (arith, ints)
 
-own_falling : (rules : FieldRules) (delta : ℤ) (bits : List Bool) (x : List ShortTermRef × List Bool) → moved rules delta (itself ∷ []) bits ≡ Ok x → IsFalling x.0
-own_falling rules delta bits x h =
+own_falling : (delta : ℤ) (rs : List ShortTermRef) → CanBe (moved delta (itself ∷ [])) rs → IsFalling rs
+own_falling delta rs is =
     let R = λ (a b : ℤ). b <ℤ a in
     let both = λ (a b : ShortTermRef). R (a.delta_poc +ℤ delta) (b.delta_poc +ℤ delta) in
-    moved_pairs R rules delta (itself ∷ []) bits x (AllPairs-cons both itself [] (All-nil (both itself)) (pairs_nil both)) h
+    moved_pairs R delta (itself ∷ []) rs (AllPairs-cons both itself [] (All-nil (both itself)) (pairs_nil both)) is
 
--- the entries of a moved set, the highest first
-joined_of : (rules : FieldRules) (source : StRps) (delta : ℤ) (bits : List Bool) (x : StRps × List Bool) → moved_set rules source delta bits ≡ Ok x
-    → (rs : List ShortTermRef) × (x.0 ≡ sides rs) × (length (sides rs).negative + length (sides rs).positive ≤ 16) × (IsNearestFirst source → IsFalling rs)
-    × ((n : ℕ) → nat_abs delta ≤ 32768 → IsStRps n source → All (λ (r : ShortTermRef). nat_abs r.delta_poc ≤ 32768 * (n + 1)) rs)
+-- the entries of a moved set fall, where its source's are the nearest first
+joined_ordered : (source : StRps) (delta : ℤ) (negative positive own : List ShortTermRef) → CanBe (moved delta source.negative) negative → CanBe (moved delta source.positive) positive → CanBe (moved delta (itself ∷ [])) own
+    → IsNearestFirst source → IsFalling (reverse positive ++ (own ++ negative))
+joined_ordered source delta negative positive own is_negative is_positive is_own s =
+    joined_falling delta positive own negative
+    (moved_pairs (λ a b. a <ℤ b) delta source.positive positive (rising_moves delta source.positive s.rising) is_positive)
+    (moved_all (λ z. delta <ℤ z) delta source.positive positive (All-weaker (λ (r : ShortTermRef). pos 0 <ℤ r.delta_poc) (λ (r : ShortTermRef). delta <ℤ (r.delta_poc +ℤ delta)) (λ r k. omega (arith, ints)) source.positive s.after) is_positive)
+    (own_falling delta own is_own)
+    (moved_all (λ z. z ≡ delta) delta (itself ∷ []) own (All-cons (λ (r : ShortTermRef). (r.delta_poc +ℤ delta) ≡ delta) itself [] (omega (arith, ints)) (All-nil (λ (r : ShortTermRef). (r.delta_poc +ℤ delta) ≡ delta))) is_own)
+    (moved_pairs (λ a b. b <ℤ a) delta source.negative negative (falling_moves delta source.negative s.falling) is_negative)
+    (moved_all (λ z. z <ℤ delta) delta source.negative negative (All-weaker (λ (r : ShortTermRef). r.delta_poc <ℤ pos 0) (λ (r : ShortTermRef). (r.delta_poc +ℤ delta) <ℤ delta) (λ r k. omega (arith, ints)) source.negative s.before) is_negative)
+
+-- and they are at most 32768 further away than its source's
+joined_near : (source : StRps) (delta : ℤ) (negative positive own : List ShortTermRef) → CanBe (moved delta source.negative) negative → CanBe (moved delta source.positive) positive → CanBe (moved delta (itself ∷ [])) own
+    → (n : ℕ) → nat_abs delta ≤ 32768 → IsStRps n source → All (λ (r : ShortTermRef). nat_abs r.delta_poc ≤ 32768 * (n + 1)) (reverse positive ++ (own ++ negative))
+joined_near source delta negative positive own is_negative is_positive is_own n small s =
+    let far = λ (z : ℤ). nat_abs z ≤ 32768 * (n + 1) in
+    let at = λ (r : ShortTermRef). far r.delta_poc in
+    let moves = λ (r : ShortTermRef). far (r.delta_poc +ℤ delta) in
+    let was = λ (r : ShortTermRef). nat_abs r.delta_poc ≤ 32768 * n in
+    let near = λ (entries rs : List ShortTermRef) (all : All was entries) (is : CanBe (moved delta entries) rs). moved_all far delta entries rs (All-weaker was moves (λ r k. sum_within r.delta_poc delta n k small) entries all) is in
+    All-append at (reverse positive) (own ++ negative) (All-reverse at positive (near source.positive positive s.positive is_positive))
+    (All-append at own negative (near (itself ∷ []) own (All-cons was itself [] (omega arith) (All-nil was)) is_own) (near source.negative negative s.negative is_negative))
+
+moved_set_is : (source : StRps) (delta : ℤ) (s : StRps) → CanBe (moved_set source delta) s
+    → (IsNearestFirst source → IsNearestFirst s) × ((n : ℕ) → nat_abs delta ≤ 32768 → IsStRps n source → IsStRps (n + 1) s)
 unfolding moved_set
-joined_of rules source delta bits x h =
-    let n = bind_ok (moved rules delta source.negative bits) _ x h in
-    let p = bind_ok (moved rules delta source.positive n.0.1) _ x n.2 in
-    let o = bind_ok (moved rules delta (itself ∷ []) p.0.1) _ x p.2 in
-    let rs : List ShortTermRef = reverse p.0.0 ++ (o.0.0 ++ n.0.0) in
-    let g = wanted_ok (nat_le (length (sides rs).negative + length (sides rs).positive) 16) (breach.Fault rules.range) o.0.1 (λ (fact : Bool). give (sides rs)) x o.2 in
-    let e : x ≡ (sides rs, o.0.1) = cc (g.1) in
-    let ordered : IsNearestFirst source → IsFalling rs = λ s.
-    joined_falling delta p.0.0 o.0.0 n.0.0
-    (moved_pairs (λ a b. a <ℤ b) rules delta source.positive n.0.1 p.0 (rising_moves delta source.positive s.rising) p.1)
-    (moved_all (λ z. delta <ℤ z) rules delta source.positive n.0.1 p.0 (All-weaker (λ (r : ShortTermRef). pos 0 <ℤ r.delta_poc) (λ (r : ShortTermRef). delta <ℤ (r.delta_poc +ℤ delta)) (λ r k. omega (arith, ints)) source.positive s.after) p.1)
-    (own_falling rules delta p.0.1 o.0 o.1)
-    (moved_all (λ z. z ≡ delta) rules delta (itself ∷ []) p.0.1 o.0 (All-cons (λ (r : ShortTermRef). (r.delta_poc +ℤ delta) ≡ delta) itself [] (omega (arith, ints)) (All-nil (λ (r : ShortTermRef). (r.delta_poc +ℤ delta) ≡ delta))) o.1)
-    (moved_pairs (λ a b. b <ℤ a) rules delta source.negative bits n.0 (falling_moves delta source.negative s.falling) n.1)
-    (moved_all (λ z. z <ℤ delta) rules delta source.negative bits n.0 (All-weaker (λ (r : ShortTermRef). r.delta_poc <ℤ pos 0) (λ (r : ShortTermRef). (r.delta_poc +ℤ delta) <ℤ delta) (λ r k. omega (arith, ints)) source.negative s.before) n.1) in
-    let near = λ (m : ℕ) (small : nat_abs delta ≤ 32768) (s : IsStRps m source).
-    let far = λ (z : ℤ). nat_abs z ≤ 32768 * (m + 1) in
-    let at = λ (r : ShortTermRef). nat_abs r.delta_poc ≤ 32768 * (m + 1) in
-    let moves = λ (r : ShortTermRef). nat_abs (r.delta_poc +ℤ delta) ≤ 32768 * (m + 1) in
-    let was = λ (r : ShortTermRef). nat_abs r.delta_poc ≤ 32768 * m in
-    All-append at (reverse p.0.0) (o.0.0 ++ n.0.0)
-    (All-reverse at p.0.0 (moved_all far rules delta source.positive n.0.1 p.0 (All-weaker was moves (λ r k. sum_within r.delta_poc delta m k small) source.positive s.positive) p.1))
-    (All-append at o.0.0 n.0.0
-    (moved_all far rules delta (itself ∷ []) p.0.1 o.0 (All-cons moves itself [] (sum_within (pos 0) delta m (omega arith) small) (All-nil moves)) o.1)
-    (moved_all far rules delta source.negative bits n.0 (All-weaker was moves (λ r k. sum_within r.delta_poc delta m k small) source.negative s.negative) n.1)) in
-    (rs, ap (λ (y : StRps × List Bool). y.0) e, leb-true _ _ g.0, ordered, near)
-
-moved_set_is : (rules : FieldRules) (source : StRps) (delta : ℤ) (bits : List Bool) (x : StRps × List Bool) → moved_set rules source delta bits ≡ Ok x
-    → (IsNearestFirst source → IsNearestFirst x.0) × ((n : ℕ) → nat_abs delta ≤ 32768 → IsStRps n source → IsStRps (n + 1) x.0)
-moved_set_is rules source delta bits x h =
-    let j = joined_of rules source delta bits x h in
-    rw j.1 (λ s. sides_ordered j.0 (j.3 s), λ n small s. sides_near (n + 1) j.0 (j.4 n small s) j.2)
+moved_set_is source delta s (negative, is_negative, (positive, is_positive, (own, is_own, (fact, in_range, e)))) =
+    let rs : List ShortTermRef = reverse positive ++ (own ++ negative) in
+    rw (← e) (
+      λ ordered. sides_ordered rs (joined_ordered source delta negative positive own is_negative is_positive is_own ordered),
+      λ n small near. sides_near (n + 1) rs (joined_near source delta negative positive own is_negative is_positive is_own n small near) (leb-true _ _ in_range),
+    )
 
 -- what holds of each set, and of the set without entries, holds of a source
 source_has : (P : StRps → Type 0) (former : List StRps) (place : ℕ) → P (record { negative = []; positive = [] }) → All P former → P (source_at former place)
@@ -287,50 +239,35 @@ none_near n = record {
   positive = All-nil (λ (r : ShortTermRef). nat_abs r.delta_poc ≤ 32768 * n);
 }
 
-predicted_is : (rules : FieldRules) (index count : ℕ) (former : List StRps) (bits : List Bool) (x : StRps × List Bool) → predicted_set rules index count former bits ≡ Ok x
-    → (All IsNearestFirst former → IsNearestFirst x.0) × ((n : ℕ) → All (IsStRps n) former → IsStRps (n + 1) x.0)
+predicted_is : (index count : ℕ) (former : List StRps) (s : StRps) → CanBe (predicted_set index count former) s
+    → (All IsNearestFirst former → IsNearestFirst s) × ((n : ℕ) → All (IsStRps n) former → IsStRps (n + 1) s)
 unfolding predicted_set
-predicted_is rules index count former bits x h =
-    let i = bind_ok (delta_idx_minus1 rules index count bits) _ x h in
-    let s = bind_ok (flag rules i.0.1) _ x i.2 in
-    let a = bind_ok (ue_to rules 32767 s.0.1) _ x s.2 in
-    let place = index - (i.0.0 + 1) in
-    let delta = signed s.0.0 (a.0.0 + 1) in
-    let size = ue_to_within rules 32767 s.0.1 a.0 a.1 in
-    let within = signed_within s.0.0 (a.0.0 + 1) in
-    let small : nat_abs delta ≤ 32768 = omega (arith, size, within) in
-    let m = moved_set_is rules (source_at former place) delta a.0.1 x a.2 in
+predicted_is index count former s (back, is_back, (sign, is_sign, (size, is_size, is))) =
+    let place = index - (back + 1) in
+    let delta = signed sign (size + 1) in
+    let within = signed_within sign (size + 1) in
+    let small : nat_abs delta ≤ 32768 = omega (arith, is_size, within) in
+    let m = moved_set_is (source_at former place) delta s is in
     (λ all. m.0 (source_has IsNearestFirst former place none_ordered all), λ n all. m.1 n small (source_has (IsStRps n) former place (none_near n) all))
 
-by_kind : (rules : FieldRules) (index count : ℕ) (former : List StRps) (greatest : ℕ) (predicted : Bool) (bits : List Bool) (x : StRps × List Bool) → (if predicted then predicted_set rules index count former else explicit_set rules greatest) bits ≡ Ok x
-    → (All IsNearestFirst former → IsNearestFirst x.0) × (greatest ≤ 15 → (n : ℕ) → 14 ≤ n → All (IsStRps n) former → IsStRps (n + 1) x.0)
-by_kind rules index count former greatest true bits x h =
-    let p = predicted_is rules index count former bits x h in
+by_kind : (index count : ℕ) (former : List StRps) (greatest : ℕ) (predicted : Bool) (s : StRps) → CanBe (when predicted then predicted_set index count former else explicit_set greatest) s
+    → (All IsNearestFirst former → IsNearestFirst s) × (greatest ≤ 15 → (n : ℕ) → 14 ≤ n → All (IsStRps n) former → IsStRps (n + 1) s)
+by_kind index count former greatest true s is =
+    let p = predicted_is index count former s is in
     (p.0, λ small n far all. p.1 n all)
-by_kind rules index count former greatest false bits x h =
-    let e = explicit_is rules greatest bits x h in
+by_kind index count former greatest false s is =
+    let e = explicit_is greatest s is in
     (λ all. e.0, λ small n far all. e.1 small n far)
 
-set_is : (rules : FieldRules) (index count : ℕ) (former : List StRps) (greatest : ℕ) (bits : List Bool) (x : StRps × List Bool) → st_ref_pic_set rules index count former greatest bits ≡ Ok x
-    → (All IsNearestFirst former → IsNearestFirst x.0) × (greatest ≤ 15 → (n : ℕ) → 14 ≤ n → All (IsStRps n) former → IsStRps (n + 1) x.0)
+set_is : (rules : FieldRules) (index count : ℕ) (former : List StRps) (greatest : ℕ) (bits : List Bool) (s : StRps) (left : List Bool) → read rules (st_ref_pic_set index count former greatest) bits ≡ Ok (s, left)
+    → (All IsNearestFirst former → IsNearestFirst s) × (greatest ≤ 15 → (n : ℕ) → 14 ≤ n → All (IsStRps n) former → IsStRps (n + 1) s)
 unfolding st_ref_pic_set
-set_is rules index count former greatest bits x h =
-    let p = bind_ok (is_predicted rules index bits) _ x h in
-    by_kind rules index count former greatest p.0.0 p.0.1 x p.2
+set_is rules index count former greatest bits s left h =
+    let p = can_be rules (st_ref_pic_set index count former greatest) bits left s h in
+    by_kind index count former greatest p.0 s p.2
 
 pub nearest_first : KeepsOrder
-nearest_first rules index count former greatest bits s left all h = (set_is rules index count former greatest bits (s, left) h).0 all
+nearest_first rules index count former greatest bits s left all h = (set_is rules index count former greatest bits s left h).0 all
 
 pub stays_near : StaysNear
-stays_near rules index count former greatest bits s left n small far all h = (set_is rules index count former greatest bits (s, left) h).1 small n far all
-
--- what is near is near a greater distance too
-pub IsStRps-more : (m n : ℕ) (s : StRps) → m ≤ n → IsStRps m s → IsStRps n s
-IsStRps-more m n s le h =
-    let was = λ (r : ShortTermRef). nat_abs r.delta_poc ≤ 32768 * m in
-    let is = λ (r : ShortTermRef). nat_abs r.delta_poc ≤ 32768 * n in
-    record {
-      few = h.few;
-      negative = All-weaker was is (λ r k. omega arith) s.negative h.negative;
-      positive = All-weaker was is (λ r k. omega arith) s.positive h.positive;
-    }
+stays_near rules index count former greatest bits s left n small far all h = (set_is rules index count former greatest bits s left h).1 small n far all

@@ -15,7 +15,7 @@ use Rattle.header_types.specs.declared.short_term_set.ShortTermRef.{ShortTermRef
 use Rattle.header_types.specs.declared.slice.PictureKind.{PictureKind}
 use Rattle.header_types.specs.declared.slice.ReferenceFields.{ReferenceFields}
 use Rattle.spec_reference_pictures.specs.PictureOrderCount.{is_irap}
-use Rattle.spec_reference_pictures.specs.ReferencePictureSet.{found, found_set, lacks_current, long_term_places, long_term_set, named_sets, no_entry, num_pic_total_curr, reference_picture_set, short_term_counts, short_term_set}
+use Rattle.spec_reference_pictures.specs.ReferencePictureSet.{found, found_set, lacks_current, long_term_places, long_term_set, named_sets, no_entry, num_pic_total_curr, reference_picture_set, short_term_pocs, short_term_set}
 
 -- the places that a test picks, one place further
 pub picked_range : (p : ℕ → Bool) (n : ℕ) → filter p (range_with_len 0 (n + 1)) ≡ filter p (range_with_len 0 n) ++ cond (p n) (n ∷ []) []
@@ -77,7 +77,7 @@ unfolding found_set named_sets lacks_current num_pic_total_curr
 total_found kind fields poc dpb n e =
     let sets : NamedSets = named_sets kind fields poc dpb in
     let long : List (Option ℕ) = long_term_places kind fields.long_term poc dpb in
-    let counts : List (Option ℤ) = short_term_counts kind long dpb in
+    let counts : List (Option ℤ) = short_term_pocs kind long dpb in
     let (a, b, d) = none_lacks (list_any is_none sets.st_curr_before) (list_any is_none sets.st_curr_after) (list_any is_none sets.lt_curr) e in
     let before = all_found sets.st_curr_before a ∙ short_many counts poc fields.short_term_ref_pic_set.negative in
     let after = all_found sets.st_curr_after b ∙ short_many counts poc fields.short_term_ref_pic_set.positive in

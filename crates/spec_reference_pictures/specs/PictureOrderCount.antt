@@ -3,19 +3,21 @@ use Rattle.std.specs.Prelude.{ℕ, ◌-◌, ◌/◌, ◌^◌, ℤ, pos, negsuc, 
 use Rattle.std.specs.Int.{int_rem_euclid}
 use Rattle.hv_base.specs.declared.fault.FaultKind.{FaultKind}
 use Rattle.hv_base.specs.declared.fault.FaultKind.TheVariants.{HeaderRange}
+use Rattle.hv_base.specs.declared.nal_types.TheConstants.{BLA_W_LP, CRA_NUT, IDR_N_LP, IDR_W_RADL}
 use Rattle.header_types.specs.declared.slice.PictureKind.{PictureKind}
 
--- whether a NAL unit of a slice is of an intra random access point: types 16 to 21, the reserved 22 and 23 apart (7.4.2.2)
+-- whether a NAL unit of a slice is of an intra random access point: its type is from BLA_W_LP to CRA_NUT, the reserved
+-- types behind that apart (7.4.2.2)
 abbrev pub is_irap : ℕ → Bool
-is_irap nal_type = nat_le 16 nal_type && nat_le nal_type 21
+is_irap nal_type = nat_le BLA_W_LP nal_type && nat_le nal_type CRA_NUT
 
 -- whether it is of an instantaneous decoding refresh picture (7.4.2.2)
 abbrev pub is_idr : ℕ → Bool
-is_idr nal_type = (nal_type == 19) || (nal_type == 20)
+is_idr nal_type = (nal_type == IDR_W_RADL) || (nal_type == IDR_N_LP)
 
 -- whether a picture begins anew: an intra random access point with NoRaslOutputFlag 1
 abbrev pub begins_anew : PictureKind → Bool
-begins_anew kind = is_irap kind.nal_type && kind.no_rasl_output
+begins_anew kind = is_irap kind.nal_type && kind.no_rasl_output_flag
 
 -- a picture order count modulo MaxPicOrderCntLsb, from 0 to MaxPicOrderCntLsb - 1
 unfoldable pub lsb_of : ℕ → ℤ → ℕ

@@ -74,15 +74,15 @@ is_short_term mark.Long = false
 
 -- what stands at a place that no picture of the buffer has
 abbrev pub no_picture : DpbPicture
-no_picture = record { poc = pos 0; mark = mark.Unused; waiting = false }
+no_picture = record { poc = pos 0; mark = mark.Unused; needed_for_output = false }
 
 -- the order counts of the pictures that are marked as reference when the set is derived: none where the picture begins
 -- anew
-abbrev pub reference_count : PictureKind → DpbPicture → Option ℤ
-reference_count kind picture = if begins_anew kind then None else (if is_reference picture.mark then Some picture.poc else None)
+abbrev pub reference_poc : PictureKind → DpbPicture → Option ℤ
+reference_poc kind picture = if begins_anew kind then None else (if is_reference picture.mark then Some picture.poc else None)
 
-unfoldable pub reference_counts : PictureKind → List DpbPicture → List (Option ℤ)
-reference_counts kind dpb = map (reference_count kind) dpb
+unfoldable pub reference_pocs : PictureKind → List DpbPicture → List (Option ℤ)
+reference_pocs kind dpb = map (reference_poc kind) dpb
 
 -- what stands at a place that no long-term entry has
 abbrev pub no_entry : LongTermRef
@@ -119,15 +119,15 @@ long_term_name kind long poc i =
 -- the places of the pictures that the long-term entries name, which are sought among all that are marked as reference
 unfoldable pub long_term_places : PictureKind → LongTermRefs → ℤ → List DpbPicture → List (Option ℕ)
 long_term_places kind long poc dpb =
-    map (λ i. place_of (long_term_name kind long poc i) (reference_counts kind dpb)) (range_with_len 0 (length long.entries))
+    map (λ i. place_of (long_term_name kind long poc i) (reference_pocs kind dpb)) (range_with_len 0 (length long.entries))
 
 -- the order counts of the short-term pictures: those that are marked so and that no long-term entry names
-abbrev pub short_term_count : PictureKind → List (Option ℕ) → ℕ → DpbPicture → Option ℤ
-short_term_count kind long k picture =
+abbrev pub short_term_poc : PictureKind → List (Option ℕ) → ℕ → DpbPicture → Option ℤ
+short_term_poc kind long k picture =
     if begins_anew kind || is_among k long then None else (if is_short_term picture.mark then Some picture.poc else None)
 
-unfoldable pub short_term_counts : PictureKind → List (Option ℕ) → List DpbPicture → List (Option ℤ)
-short_term_counts kind long dpb = map (λ k. short_term_count kind long k (slice_index_or dpb k no_picture)) (range_with_len 0 (length dpb))
+unfoldable pub short_term_pocs : PictureKind → List (Option ℕ) → List DpbPicture → List (Option ℤ)
+short_term_pocs kind long dpb = map (λ k. short_term_poc kind long k (slice_index_or dpb k no_picture)) (range_with_len 0 (length dpb))
 
 -- whether an entry is one that the picture itself may use, or one that only later pictures may
 abbrev pub is_for : Bool → Bool → Bool
@@ -148,7 +148,7 @@ long_term_set places current entries =
 unfoldable pub named_sets : PictureKind → ReferenceFields → ℤ → List DpbPicture → NamedSets
 named_sets kind fields poc dpb =
     let long : List (Option ℕ) = long_term_places kind fields.long_term poc dpb in
-    let short : List (Option ℤ) = short_term_counts kind long dpb in
+    let short : List (Option ℤ) = short_term_pocs kind long dpb in
     let negative : List ShortTermRef = fields.short_term_ref_pic_set.negative in
     let positive : List ShortTermRef = fields.short_term_ref_pic_set.positive in
     record {

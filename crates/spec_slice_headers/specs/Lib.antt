@@ -1,5 +1,4 @@
 pub mod Context
-pub mod Rules
 pub mod NamedSets
 pub mod SegmentStart
 pub mod References

@@ -7,8 +7,7 @@ use Rattle.header_types.specs.declared.pps.PpsFields.{PpsFields}
 use Rattle.header_types.specs.declared.former.Sets.{Sets}
 use Rattle.header_types.specs.Content.{same_content}
 use Rattle.spec_parameter_sets.specs.Fits.{fits}
-use Rattle.spec_slice_headers.specs.Context.{Context, fault, no_rasl_output, agrees, first_of}
-use Rattle.spec_slice_headers.specs.Rules.{◌>>=◌, kept}
+use Rattle.spec_slice_headers.specs.Context.{Context, fault, ◌>>=◌, kept, no_rasl_output_flag, agrees, first_of}
 
 -- the parameter sets that a slice names
 pub record Named : Type 0 where
@@ -42,6 +41,6 @@ unfoldable pub named_sets : Context → Bool → ℕ → Result Named Breach
 named_sets c is_first id = do
   named ← found (named_by c.sets id)
   fitting ← kept (fits named.sps named.pps) (fault rule.SetMismatch)
-  unchanged ← kept (no_rasl_output c.nal_type c.former.fresh || is_active c.former.active named.sps) (fault rule.SpsChanged)
+  unchanged ← kept (no_rasl_output_flag c.nal_type c.former.first_in_sequence || is_active c.former.active named.sps) (fault rule.SpsChanged)
   same_set ← kept (agrees (first_of c is_first) (λ h. h.segment.slice_pic_parameter_set_id == id)) (fault rule.SliceMismatch)
   Ok named

@@ -1,5 +1,11 @@
 //! Laws of the definitions.
 
+ghost use Rattle.hv_base.specs.declared.field_rules.TheConstants.{SLICE_HEADER_RULES};
+ghost use Rattle.spec_formats.specs.Fields.{field_at, read};
+ghost use Rattle.spec_formats.specs.Format.{IsSpelledAs};
+ghost use Rattle.spec_formats.specs.Locality.{IsLocal};
+ghost use Rattle.spec_slice_headers.specs.Context.{Context};
+ghost use Rattle.spec_slice_headers.specs.SegmentHeader.{slice_segment_header};
 ghost use Rattle.spec_slice_headers.specs.Substreams.{RangesAreInside, RangesHoldSubstreams};
 ghost use Rattle.spec_slice_headers.specs.UnitCuts.{
   DataReachTheEnd,
@@ -7,6 +13,13 @@ ghost use Rattle.spec_slice_headers.specs.UnitCuts.{
   SubstreamsAreCuts,
   SubstreamsJoin,
 };
+
+/// A slice segment header that is read, up to its byte alignment, is spelled by the fields that the bits have, and what
+/// those spell is read. It depends on the bits that are read, and on none behind them.
+pub fn headers_are_spelled()
+    ensures spelled { (c : Context) → IsSpelledAs (field_at SLICE_HEADER_RULES) (slice_segment_header c) }
+    ensures local { (c : Context) → IsLocal (read SLICE_HEADER_RULES (slice_segment_header c)) }
+{}
 
 /// The place in a NAL unit of a byte of its payload is found from where the emulation prevention bytes stood.
 pub fn places_are_found()

@@ -3,4 +3,7 @@
 
 mod laws;
 
-pub use laws::{places_are_found, ranges_hold_substreams, substreams_are_cuts, substreams_join};
+pub use laws::{
+    headers_are_spelled, places_are_found, ranges_hold_substreams, substreams_are_cuts,
+    substreams_join,
+};

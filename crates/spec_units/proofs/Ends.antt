@@ -23,6 +23,10 @@ pub and_left : (a b : Bool) → (a && b) ≡ true → a ≡ true
 and_left true b h = refl
 and_left false b h = h
 
+pub and_right : (a b : Bool) → (a && b) ≡ true → b ≡ true
+and_right true b h = h
+and_right false b h = cc
+
 -- what ends a unit begins with a zero byte
 pub ends_unit-zero : (b : ℕ) (bs : List ℕ) → ends_unit (b ∷ bs) ≡ true → (b == 0) ≡ true
 ends_unit-zero b [] h = cc
@@ -43,7 +47,7 @@ ends_unit-append (a ∷ []) r h = absurd (omega arith)
 ends_unit-append (a ∷ b ∷ []) r h = absurd (omega arith)
 ends_unit-append (a ∷ b ∷ c ∷ bs) r h = refl
 
-option_map-suc : (o : Option ℕ) (k : ℕ) → option_map suc o ≡ Some k → (j : ℕ) × (o ≡ Some j) × (k ≡ suc j)
+pub option_map-suc : (o : Option ℕ) (k : ℕ) → option_map suc o ≡ Some k → (j : ℕ) × (o ≡ Some j) × (k ≡ suc j)
 option_map-suc None k h = cc
 option_map-suc (Some j) k h = (j, refl, cc)
 
@@ -96,6 +100,29 @@ unit_end-nowhere (b ∷ bs) (suc j) h =
     decide (ends_unit (b ∷ bs))
     (λ t. let e : Some 0 ≡ None = sym (if_true _ _ _ t) ∙ h in cc)
     (λ f. unit_end-nowhere bs j (option_map-none (unit_end bs) (sym (if_false _ _ _ f) ∙ h)))
+
+-- what ends a unit stands at its end
+pub unit_end-here : (bs : List ℕ) (k : ℕ) → unit_end bs ≡ Some k → ends_unit (drop k bs) ≡ true
+unit_end-here [] k h = cc
+unit_end-here (b ∷ bs) k h =
+    decide (ends_unit (b ∷ bs))
+    (λ t. let e : Some 0 ≡ Some k = sym (if_true _ _ _ t) ∙ h in let z : k ≡ 0 = cc in
+    ap (λ n. ends_unit (drop n (b ∷ bs))) z ∙ t)
+    (λ f. let r = option_map-suc (unit_end bs) k (sym (if_false _ _ _ f) ∙ h) in
+    ap (λ n. ends_unit (drop n (b ∷ bs))) r.2 ∙ unit_end-here bs r.0 r.1)
+
+-- and nowhere before
+pub unit_end-before : (bs : List ℕ) (k j : ℕ) → unit_end bs ≡ Some k → j < k → ends_unit (drop j bs) ≡ false
+unit_end-before [] k j h lt = cc
+unit_end-before (b ∷ bs) k zero h lt =
+    decide (ends_unit (b ∷ bs))
+    (λ t. let e : Some 0 ≡ Some k = sym (if_true _ _ _ t) ∙ h in let z : 0 ≡ k = cc in absurd (omega (arith, z, lt)))
+    (λ f. f)
+unit_end-before (b ∷ bs) k (suc j) h lt =
+    decide (ends_unit (b ∷ bs))
+    (λ t. let e : Some 0 ≡ Some k = sym (if_true _ _ _ t) ∙ h in let z : 0 ≡ k = cc in absurd (omega (arith, z, lt)))
+    (λ f. let r = option_map-suc (unit_end bs) k (sym (if_false _ _ _ f) ∙ h) in
+    unit_end-before bs r.0 j r.1 (omega (arith, lt, r.2)))
 
 -- behind a unit comes padding
 pub parts-past : (ended : Bool) (bs : List ℕ) (k : ℕ) → unit_end bs ≡ Some k → parts ended Inside bs ≡ parts ended (Padding 0) (drop k bs)

@@ -68,7 +68,7 @@ then_told-go (Whole u) a b more e = (more, ap (λ ts. Whole u ∷ ts) e)
 then_told-go (Broken f) a b more e = ([], refl)
 then_told-go (Met l) a b more e = ([], refl)
 
-told_from-go : (began ended : Bool) (n : ℕ) (ps later : List Part) → (more : List Told) × (told_from began ended n (ps ++ later) ≡ told_from began false n ps ++ more)
+pub told_from-go : (began ended : Bool) (n : ℕ) (ps later : List Part) → (more : List Told) × (told_from began ended n (ps ++ later) ≡ told_from began false n ps ++ more)
 told_from-go began ended n [] later = (told_from began ended n later, refl)
 told_from-go began ended n (Stray ∷ ps) later = ([], refl)
 told_from-go began ended n (Raw u ∷ ps) later =

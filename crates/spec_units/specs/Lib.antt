@@ -1,2 +1,5 @@
 pub mod Units
 pub mod Judged
+pub mod ByteStream
+pub mod Escaped
+pub mod Closed

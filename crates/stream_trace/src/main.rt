@@ -8,6 +8,9 @@
 //! fields of the picture's slice segment headers follow, and with the word `outputs` the pictures come in output order.
 //! What stops the stream is told on the error stream then, and by the exit status: 2 where it breaks a rule, 3 where it
 //! meets a limit.
+//!
+//! Behind a word (`units` for none) may stand a file, and further words with a file each. Then the streams of these files are
+//! read in turn, each behind a line `==` and its name, and what stops one is printed behind its lines.
 #![tactic(auto)]
 
 ghost use Rattle.std.specs.Prelude.{◌≡◌, false};
@@ -32,9 +35,9 @@ use crate::trace_error::TraceError;
 use hv_base::{Nal, Outcome, Status, Stop};
 use nal_stream::{Framer, Next};
 use std::alloc::Global;
-use std::env;
 use std::io::{self, BufWriter, Read, Write};
 use std::process::ExitCode;
+use std::{env, fs};
 
 /// What is printed of a stream.
 #[derive(Drop)]
@@ -48,38 +51,104 @@ enum Trace {
 }
 
 fn main(rt: HostRuntime) -> Result<ExitCode, TraceError> {
-    let mut trace = asked_for(&rt)?;
-    let mut out = BufWriter::new(rt.alloc(), io::writer(&rt))?;
-    let mut framer = Framer::new(rt.alloc())?;
-    if read_all(
-        &mut trace,
-        rt.reader(),
-        vec![in rt.alloc(); 0; 65_536]?,
-        &mut framer,
-        &mut out,
-    )? {
-        framer.finish();
-        let _ = print_units(&mut trace, &mut framer, &mut out)?;
-        print_end(&mut trace, &mut out)?;
+    let mut args = env::args(&rt)?;
+    let _name = args.next();
+    let first = args.next();
+    let word = first.as_ref().map_or("units", String::as_str);
+    match args.next() {
+        None => trace_input(&rt, word),
+        Some(path) => trace_files(&rt, word, path.as_str(), args),
     }
-    out.flush()?;
-    tell_stop(&rt, &trace)
 }
 
-/// What the words on the command line ask for.
-fn asked_for(rt: &HostRuntime) -> Result<Trace, TraceError> {
-    let mut args = env::args(rt)?;
-    let _name = args.next();
-    match args.next() {
-        None => Ok(Trace::Units),
-        Some(word) if word.as_str() == "fields" => Ok(Trace::Fields(rt.alloc())),
-        Some(word) if word.as_str() == "pictures" => plan(rt, PlanLines::Pictures),
-        Some(word) if word.as_str() == "slices" => plan(rt, PlanLines::Slices),
-        Some(word) if word.as_str() == "outputs" => {
-            plan(rt, PlanLines::Outputs(OutputTrace::new(rt.alloc())))
-        }
-        Some(_) => Err(TraceError::Usage),
+/// Prints what a word asks for of the stream on standard input, and answers how it ended.
+fn trace_input(rt: &HostRuntime, word: &str) -> Result<ExitCode, TraceError> {
+    let mut trace = asked_for(rt, word)?;
+    trace_standard(rt, &mut trace)
+}
+
+/// Prints what is asked for of the stream on standard input, and answers how it ended.
+fn trace_standard(rt: &HostRuntime, trace: &mut Trace) -> Result<ExitCode, TraceError> {
+    let mut out = BufWriter::new(rt.alloc(), io::writer(rt))?;
+    trace_stream(rt, trace, rt.reader(), &mut out)?;
+    out.flush()?;
+    tell_stop(rt, trace)
+}
+
+/// Prints what words ask for of the streams in files, in turn.
+fn trace_files(
+    rt: &HostRuntime,
+    word: &str,
+    path: &str,
+    mut args: env::Args,
+) -> Result<ExitCode, TraceError> {
+    let mut out = BufWriter::new(rt.alloc(), io::writer(rt))?;
+    trace_named(rt, word, path, &mut out)?;
+    for _ in 0..u64::MAX {
+        let (Some(word), Some(path)) = (args.next(), args.next()) else {
+            break;
+        };
+        trace_named(rt, word.as_str(), path.as_str(), &mut out)?;
     }
+    out.flush()?;
+    Ok(ExitCode::SUCCESS)
+}
+
+/// What a word on the command line asks for.
+fn asked_for(rt: &HostRuntime, word: &str) -> Result<Trace, TraceError> {
+    match word {
+        "units" => Ok(Trace::Units),
+        "fields" => Ok(Trace::Fields(rt.alloc())),
+        "pictures" => plan(rt, PlanLines::Pictures),
+        "slices" => plan(rt, PlanLines::Slices),
+        "outputs" => plan(rt, PlanLines::Outputs(OutputTrace::new(rt.alloc()))),
+        _ => Err(TraceError::Usage),
+    }
+}
+
+/// Prints what a word asks for of the stream in a file.
+fn trace_named<W: Write>(
+    rt: &HostRuntime,
+    word: &str,
+    path: &str,
+    out: &mut W,
+) -> Result<(), TraceError> {
+    let mut trace = asked_for(rt, word)?;
+    trace_file(rt, &mut trace, path, out)
+}
+
+/// Prints a file's name, what is asked for of its stream, and what stops that.
+fn trace_file<W: Write>(
+    rt: &HostRuntime,
+    trace: &mut Trace,
+    path: &str,
+    out: &mut W,
+) -> Result<(), TraceError> {
+    writeln!(out, "== {path}")?;
+    trace_stream(rt, trace, fs::open(rt, path)?, out)?;
+    match stop_of(trace) {
+        None => {}
+        Some(Stop::Fault(fault)) => writeln!(out, "{fault}")?,
+        Some(Stop::Limit(limit)) => writeln!(out, "{limit}")?,
+    }
+    Ok(())
+}
+
+/// Prints what is asked for of a stream.
+fn trace_stream<R: Read + Drop, W: Write>(
+    rt: &HostRuntime,
+    trace: &mut Trace,
+    input: R,
+    out: &mut W,
+) -> Result<(), TraceError> {
+    let mut framer = Framer::new(rt.alloc())?;
+    let buffer = vec![in rt.alloc(); 0; 65_536]?;
+    if read_all(trace, input, buffer, &mut framer, out)? {
+        framer.finish();
+        let _ = print_units(trace, &mut framer, out)?;
+        print_end(trace, out)?;
+    }
+    Ok(())
 }
 
 /// The planned pictures, as these lines.
@@ -183,12 +252,17 @@ fn print_unit<W: Write>(nal: &Nal, out: &mut W) -> Result<(), TraceError> {
     Ok(())
 }
 
+/// What stopped the planning.
+fn stop_of(trace: &Trace) -> Option<Stop> {
+    match trace {
+        Trace::Units | Trace::Fields(_) => None,
+        Trace::Plan(plan) => plan.stop(),
+    }
+}
+
 /// Tells on the error stream what stopped the planning, and answers the exit status.
 fn tell_stop(rt: &HostRuntime, trace: &Trace) -> Result<ExitCode, TraceError> {
-    let Trace::Plan(plan) = trace else {
-        return Ok(ExitCode::SUCCESS);
-    };
-    let outcome = match plan.stop() {
+    let outcome = match stop_of(trace) {
         None => Outcome::Ok,
         Some(Stop::Fault(fault)) => {
             eprintln!(rt; "{fault}")?;

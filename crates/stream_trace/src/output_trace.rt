@@ -2,7 +2,7 @@
 
 use crate::trace_error::TraceError;
 use header_types::FieldList;
-use spec_pictures::PicturePlan;
+use plan_types::PicturePlan;
 use std::alloc::Global;
 use std::io::Write;
 

@@ -6,7 +6,7 @@ use crate::trace_error::TraceError;
 use hv_base::Stop;
 use nal_stream::Next;
 use picture_plan::{Flight, Planned, Planner};
-use spec_pictures::PicturePlan;
+use plan_types::PicturePlan;
 use std::alloc::Global;
 use std::io::Write;
 

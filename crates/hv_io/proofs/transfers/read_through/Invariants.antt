@@ -1,12 +1,12 @@
--- What was read is taken, and the count of faults hasn't fallen.
-use Rattle.std.proofs.Common.{◌≤◌, ◌-◌, ◌^◌, vec_len}
+-- What was read is taken, and the count of faults is as before.
+use Rattle.std.proofs.Common.{◌≡◌, ◌-◌, ◌^◌, vec_len}
 use Rattle.hv_io.specs.Streams.{Takes}
 use Rattle.hv_io.proofs.transfers.read_through.Given as goal
 
 abbrev pub invariant-loop-n : goal.invariant-loop-n
 invariant-loop-n g l = record {
   taken : Takes (g.S.Source.left l.fn.src) (g.S.Source.left l.src) l.bytes.items;
-  grows : g.S.Source.faults l.fn.src ≤ g.S.Source.faults l.src;
+  quiet : g.S.Source.faults l.src ≡ g.S.Source.faults l.fn.src;
 }
 
 abbrev pub decreases-loop-n : goal.decreases-loop-n

@@ -1,4 +1,4 @@
--- The pictures so far don't wait any more, and the later ones are as they were.
+-- The pictures so far aren't needed for output any more, and the later ones are as they were.
 use Rattle.std.proofs.Common.{◌≡◌, ◌++◌, drop, length, take}
 use Rattle.spec_output_order.specs.OutputOrder.{discarded}
 use Rattle.output_order.proofs.bumping.discard.Given as goal

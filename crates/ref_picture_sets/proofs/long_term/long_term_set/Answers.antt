@@ -1,4 +1,4 @@
-use Rattle.std.proofs.Common.{ℕ, ◌≡◌, ◌∙◌, ◌+◌, Bool, Option, None, [], slice_index_or, length, map, arith, refl, ap, sym}
+use Rattle.std.proofs.Common.{ℕ, ◌≡◌, ◌∙◌, ◌+◌, Bool, Option, None, slice_index_or, length, map, arith, refl, ap, sym}
 use Rattle.std.specs.List.{filter, range_with_len}
 use Rattle.spec_reference_pictures.specs.ReferencePictureSet.{is_for, no_entry, long_term_set}
 use Rattle.spec_reference_pictures.proofs.Total.{picked_range}
@@ -13,9 +13,9 @@ loop-i-preserved c =
     let step = picked_range p c.loop-i.i in
     elim c.if-is_for.branch [
       | then-is_for+in_ok-push w ↦ picked f p (range_with_len 0 c.loop-i.i) (range_with_len 0 (c.loop-i.i + 1)) c.loop-i.i step (sym c.is_for.ensures ∙ w.if-is_for.true)
-          [] _ _ _ c.loop-i.invariant refl (w.set-is ∙ w.in_ok-push.ensures.ok)
+          _ _ _ c.loop-i.invariant refl (w.set-is ∙ w.in_ok-push.ensures.ok)
       | else-is_for w ↦ w.set-is ∙ unpicked f p (range_with_len 0 c.loop-i.i) (range_with_len 0 (c.loop-i.i + 1)) c.loop-i.i step (sym c.is_for.ensures ∙ w.if-is_for.false)
-          [] _ c.loop-i.invariant
+          _ c.loop-i.invariant
     ]
 
 pub returns : goal.returns

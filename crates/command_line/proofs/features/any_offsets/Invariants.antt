@@ -1,7 +1,0 @@
-use Rattle.std.proofs.Common.{◌≡◌, take, false}
-use Rattle.std.specs.List.{list_any}
-use Rattle.spec_decoder.specs.Features.{has_offsets}
-use Rattle.command_line.proofs.features.any_offsets.Given as goal
-
-abbrev pub invariant-loop-segment : goal.invariant-loop-segment
-invariant-loop-segment l = list_any has_offsets (take l.segment-index l.segments) ≡ false

@@ -1,0 +1,6 @@
+pub mod FixedLength
+pub mod HeadlineLaws
+pub mod Plannings
+pub mod Takings
+pub mod Tellings
+pub mod Writes

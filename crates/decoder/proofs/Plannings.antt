@@ -1,0 +1,168 @@
+-- What a planner's calls leave to be written.
+use Rattle.std.proofs.Common.{◌≡◌, ℕ, Bool, true, false, List, [], ◌∷◌, ◌++◌, Option, Some, None, Result, Ok, Err, refl, sym, ap, subst, ◌∙◌, append_assoc, append-nil}
+use Rattle.hv_base.specs.declared.refusal.Stop.{Stop}
+use Rattle.hv_base.specs.declared.refusal.Stop.TheVariants as stop
+use Rattle.hv_base.specs.declared.fault.Fault.{Fault}
+use Rattle.hv_base.specs.declared.limit.Limit.{Limit}
+use Rattle.plan_types.specs.declared.picture_plan.PicturePlan.{PicturePlan}
+use Rattle.spec_units.specs.Judged.{Told, Whole, Broken, Met, told_of}
+use Rattle.plan_types.specs.declared.between.Between.{Between}
+use Rattle.spec_pictures.specs.Pictures.{beginning}
+use Rattle.spec_pictures.specs.Steps.{Stepped, step, close, closing, then_next}
+use Rattle.spec_pictures.specs.Planned as plan
+use Rattle.spec_pictures.specs.Planned.{Planned, behind_closed, planned_next, planned_from, planned_of, planned_end}
+use Rattle.picture_plan.specs.Flights.{Gathered, waiting, cut, with_pictures, cut_at_stop, pictures_of}
+use Rattle.picture_plan.specs.Plans.{Plans, Given, given_of, going_on, after_step, behind_unit, all_cut, at_end, halted, stop_of}
+use Rattle.picture_plan.proofs.Pictures.{step-all, cut-all, cut-none}
+use Rattle.spec_decoder.specs.Decoder.{Decoded, decoded, decoded_plan, decoded_from}
+use Rattle.decoder.specs.Owed.{planned_behind, owed_behind}
+
+-- before the first unit all is owed
+pub owed-first : (ended : Bool) (bytes : List ℕ) (ahead : ℕ) → decoded ended bytes ≡ owed_behind ended (record { ahead = ahead; pending = []; next = Ok beginning }) (told_of ended bytes)
+unfolding decoded planned_of owed_behind planned_behind
+owed-first ended bytes ahead = refl
+
+joined-closed : (a b c d : List PicturePlan) (x : Planned) → a ++ b ≡ c ++ d → behind_closed c (behind_closed d x) ≡ behind_closed a (behind_closed b x)
+joined-closed a b c d x e =
+    ap (λ (ps : List PicturePlan). let q : Planned = record { pictures = ps; last = x.last; stop = x.stop } in q)
+    (sym (append_assoc c d x.pictures) ∙ ap (λ (ps : List PicturePlan). ps ++ x.pictures) (sym e) ∙ append_assoc a b x.pictures)
+
+-- the pictures of a step's flights, and what is planned behind them
+after-step : (ended : Bool) (p : Plans) (s : Between) (t : Told) (later : List Told)
+    → behind_closed p.pending (planned_from ended s (t ∷ later))
+    ≡ behind_closed (pictures_of (after_step p (step s t)).flights) (planned_behind ended (after_step p (step s t)).left later)
+unfolding planned_behind
+after-step ended p s t later =
+    let u : Stepped = step s t in
+    let g : Given = after_step p u in
+    joined-closed (pictures_of g.flights) g.left.pending p.pending u.closed (planned_next u.next (λ n. planned_from ended n later))
+    (step-all p.ahead p.pending u.closed u.next)
+
+unit-next : (ended : Bool) (p : Plans) (next : Result Between Stop) (t : Told) (later : List Told)
+    → behind_closed p.pending (planned_next next (λ s. planned_from ended s (t ∷ later)))
+    ≡ behind_closed (pictures_of (going_on p next (λ s. after_step p (step s t))).flights) (planned_behind ended (going_on p next (λ s. after_step p (step s t))).left later)
+unfolding planned_behind
+unit-next ended p (Ok s) t later = after-step ended p s t later
+unit-next ended p (Err e) t later = refl
+
+planned-unit : (ended : Bool) (p : Plans) (t : Told) (later : List Told)
+    → planned_behind ended p (t ∷ later) ≡ behind_closed (pictures_of (behind_unit p (t ∷ [])).flights) (planned_behind ended (behind_unit p (t ∷ [])).left later)
+unfolding planned_behind behind_unit
+planned-unit ended p t later = unit-next ended p p.next t later
+
+-- a unit's flights come first, and then what is owed behind them
+pub owed-unit : (ended : Bool) (p : Plans) (t : Told) (later : List Told)
+    → (d : Planned) × (owed_behind ended p (t ∷ later) ≡ decoded_from d.stop (pictures_of (behind_unit p (t ∷ [])).flights ++ d.pictures))
+    × (owed_behind ended (behind_unit p (t ∷ [])).left later ≡ decoded_from d.stop d.pictures)
+unfolding owed_behind
+owed-unit ended p t later = (
+  planned_behind ended (behind_unit p (t ∷ [])).left later,
+  ap decoded_plan (planned-unit ended p t later),
+  refl,
+)
+
+-- nothing waits behind a stop
+stopped-pending : (p : Plans) (u : Stepped) (e : Stop) → u.next ≡ Err e → (after_step p u).left.pending ≡ []
+stopped-pending p u e is =
+    subst (λ (next : Result Between Stop). (cut_at_stop next (with_pictures p.ahead (waiting p.pending) u.closed)).pending ≡ []) (sym is)
+    (cut-none (with_pictures p.ahead (waiting p.pending) u.closed))
+
+unit-stopped : (p : Plans) (next : Result Between Stop) (t : Told) (e : Stop) → stop_of next ≡ None → (going_on p next (λ s. after_step p (step s t))).left.next ≡ Err e
+    → (going_on p next (λ s. after_step p (step s t))).left.pending ≡ []
+unit-stopped p (Ok s) t e going is = stopped-pending p (step s t) e is
+unit-stopped p (Err f) t e going is = absurd cc
+
+stop-is : (next : Result Between Stop) (e : Stop) → stop_of next ≡ Some e → next ≡ Err e
+stop-is (Ok s) e is = absurd cc
+stop-is (Err f) e is = cc
+
+stopped-owed : (ended : Bool) (p : Plans) (later : List Told) (e : Stop) → p.pending ≡ [] → p.next ≡ Err e
+    → planned_behind ended p later ≡ record { pictures = []; last = []; stop = Some e }
+unfolding planned_behind
+stopped-owed ended p later e none is =
+    ap (λ (ps : List PicturePlan). behind_closed ps (planned_next p.next (λ s. planned_from ended s later))) none
+    ∙ ap (λ (next : Result Between Stop). behind_closed [] (planned_next next (λ s. planned_from ended s later))) is
+
+-- where a unit stops the stream, its flights are the last
+pub owed-stopped : (ended : Bool) (p : Plans) (t : Told) (later : List Told) (e : Stop) → stop_of p.next ≡ None → stop_of (behind_unit p (t ∷ [])).left.next ≡ Some e
+    → owed_behind ended p (t ∷ later) ≡ decoded_from (Some e) (pictures_of (behind_unit p (t ∷ [])).flights)
+unfolding owed_behind behind_unit
+owed-stopped ended p t later e going is =
+    let g : Given = behind_unit p (t ∷ []) in
+    let next : g.left.next ≡ Err e = stop-is g.left.next e is in
+    ap decoded_plan (planned-unit ended p t later)
+    ∙ ap (λ (d : Planned). decoded_plan (behind_closed (pictures_of g.flights) d)) (stopped-owed ended g.left later e (unit-stopped p p.next t e going next) next)
+    ∙ ap (decoded_from (Some e)) (append-nil (pictures_of g.flights))
+
+same_stop : (next : Result Between Stop) → plan.stop_of next ≡ stop_of next
+same_stop (Ok s) = refl
+same_stop (Err e) = refl
+
+-- what a cut leaves: all pictures are in flights
+cut-flights : (g : Gathered) → pictures_of (cut g).flights ≡ pictures_of g.flights ++ g.pending
+cut-flights g = sym (append-nil (pictures_of (cut g).flights)) ∙ ap (λ (ps : List PicturePlan). pictures_of (cut g).flights ++ ps) (sym (cut-none g)) ∙ cut-all g
+
+last-of : (x : Planned) (ps : List PicturePlan) (next : Result Between Stop) → x.pictures ≡ ps → x.stop ≡ stop_of next → decoded_plan x ≡ decoded_from (stop_of next) ps
+last-of x ps next a b = ap (λ (end : Option Stop). decoded_from end x.pictures) b ∙ ap (decoded_from (stop_of next)) a
+
+end-next : (p : Plans) (next : Result Between Stop)
+    → decoded_plan (behind_closed p.pending (planned_next next (λ s. planned_end true s)))
+    ≡ decoded_from (stop_of (all_cut (going_on p next (λ s. after_step p (close s)))).left.next) (pictures_of (all_cut (going_on p next (λ s. after_step p (close s)))).flights)
+end-next p (Ok s) =
+    let u : Stepped = close s in
+    let g : Given = after_step p u in
+    last-of (behind_closed p.pending (planned_end true s)) (pictures_of (all_cut g).flights) u.next
+    (sym (step-all p.ahead p.pending u.closed u.next) ∙ sym (cut-flights (record { flights = g.flights; pending = g.left.pending })))
+    (same_stop u.next)
+end-next p (Err e) =
+    last-of (behind_closed p.pending (record { pictures = []; last = []; stop = Some e })) (pictures_of (cut (waiting p.pending)).flights) (Err e)
+    (append-nil p.pending ∙ sym (cut-flights (waiting p.pending)))
+    refl
+
+-- the input's end
+pub owed-end : (p : Plans) → owed_behind true p [] ≡ decoded_from (stop_of (at_end p).left.next) (pictures_of (at_end p).flights)
+unfolding owed_behind planned_behind at_end
+owed-end p = end-next p p.next
+
+halt-next : (p : Plans) (next : Result Between Stop)
+    → decoded_plan (behind_closed p.pending (planned_next next (λ s. planned_end false s)))
+    ≡ decoded_from (stop_of next) (pictures_of (cut (waiting p.pending)).flights)
+halt-next p (Ok s) =
+    last-of (behind_closed p.pending (planned_end false s)) (pictures_of (cut (waiting p.pending)).flights) (Ok s)
+    (append-nil p.pending ∙ sym (cut-flights (waiting p.pending)))
+    refl
+halt-next p (Err e) =
+    last-of (behind_closed p.pending (record { pictures = []; last = []; stop = Some e })) (pictures_of (cut (waiting p.pending)).flights) (Err e)
+    (append-nil p.pending ∙ sym (cut-flights (waiting p.pending)))
+    refl
+
+-- no more units, though the input hasn't ended
+pub owed-halt : (p : Plans) → owed_behind false p [] ≡ decoded_from (stop_of (halted p).left.next) (pictures_of (halted p).flights)
+unfolding owed_behind planned_behind halted
+owed-halt p = halt-next p p.next
+
+then-stops : (closed : List PicturePlan) (next : Result Between Stop) (e : Stop) → stop_of (then_next closed next (λ t. Err e)).next ≡ None → ⊥
+then-stops closed (Ok s) e is = absurd cc
+then-stops closed (Err f) e is = absurd cc
+
+closing-stops : (s : Between) (e : Stop) → stop_of (closing s (λ t. Err e)).next ≡ None → ⊥
+closing-stops s e is = then-stops (close s).closed (close s).next e is
+
+broken-next : (p : Plans) (next : Result Between Stop) (f : Fault) → stop_of (going_on p next (λ s. after_step p (step s (Broken f)))).left.next ≡ None → ⊥
+unfolding step
+broken-next p (Ok s) f is = closing-stops s (stop.Fault f) is
+broken-next p (Err e) f is = absurd cc
+
+met-next : (p : Plans) (next : Result Between Stop) (l : Limit) → stop_of (going_on p next (λ s. after_step p (step s (Met l)))).left.next ≡ None → ⊥
+unfolding step
+met-next p (Ok s) l is = closing-stops s (stop.Limit l) is
+met-next p (Err e) l is = absurd cc
+
+-- a broken rule or a limit stops the stream
+pub broken-stops : (p : Plans) (f : Fault) → stop_of (behind_unit p (Broken f ∷ [])).left.next ≡ None → ⊥
+unfolding behind_unit
+broken-stops p f is = broken-next p p.next f is
+
+pub met-stops : (p : Plans) (l : Limit) → stop_of (behind_unit p (Met l ∷ [])).left.next ≡ None → ⊥
+unfolding behind_unit
+met-stops p l is = met-next p p.next l is

@@ -1,0 +1,78 @@
+//! Values whose clones are equal to them.
+
+ghost use Rattle.std.proofs.Common.{rules};
+ghost use Rattle.std.specs.Prelude.{◌≡◌};
+
+use crate::pps::PpsFields;
+use crate::profile::SubLayerProfile;
+use crate::reference_pictures::{DpbPicture, LongTermRef};
+use crate::scaling::ScalingList;
+use crate::short_term_set::{ShortTermRef, StRps};
+use crate::slice::SliceFields;
+use crate::sps::{LongTermCandidate, SpsFields, SubLayerOrdering};
+use crate::weights::RefWeights;
+
+/// A value whose clones are equal to it.
+pub trait ExactClone: Clone {
+    ghost exact: { (a b : Self) → Self.is_clone a b → b ≡ a };
+}
+
+impl ExactClone for u8 {
+    ghost exact = { Prim.search rules };
+}
+
+impl ExactClone for u32 {
+    ghost exact = { Prim.search rules };
+}
+
+impl ExactClone for u64 {
+    ghost exact = { Prim.search rules };
+}
+
+impl ExactClone for DpbPicture {
+    ghost exact = { Prim.search rules };
+}
+
+impl ExactClone for LongTermCandidate {
+    ghost exact = { Prim.search rules };
+}
+
+impl ExactClone for LongTermRef {
+    ghost exact = { Prim.search rules };
+}
+
+impl ExactClone for PpsFields {
+    ghost exact = { Prim.search rules };
+}
+
+impl ExactClone for RefWeights {
+    ghost exact = { Prim.search rules };
+}
+
+impl ExactClone for ScalingList {
+    ghost exact = { Prim.search rules };
+}
+
+impl ExactClone for ShortTermRef {
+    ghost exact = { Prim.search rules };
+}
+
+impl ExactClone for SliceFields {
+    ghost exact = { Prim.search rules };
+}
+
+impl ExactClone for SpsFields {
+    ghost exact = { Prim.search rules };
+}
+
+impl ExactClone for StRps {
+    ghost exact = { Prim.search rules };
+}
+
+impl ExactClone for SubLayerOrdering {
+    ghost exact = { Prim.search rules };
+}
+
+impl ExactClone for SubLayerProfile {
+    ghost exact = { Prim.search rules };
+}

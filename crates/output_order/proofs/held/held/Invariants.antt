@@ -1,8 +1,0 @@
--- The pictures so far are those of the buffer.
-use Rattle.std.proofs.Common.{◌≡◌, take}
-use Rattle.std.specs.List.{filter}
-use Rattle.spec_output_order.specs.OutputOrder.{is_held}
-use Rattle.output_order.proofs.held.held.Given as goal
-
-abbrev pub invariant-loop-picture : goal.invariant-loop-picture
-invariant-loop-picture l = l.dpb ≡ filter is_held (take l.picture-index l.pictures)

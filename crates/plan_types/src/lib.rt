@@ -1,0 +1,13 @@
+//! Pictures of a stream as they are planned, and what is known of it between two units: the types alone, which
+//! definitions, readers and decoders share.
+#![tactic(auto)]
+
+mod between;
+mod outputs;
+mod picture_plan;
+mod segment_plan;
+
+pub use between::Between;
+pub use outputs::Outputs;
+pub use picture_plan::PicturePlan;
+pub use segment_plan::SegmentPlan;

@@ -1,0 +1,23 @@
+//! A picture whose headers are read, with all that its decoding needs.
+
+use crate::outputs::Outputs;
+use crate::segment_plan::SegmentPlan;
+use header_types::{FieldList, PictureKind, Pps, Rps, Shared, Sps};
+
+/// A picture whose headers are read.
+#[derive(Debug, Drop)]
+pub struct PicturePlan {
+    /// The number of the NAL unit of the first slice segment.
+    pub nal: u32,
+    pub kind: PictureKind,
+    pub sps: Shared<Sps>,
+    pub pps: Shared<Pps>,
+    /// PicOrderCntVal.
+    pub poc: i32,
+    /// The reference picture set.
+    pub rps: Rps,
+    /// What goes out of the decoded picture buffer at this picture, and what stays there.
+    pub outputs: Outputs,
+    /// The slice segments in decoding order, at least one.
+    pub segments: FieldList<SegmentPlan>,
+}

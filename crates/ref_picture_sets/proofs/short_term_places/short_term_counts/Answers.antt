@@ -1,9 +1,0 @@
-use Rattle.std.proofs.Common.{ℕ, ℤ, Option, slice_index_or}
-use Rattle.spec_reference_pictures.specs.ReferencePictureSet.{no_picture, short_term_count}
-use Rattle.ref_picture_sets.proofs.Growing.{places_more}
-use Rattle.ref_picture_sets.proofs.short_term_places.short_term_counts.Goals as goal
-
-pub loop-k-preserved : goal.loop-k-preserved
-loop-k-preserved c =
-    let f : ℕ → Option ℤ = λ k. short_term_count c.args.kind c.args.long.now k (slice_index_or c.args.dpb.now k no_picture) in
-    places_more f c.loop-k.k _ _ _ c.loop-k.invariant c.short_term_count.ensures c.in_ok-push.ensures.ok

@@ -1,0 +1,4 @@
+pub mod Agreement
+pub mod Lists
+pub mod Locality
+pub mod Values

@@ -1,0 +1,14 @@
+use Rattle.hv_base.specs.declared.field_rules.TheConstants.{PARAMETER_SET_RULES}
+use Rattle.spec_formats.specs.Fields.{field_at}
+use Rattle.spec_formats.proofs.Agreement.{agree}
+use Rattle.spec_parameter_sets.specs.PictureParameterSet.{picture_parameter_set}
+use Rattle.spec_parameter_sets.specs.Scaling.{scaling_list_data}
+use Rattle.spec_parameter_sets.specs.SequenceParameterSet.{sequence_parameter_set}
+use Rattle.spec_parameter_sets.proofs.laws.parameter_sets_are_spelled.Goals as goal
+
+pub returns : goal.returns
+returns c = record {
+  sequence = agree (field_at PARAMETER_SET_RULES) sequence_parameter_set;
+  picture = agree (field_at PARAMETER_SET_RULES) picture_parameter_set;
+  scaling = agree (field_at PARAMETER_SET_RULES) scaling_list_data;
+}

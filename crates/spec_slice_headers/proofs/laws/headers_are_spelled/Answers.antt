@@ -1,0 +1,12 @@
+use Rattle.hv_base.specs.declared.field_rules.TheConstants.{SLICE_HEADER_RULES}
+use Rattle.spec_formats.specs.Fields.{field_at}
+use Rattle.spec_formats.proofs.Agreement.{agree}
+use Rattle.spec_formats.proofs.Locality.{local-read}
+use Rattle.spec_slice_headers.specs.SegmentHeader.{slice_segment_header}
+use Rattle.spec_slice_headers.proofs.laws.headers_are_spelled.Goals as goal
+
+pub returns : goal.returns
+returns c = record {
+  spelled = λ context. agree (field_at SLICE_HEADER_RULES) (slice_segment_header context);
+  local = λ context. local-read SLICE_HEADER_RULES (slice_segment_header context);
+}
