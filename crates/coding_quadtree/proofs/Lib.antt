@@ -1,0 +1,5 @@
+pub mod Offsets
+pub mod Powers
+pub mod Sides
+pub mod Steps
+pub mod Trees

@@ -1,0 +1,13 @@
+use Rattle.std.proofs.Common.{◌≡◌, ◌-◌}
+use Rattle.spec_formats.specs.Format.{give}
+use Rattle.spec_cabac.specs.Engine.{IsLive}
+use Rattle.spec_cabac.specs.Bins.{read, unary, truncated}
+use Rattle.spec_slice_data.specs.Quantization.{delta_bin}
+use Rattle.cabac_contexts.specs.Takes.{state_of}
+use Rattle.coding_quadtree.proofs.bins.delta_prefix.Given as goal
+
+abbrev pub invariant-loop-i : goal.invariant-loop-i
+invariant-loop-i l = record {
+  told : read (unary (give 5) delta_bin l.i (5 - l.i)) (state_of l.reader) ≡ read (truncated delta_bin 5) (state_of l.fn.reader);
+  live : IsLive l.reader.interval;
+}

@@ -1,0 +1,4 @@
+pub mod Leaves
+pub mod Beside
+pub mod Judged
+pub mod Next

@@ -1,0 +1,222 @@
+//! sao (7.3.8.3).
+
+ghost use Rattle.std.specs.Prelude.{◌≡◌, ◌≤◌, ◌<◌, IfOk};
+ghost use Rattle.spec_cabac.specs.Engine.{IsLive};
+ghost use Rattle.spec_slice_data.specs.Offset.{band, band_offset, class_of, class_where, edge, kind_of, like_component, merge_flag, offsets, own_component, own_sao, sao, sao_offset_abs, sao_or_above, sao_type_idx, signed};
+ghost use Rattle.cabac_contexts.specs.Takes.{Takes};
+
+use crate::bins::truncated;
+use cabac_contexts::BinReader;
+use ctu_records::{ComponentOffset, Sao};
+use hv_base::Breach;
+use spec_cabac::{SAO_MERGE_FLAG, SAO_TYPE_IDX};
+use spec_slice_data::CtuSyntax;
+
+/// sao_offset_abs.
+#[tactic(auto, unfolding(spec_slice_data::specs::Offset::sao_offset_abs))]
+fn sao_offset_abs(reader: &mut BinReader<'_>) -> Result<u32, Breach>
+    requires { IsLive reader.old.interval }
+    ensures value { Takes (λ x. x) result reader.old reader.new sao_offset_abs }
+    ensures small { IfOk result (λ n. n ≤ 7) }
+{
+    truncated(reader, 7)
+}
+
+/// A small number by its size and whether it is negative.
+#[tactic(auto, unfolding(spec_slice_data::specs::Offset::signed))]
+pub fn signed(size: u32, negative: bool) -> i8
+    requires { size ≤ 100 }
+    ensures { result ≡ signed size negative }
+{
+    if negative { -(size as i8) } else { size as i8 }
+}
+
+/// An offset of band offset.
+#[tactic(auto, unfolding(spec_slice_data::specs::Offset::band_offset))]
+fn band_offset(reader: &mut BinReader<'_>, size: u32) -> Result<i8, Breach>
+    requires live { IsLive reader.old.interval }
+    requires small { size ≤ 7 }
+    ensures { Takes (λ x. x) result reader.old reader.new (band_offset size) }
+{
+    let negative = if size == 0 { false } else { reader.bypass()? };
+    Ok(signed(size, negative))
+}
+
+/// The signs of four sizes, and sao_band_position.
+#[tactic(auto, unfolding(spec_slice_data::specs::Offset::band))]
+fn band(
+    reader: &mut BinReader<'_>,
+    a: u32,
+    b: u32,
+    c: u32,
+    d: u32,
+) -> Result<ComponentOffset, Breach>
+    requires live { IsLive reader.old.interval }
+    requires a { a ≤ 7 }
+    requires b { b ≤ 7 }
+    requires c { c ≤ 7 }
+    requires d { d ≤ 7 }
+    ensures { Takes (λ x. x) result reader.old reader.new (band a b c d) }
+{
+    let first = band_offset(reader, a)?;
+    let second = band_offset(reader, b)?;
+    let third = band_offset(reader, c)?;
+    let fourth = band_offset(reader, d)?;
+    let position = reader.fixed(5)? as u8;
+    Ok(ComponentOffset::Band(position, [first, second, third, fourth]))
+}
+
+/// sao_type_idx.
+#[tactic(auto, unfolding(spec_slice_data::specs::Offset::sao_type_idx))]
+fn sao_type_idx(reader: &mut BinReader<'_>) -> Result<u8, Breach>
+    requires { IsLive reader.old.interval }
+    ensures { Takes (λ x. x) result reader.old reader.new sao_type_idx }
+{
+    if !reader.decision(SAO_TYPE_IDX)? {
+        return Ok(0);
+    }
+    Ok(if reader.bypass()? { 2 } else { 1 })
+}
+
+/// sao_eo_class, or that of Cb.
+fn class_where(reader: &mut BinReader<'_>, shared: Option<u8>) -> Result<u8, Breach>
+    requires { IsLive reader.old.interval }
+    ensures { Takes (λ x. x) result reader.old reader.new (class_where shared) }
+{
+    match shared {
+        Some(class) => Ok(class),
+        None => Ok(reader.fixed(2)? as u8),
+    }
+}
+
+/// The offsets of edge offset: the first two raise, the others lower.
+fn edge(class: u8, a: u32, b: u32, c: u32, d: u32) -> ComponentOffset
+    requires a { a ≤ 7 }
+    requires b { b ≤ 7 }
+    requires c { c ≤ 7 }
+    requires d { d ≤ 7 }
+    ensures { result ≡ edge class a b c d }
+{
+    ComponentOffset::Edge(class, [a as i8, b as i8, signed(c, true), signed(d, true)])
+}
+
+/// The offsets of a component of this type.
+#[tactic(auto, unfolding(spec_slice_data::specs::Offset::offsets))]
+fn offsets(
+    reader: &mut BinReader<'_>,
+    kind: u8,
+    shared: Option<u8>,
+) -> Result<ComponentOffset, Breach>
+    requires { IsLive reader.old.interval }
+    ensures { Takes (λ x. x) result reader.old reader.new (offsets kind shared) }
+{
+    let a = sao_offset_abs(reader)?;
+    let b = sao_offset_abs(reader)?;
+    let c = sao_offset_abs(reader)?;
+    let d = sao_offset_abs(reader)?;
+    if kind == 1 {
+        return band(reader, a, b, c, d);
+    }
+    let class = class_where(reader, shared)?;
+    Ok(edge(class, a, b, c, d))
+}
+
+/// Luma, or Cb.
+#[tactic(auto, unfolding(spec_slice_data::specs::Offset::own_component))]
+fn own_component(reader: &mut BinReader<'_>) -> Result<ComponentOffset, Breach>
+    requires { IsLive reader.old.interval }
+    ensures { Takes (λ x. x) result reader.old reader.new own_component }
+{
+    let kind = sao_type_idx(reader)?;
+    if kind == 0 {
+        return Ok(ComponentOffset::Off);
+    }
+    offsets(reader, kind, None)
+}
+
+/// Cr, which has the type and the class of Cb.
+#[tactic(auto, unfolding(spec_slice_data::specs::Offset::like_component))]
+fn like_component(
+    reader: &mut BinReader<'_>,
+    cb: ComponentOffset,
+) -> Result<ComponentOffset, Breach>
+    requires { IsLive reader.old.interval }
+    ensures { Takes (λ x. x) result reader.old reader.new (like_component cb) }
+{
+    match cb {
+        ComponentOffset::Off => Ok(ComponentOffset::Off),
+        ComponentOffset::Band(_, _) => offsets(reader, 1, Some(0)),
+        ComponentOffset::Edge(class, _) => offsets(reader, 2, Some(class)),
+    }
+}
+
+/// Parameters of the unit's own.
+#[tactic(auto, unfolding(spec_slice_data::specs::Offset::own_sao))]
+fn own_sao(reader: &mut BinReader<'_>, syntax: &CtuSyntax) -> Result<Sao, Breach>
+    requires { IsLive reader.old.interval }
+    ensures { Takes (λ x. x) result reader.old reader.new (own_sao syntax.now) }
+{
+    let luma = if syntax.sao_luma {
+        own_component(reader)?
+    } else {
+        ComponentOffset::Off
+    };
+    let cb = if syntax.sao_chroma {
+        own_component(reader)?
+    } else {
+        ComponentOffset::Off
+    };
+    let cr = if syntax.sao_chroma {
+        like_component(reader, cb)?
+    } else {
+        ComponentOffset::Off
+    };
+    Ok(Sao { luma, cb, cr })
+}
+
+/// sao_merge_left_flag or sao_merge_up_flag.
+fn merge_flag(reader: &mut BinReader<'_>, there: bool) -> Result<bool, Breach>
+    requires { IsLive reader.old.interval }
+    ensures { Takes (λ x. x) result reader.old reader.new (merge_flag there) }
+{
+    if there {
+        reader.decision(SAO_MERGE_FLAG)
+    } else {
+        Ok(false)
+    }
+}
+
+/// sao where it isn't merged to the left.
+fn sao_or_above(reader: &mut BinReader<'_>, syntax: &CtuSyntax, above: Sao) -> Result<Sao, Breach>
+    requires { IsLive reader.old.interval }
+    ensures { Takes (λ x. x) result reader.old reader.new (sao_or_above syntax.now above) }
+{
+    if merge_flag(reader, syntax.has_above)? {
+        return Ok(above);
+    }
+    own_sao(reader, syntax)
+}
+
+/// Sample adaptive offset of a unit, by that of the units on the left and above.
+#[tactic(auto, unfolding(spec_slice_data::specs::Offset::sao))]
+pub fn sao(
+    reader: &mut BinReader<'_>,
+    syntax: &CtuSyntax,
+    left: Sao,
+    above: Sao,
+) -> Result<Sao, Breach>
+    requires { IsLive reader.old.interval }
+    ensures { Takes (λ x. x) result reader.old reader.new (sao syntax.now left above) }
+{
+    if !(syntax.sao_luma || syntax.sao_chroma) {
+        return Ok(Sao {
+            luma: ComponentOffset::Off,
+            cb: ComponentOffset::Off,
+            cr: ComponentOffset::Off,
+        });
+    }
+    if merge_flag(reader, syntax.has_left)? {
+        return Ok(left);
+    }
+    sao_or_above(reader, syntax, above)
+}

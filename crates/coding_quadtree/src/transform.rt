@@ -1,0 +1,310 @@
+//! transform_tree (7.3.8.8) and transform_unit (7.3.8.10) of intra coding units.
+
+ghost use Rattle.std.specs.Prelude.{◌≡◌, ℕ, ◌+◌, ◌-◌, ◌*◌, ◌^◌, ◌<◌, ◌≤◌, false, length, IfOk};
+ghost use Rattle.ctu_records.specs.Tree.{IsPlaced, room};
+ghost use Rattle.spec_cabac.specs.Engine.{IsLive};
+ghost use Rattle.spec_slice_data.specs.Syntax.{IsSyntax};
+ghost use Rattle.spec_slice_data.specs.Transform.{cbf_chroma, cbf_luma_at, chroma_blocks, chroma_flags, chroma_of, luma_of, split_transform_flag, transform_blocks, transform_tree, transform_unit};
+ghost use Rattle.cabac_contexts.specs.Takes.{Takes};
+ghost use Rattle.coding_quadtree.specs.Leaves.{Fills, Grows};
+
+use crate::coded_block::block_where;
+use crate::quantization::delta_where;
+use crate::squares::{lower_left, lower_right, upper_left, upper_right};
+use cabac_contexts::BinReader;
+use ctu_records::{Item, Records, Square, TransformUnit};
+use hv_base::Breach;
+use residual_syntax::Levels;
+use spec_cabac::{CBF_CHROMA, CBF_LUMA, SPLIT_TRANSFORM_FLAG};
+use spec_slice_data::{ChromaFlags, CtuSyntax, TransformBlock, UnitSyntax};
+
+/// split_transform_flag, or what it is taken to be.
+#[tactic(auto, unfolding(spec_slice_data::specs::Transform::split_transform_flag))]
+fn split_transform_flag(
+    reader: &mut BinReader<'_>,
+    syntax: &CtuSyntax,
+    unit: &UnitSyntax,
+    n: u8,
+    depth: u8,
+) -> Result<bool, Breach>
+    requires live { IsLive reader.old.interval }
+    requires syntax { IsSyntax syntax.now }
+    ensures value { Takes (λ x. x) result reader.old reader.new (split_transform_flag syntax.now unit.now n depth) }
+    ensures small { IfOk result (λ split. split ≡ false → n ≤ 3) }
+{
+    let splits_first = unit.split && depth == 0;
+    let max_depth = syntax.max_depth_intra + if unit.split { 1 } else { 0 };
+    let sized = n <= syntax.log2_max_transform && syntax.log2_min_transform < n;
+    if sized && (depth < max_depth && !splits_first) {
+        reader.decision(SPLIT_TRANSFORM_FLAG + (3 - usize::from(n)))
+    } else {
+        Ok(syntax.log2_max_transform < n || splits_first)
+    }
+}
+
+/// cbf_cb or cbf_cr.
+fn cbf_chroma(reader: &mut BinReader<'_>, above: bool, depth: u8) -> Result<bool, Breach>
+    requires live { IsLive reader.old.interval }
+    requires depth { depth ≤ 4 }
+    ensures { Takes (λ x. x) result reader.old reader.new (cbf_chroma above depth) }
+{
+    if above {
+        reader.decision(CBF_CHROMA + usize::from(depth))
+    } else {
+        Ok(false)
+    }
+}
+
+/// The chroma flags of a node.
+#[tactic(auto, unfolding(spec_slice_data::specs::Transform::chroma_flags))]
+fn chroma_flags(
+    reader: &mut BinReader<'_>,
+    above: ChromaFlags,
+    depth: u8,
+) -> Result<ChromaFlags, Breach>
+    requires live { IsLive reader.old.interval }
+    requires depth { depth ≤ 4 }
+    ensures { Takes (λ x. x) result reader.old reader.new (chroma_flags above depth) }
+{
+    let cb = cbf_chroma(reader, above.cb, depth)?;
+    let cr = cbf_chroma(reader, above.cr, depth)?;
+    Ok(ChromaFlags { cb, cr })
+}
+
+/// The two chroma blocks of a square of at least 8x8 luma samples.
+#[tactic(auto, unfolding(spec_slice_data::specs::Transform::chroma_blocks), using(crate::proofs::Powers::chroma_area))]
+fn chroma_blocks(
+    reader: &mut BinReader<'_>,
+    records: &mut Records,
+    levels: &mut Levels,
+    syntax: &CtuSyntax,
+    unit: &UnitSyntax,
+    flags: ChromaFlags,
+    square: Square,
+) -> Result<(), Breach>
+    requires live { IsLive reader.old.interval }
+    requires least { 1 ≤ square.log2_size }
+    requires greatest { square.log2_size ≤ 3 }
+    requires room { length records.old.items + (2 + 8 * 4 ^ square.log2_size) ≤ room }
+    ensures value { Fills result records.new reader.old reader.new (chroma_blocks syntax.now unit.now flags square records.old) }
+    ensures room { Grows result records.old records.new (2 + 8 * 4 ^ square.log2_size) }
+{
+    let cb = TransformBlock {
+        component: 1,
+        x: square.x,
+        y: square.y,
+        log2_size: square.log2_size + 1,
+        mode: unit.chroma_mode,
+    };
+    let cr = TransformBlock { component: 2, ..cb };
+    block_where(reader, records, levels, syntax, unit, flags.cb, cb)?;
+    block_where(reader, records, levels, syntax, unit, flags.cr, cr)
+}
+
+/// The chroma blocks that belong to a transform unit.
+#[tactic(auto, unfolding(spec_slice_data::specs::Transform::chroma_of), using(crate::proofs::Powers::some_area))]
+fn chroma_of(
+    reader: &mut BinReader<'_>,
+    records: &mut Records,
+    levels: &mut Levels,
+    syntax: &CtuSyntax,
+    unit: &UnitSyntax,
+    flags: ChromaFlags,
+    square: Square,
+) -> Result<(), Breach>
+    requires live { IsLive reader.old.interval }
+    requires placed { IsPlaced square }
+    requires greatest { square.log2_size ≤ 3 }
+    requires room { length records.old.items + (26 + 8 * 4 ^ square.log2_size) ≤ room }
+    ensures value { Fills result records.new reader.old reader.new (chroma_of syntax.now unit.now flags square records.old) }
+    ensures room { Grows result records.old records.new (26 + 8 * 4 ^ square.log2_size) }
+{
+    if square.log2_size != 0 {
+        return chroma_blocks(reader, records, levels, syntax, unit, flags, square);
+    }
+    if square.x % 2 == 1 && square.y % 2 == 1 {
+        let whole = Square {
+            x: square.x - 1,
+            y: square.y - 1,
+            log2_size: 1,
+        };
+        chroma_blocks(reader, records, levels, syntax, unit, flags, whole)
+    } else {
+        Ok(())
+    }
+}
+
+/// The luma block of a transform unit.
+#[tactic(auto, using(crate::proofs::Powers::some_places, crate::proofs::Powers::luma_area))]
+fn luma_of(
+    reader: &mut BinReader<'_>,
+    records: &mut Records,
+    levels: &mut Levels,
+    syntax: &CtuSyntax,
+    unit: &UnitSyntax,
+    coded: bool,
+    square: Square,
+) -> Result<(), Breach>
+    requires live { IsLive reader.old.interval }
+    requires placed { IsPlaced square }
+    requires greatest { square.log2_size ≤ 3 }
+    requires room { length records.old.items + (1 + 16 * 4 ^ square.log2_size) ≤ room }
+    ensures value { Fills result records.new reader.old reader.new (luma_of syntax.now unit.now coded square records.old) }
+    ensures room { Grows result records.old records.new (1 + 16 * 4 ^ square.log2_size) }
+{
+    let block = TransformBlock {
+        component: 0,
+        x: square.x,
+        y: square.y,
+        log2_size: square.log2_size + 2,
+        mode: records.luma_mode(usize::from(square.x), usize::from(square.y)),
+    };
+    block_where(reader, records, levels, syntax, unit, coded, block)
+}
+
+/// What stands in a transform unit behind its coded block flags.
+#[tactic(auto, unfolding(spec_slice_data::specs::Transform::transform_blocks))]
+fn transform_blocks(
+    reader: &mut BinReader<'_>,
+    records: &mut Records,
+    levels: &mut Levels,
+    syntax: &CtuSyntax,
+    unit: &UnitSyntax,
+    cbf_luma: bool,
+    flags: ChromaFlags,
+    square: Square,
+) -> Result<(), Breach>
+    requires live { IsLive reader.old.interval }
+    requires syntax { IsSyntax syntax.now }
+    requires unit { IsPlaced unit.now.square }
+    requires placed { IsPlaced square }
+    requires greatest { square.log2_size ≤ 3 }
+    requires room { length records.old.items + (28 + 24 * 4 ^ square.log2_size) ≤ room }
+    ensures value { Fills result records.new reader.old reader.new (transform_blocks syntax.now unit.now cbf_luma flags square records.old) }
+    ensures room { Grows result records.old records.new (28 + 24 * 4 ^ square.log2_size) }
+{
+    let coded = cbf_luma || (flags.cb || flags.cr);
+    let there = coded && (syntax.cu_qp_delta_enabled && !records.quantization().coded);
+    delta_where(reader, records, syntax, unit.square, there)?;
+    luma_of(reader, records, levels, syntax, unit, cbf_luma, square)?;
+    chroma_of(reader, records, levels, syntax, unit, flags, square)
+}
+
+/// cbf_luma.
+fn cbf_luma_at(reader: &mut BinReader<'_>, depth: u8) -> Result<bool, Breach>
+    requires { IsLive reader.old.interval }
+    ensures { Takes (λ x. x) result reader.old reader.new (cbf_luma_at depth) }
+{
+    if depth == 0 {
+        reader.decision(CBF_LUMA + 1)
+    } else {
+        reader.decision(CBF_LUMA)
+    }
+}
+
+/// A node that isn't split.
+#[tactic(auto, unfolding(spec_slice_data::specs::Transform::transform_unit))]
+fn transform_unit(
+    reader: &mut BinReader<'_>,
+    records: &mut Records,
+    levels: &mut Levels,
+    syntax: &CtuSyntax,
+    unit: &UnitSyntax,
+    flags: ChromaFlags,
+    square: Square,
+    depth: u8,
+) -> Result<(), Breach>
+    requires live { IsLive reader.old.interval }
+    requires syntax { IsSyntax syntax.now }
+    requires unit { IsPlaced unit.now.square }
+    requires placed { IsPlaced square }
+    requires greatest { square.log2_size ≤ 3 }
+    requires room { length records.old.items + (29 + 24 * 4 ^ square.log2_size) ≤ room }
+    ensures value { Fills result records.new reader.old reader.new (transform_unit syntax.now unit.now flags depth square records.old) }
+    ensures room { Grows result records.old records.new (29 + 24 * 4 ^ square.log2_size) }
+{
+    let cbf_luma = cbf_luma_at(reader, depth)?;
+    records.push(Item::Transform(TransformUnit {
+        square,
+        depth,
+        cbf_luma,
+        cbf_cb: flags.cb,
+        cbf_cr: flags.cr,
+    }));
+    transform_blocks(
+        reader, records, levels, syntax, unit, cbf_luma, flags, square,
+    )
+}
+
+/// The transform tree of a square under a node with these chroma flags.
+#[tactic(auto, using(crate::proofs::Trees::tree_none, crate::proofs::Trees::tree_some, crate::proofs::Powers::quarters, crate::proofs::Powers::some_area))]
+pub fn transform_tree(
+    reader: &mut BinReader<'_>,
+    records: &mut Records,
+    levels: &mut Levels,
+    syntax: &CtuSyntax,
+    unit: &UnitSyntax,
+    above: ChromaFlags,
+    square: Square,
+    depth: u8,
+) -> Result<(), Breach>
+    requires live { IsLive reader.old.interval }
+    requires syntax { IsSyntax syntax.now }
+    requires unit { IsPlaced unit.now.square }
+    requires placed { IsPlaced square }
+    requires depth { depth + square.log2_size ≤ 4 }
+    requires room { length records.old.items + 56 * 4 ^ square.log2_size ≤ room }
+    ensures value { Fills result records.new reader.old reader.new (transform_tree syntax.now unit.now above square.log2_size depth square records.old) }
+    ensures room { Grows result records.old records.new (56 * 4 ^ square.log2_size) }
+{
+    let n = square.log2_size;
+    if n == 0 {
+        return transform_unit(reader, records, levels, syntax, unit, above, square, depth);
+    }
+    let split = split_transform_flag(reader, syntax, unit, n, depth)?;
+    let flags = chroma_flags(reader, above, depth)?;
+    if split {
+        transform_tree(
+            reader,
+            records,
+            levels,
+            syntax,
+            unit,
+            flags,
+            upper_left(square),
+            depth + 1,
+        )?;
+        transform_tree(
+            reader,
+            records,
+            levels,
+            syntax,
+            unit,
+            flags,
+            upper_right(square),
+            depth + 1,
+        )?;
+        transform_tree(
+            reader,
+            records,
+            levels,
+            syntax,
+            unit,
+            flags,
+            lower_left(square),
+            depth + 1,
+        )?;
+        transform_tree(
+            reader,
+            records,
+            levels,
+            syntax,
+            unit,
+            flags,
+            lower_right(square),
+            depth + 1,
+        )
+    } else {
+        transform_unit(reader, records, levels, syntax, unit, flags, square, depth)
+    }
+}

@@ -1,0 +1,16 @@
+//! The levels of a transform block, off its bins (H.265 7.3.8.11, 9.3.4.2.3 to 9.3.4.2.7).
+#![tactic(auto)]
+
+mod last_position;
+mod level_list;
+mod reading;
+mod remaining;
+mod significance;
+mod sub_block;
+
+pub use level_list::Levels;
+pub use reading::read_residual;
+pub use spec_residuals::{Level, ResidualBlock};
+
+#[cfg(test)]
+mod tests;

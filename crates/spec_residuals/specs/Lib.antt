@@ -1,0 +1,4 @@
+pub mod LastPosition
+pub mod Significance
+pub mod Levels
+pub mod Residual

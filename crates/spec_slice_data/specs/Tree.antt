@@ -1,0 +1,163 @@
+-- coding_quadtree (7.3.8.4), coding_unit (7.3.8.5) and pcm_sample (7.3.8.6) of I slices, and the coding tree unit.
+use Rattle.std.specs.Prelude.{ℕ, zero, suc, ◌+◌, ◌*◌, ◌^◌, ◌==◌, ◌&&◌, not, nat_le, nat_lt, Bool, true, false, if◌then◌else◌}
+use Rattle.hv_base.specs.declared.breach.Breach.TheVariants as breach
+use Rattle.hv_base.specs.declared.fault.FaultKind.TheVariants as rule
+use Rattle.std.specs.Bool.{beq}
+use Rattle.ctu_records.specs.declared.item.Square.{Square}
+use Rattle.ctu_records.specs.declared.item.CodingUnit.{CodingUnit}
+use Rattle.ctu_records.specs.declared.item.Item.TheVariants.{Unit, Chroma, Pcm, Sample}
+use Rattle.ctu_records.specs.declared.offset.Sao.{Sao}
+use Rattle.ctu_records.specs.Tree.{Ctu, added, with_sao, with_quantization, depth_left, depth_above}
+use Rattle.spec_cabac.specs.declared.init_values.TheConstants.{SPLIT_CU_FLAG, CU_TRANSQUANT_BYPASS_FLAG, PART_MODE}
+use Rattle.spec_cabac.specs.Bins.{Tree, decision, terminate, pcm_start, sample, pcm_end, times}
+use Rattle.spec_formats.specs.Format.{◌>>=◌, give, wanted, when◌then◌else◌}
+use Rattle.spec_slice_data.specs.declared.syntax.CtuSyntax.{CtuSyntax}
+use Rattle.spec_slice_data.specs.declared.syntax.PcmSyntax.{PcmSyntax}
+use Rattle.spec_slice_data.specs.declared.syntax.UnitSyntax.{UnitSyntax}
+use Rattle.spec_slice_data.specs.declared.syntax.End.{End}
+use Rattle.spec_slice_data.specs.declared.syntax.End.TheVariants as end
+use Rattle.spec_slice_data.specs.Offset.{sao}
+use Rattle.spec_slice_data.specs.Modes.{upper_left, upper_right, lower_left, lower_right, luma_modes, chroma_modes}
+use Rattle.spec_slice_data.specs.Quantization.{grouped, unit_begun}
+use Rattle.spec_slice_data.specs.Transform.{transform_tree}
+
+abbrev pub one_if : Bool → ℕ
+one_if b = if b then 1 else 0
+
+-- how many of the places on the left and above are deeper (9.3.4.2.2)
+unfoldable pub deeper : Ctu → ℕ → ℕ → ℕ → ℕ
+deeper ctu depth x y = one_if (nat_lt depth (depth_left ctu x y)) + one_if (nat_lt depth (depth_above ctu x y))
+
+-- split_cu_flag, or what it is taken to be (7.4.9.4)
+unfoldable pub split_cu_flag : CtuSyntax → ℕ → Square → Ctu → Tree Bool
+split_cu_flag syntax depth square ctu =
+    when nat_lt syntax.log2_min_coding square.log2_size
+    then (when nat_le (square.x + 2 ^ square.log2_size) syntax.right && nat_le (square.y + 2 ^ square.log2_size) syntax.lower
+    then decision (SPLIT_CU_FLAG + deeper ctu depth square.x square.y)
+    else give true)
+    else give false
+
+-- a sample of pulse code modulation
+abbrev pub pcm_sample : ℕ → ℕ → Ctu → Tree Ctu
+pcm_sample bits i ctu = do
+  value ← sample bits
+  give (added ctu (Sample value))
+
+-- so many samples
+abbrev pub pcm_samples : ℕ → ℕ → Ctu → Tree Ctu
+pcm_samples bits count ctu = times 0 count (pcm_sample bits) ctu
+
+-- the samples of a coding unit: luma, and half as many of chroma
+unfoldable pub pcm_unit : PcmSyntax → Square → Ctu → Tree Ctu
+pcm_unit pcm square ctu = do
+  began ← pcm_start
+  luma ← pcm_samples pcm.luma_bits (16 * 4 ^ square.log2_size) (added ctu (Pcm square))
+  chroma ← pcm_samples pcm.chroma_bits (8 * 4 ^ square.log2_size) luma
+  ended ← pcm_end
+  give chroma
+
+-- cu_transquant_bypass_flag
+abbrev pub cu_transquant_bypass_flag : CtuSyntax → Tree Bool
+cu_transquant_bypass_flag syntax = when syntax.transquant_bypass_enabled then decision CU_TRANSQUANT_BYPASS_FLAG else give false
+
+-- whether the unit has four prediction blocks: part_mode, which only the least coding units have
+abbrev pub is_split : CtuSyntax → ℕ → Tree Bool
+is_split syntax n =
+    when n == syntax.log2_min_coding
+    then (do
+      whole ← decision PART_MODE
+      give (not whole))
+    else give false
+
+-- pcm_flag
+abbrev pub pcm_flag : PcmSyntax → Bool → ℕ → Tree Bool
+pcm_flag pcm split n = when (pcm.enabled && not split) && (nat_le pcm.log2_least n && nat_le n pcm.log2_greatest) then terminate else give false
+
+abbrev pub unit_at : ℕ → Square → Bool → Ctu → CodingUnit
+unit_at depth square transquant_bypass ctu = record {
+  square = square;
+  depth = depth;
+  transquant_bypass = transquant_bypass;
+  skipped = false;
+  qp_predicted = ctu.quantization.predicted;
+  qp = ctu.quantization.qp;
+}
+
+-- a coding unit begins
+unfoldable pub begun_unit : ℕ → Square → Bool → Ctu → Ctu
+begun_unit depth square transquant_bypass ctu =
+    added (with_quantization ctu (unit_begun ctu.quantization)) (Unit (unit_at depth square transquant_bypass ctu))
+
+abbrev pub unit_syntax : Square → Bool → Bool → ℕ → UnitSyntax
+unit_syntax square transquant_bypass split mode = record { square = square; transquant_bypass = transquant_bypass; split = split; chroma_mode = mode }
+
+-- an intra coding unit behind pcm_flag: its modes and its transform tree
+unfoldable pub intra_unit : CtuSyntax → Square → Bool → Bool → Ctu → Tree Ctu
+intra_unit syntax square transquant_bypass split ctu = do
+  predicted ← luma_modes split square ctu
+  mode ← chroma_modes square.x square.y predicted
+  transform_tree syntax (unit_syntax square transquant_bypass split mode) (record { cb = true; cr = true }) square.log2_size 0 square (added predicted (Chroma mode))
+
+-- a coding unit behind cu_transquant_bypass_flag
+unfoldable pub unit_body : CtuSyntax → Square → Bool → Ctu → Tree Ctu
+unit_body syntax square transquant_bypass ctu = do
+  split ← is_split syntax square.log2_size
+  pcm ← pcm_flag syntax.pcm split square.log2_size
+  when pcm then pcm_unit syntax.pcm square ctu else intra_unit syntax square transquant_bypass split ctu
+
+unfoldable pub coding_unit : CtuSyntax → ℕ → Square → Ctu → Tree Ctu
+coding_unit syntax depth square ctu = do
+  transquant_bypass ← cu_transquant_bypass_flag syntax
+  unit_body syntax square transquant_bypass (begun_unit depth square transquant_bypass ctu)
+
+abbrev pub split_or_unit : CtuSyntax → (Square → Ctu → Tree Ctu) → ℕ → Square → Ctu → Tree Ctu
+split_or_unit syntax quarter depth square ctu = do
+  split ← split_cu_flag syntax depth square ctu
+  when split
+      then (do
+        first ← quarter (upper_left square) ctu
+        second ← quarter (upper_right square) first
+        third ← quarter (lower_left square) second
+        quarter (lower_right square) third)
+      else coding_unit syntax depth square ctu
+
+-- a block, if the picture reaches it
+abbrev pub where_reached : CtuSyntax → Square → Ctu → Tree Ctu → Tree Ctu
+where_reached syntax square ctu tree = when nat_lt square.x syntax.right && nat_lt square.y syntax.lower then tree else give ctu
+
+-- a square of 2^n places on a side
+unfoldable pub coding_quadtree : CtuSyntax → ℕ → ℕ → Square → Ctu → Tree Ctu
+coding_quadtree syntax zero depth square ctu = where_reached syntax square ctu (coding_unit syntax depth square (grouped syntax square ctu))
+coding_quadtree syntax (suc n) depth square ctu =
+    where_reached syntax square ctu (split_or_unit syntax (coding_quadtree syntax n (depth + 1)) depth square (grouped syntax square ctu))
+
+abbrev pub whole_unit : ℕ → Square
+whole_unit size = record { x = 0; y = 0; log2_size = size }
+
+-- coding_tree_unit (7.3.8.2), by the sample adaptive offset of the units on the left and above
+unfoldable pub coding_tree_unit : CtuSyntax → Sao → Sao → Ctu → Tree Ctu
+coding_tree_unit syntax left above ctu = do
+  offsets ← sao syntax left above
+  coding_quadtree syntax ctu.size 0 (whole_unit ctu.size) (with_sao ctu offsets)
+
+-- end_of_slice_segment_flag, which is 1 behind the segment's last unit alone; and end_of_subset_one_bit, where entropy
+-- coding sync begins a substream with the next unit (7.3.8.1)
+unfoldable pub unit_end : Bool → Bool → Tree End
+unit_end is_last ends_subset = do
+  ended ← terminate
+  right ← wanted (beq ended is_last) (breach.Fault rule.SliceEnd)
+  when ended
+      then give end.Segment
+      else (when ends_subset
+      then (do
+        one ← terminate
+        held ← wanted one (breach.Fault rule.SubsetEnd)
+        give end.Subset)
+      else give end.More)
+
+-- a unit and what follows it
+unfoldable pub unit_and_end : CtuSyntax → Sao → Sao → Bool → Bool → Ctu → Tree (Ctu × End)
+unit_and_end syntax left above is_last ends_subset ctu = do
+  read ← coding_tree_unit syntax left above ctu
+  follows ← unit_end is_last ends_subset
+  give (read, follows)

@@ -1,0 +1,95 @@
+//! What the syntax of a coding tree unit depends on. Sizes are binary logarithms of sides in places of 4x4 luma samples.
+
+use ctu_records::Square;
+
+/// The blocks that pulse code modulation takes, and the bits of its samples (7.4.3.2).
+#[derive(Clone, Copy, Debug, PartialEq, Eq)]
+pub struct PcmSyntax {
+    /// pcm_enabled_flag.
+    pub enabled: bool,
+    /// Log2MinIpcmCbSizeY.
+    pub log2_least: u8,
+    /// Log2MaxIpcmCbSizeY.
+    pub log2_greatest: u8,
+    /// PcmBitDepthY.
+    pub luma_bits: u8,
+    /// PcmBitDepthC.
+    pub chroma_bits: u8,
+}
+
+/// What the elements of a coding tree unit depend on, apart from the units before it.
+#[derive(Clone, Copy, Debug, PartialEq, Eq)]
+pub struct CtuSyntax {
+    /// MinCbLog2SizeY.
+    pub log2_min_coding: u8,
+    /// MinTbLog2SizeY.
+    pub log2_min_transform: u8,
+    /// MaxTbLog2SizeY.
+    pub log2_max_transform: u8,
+    /// max_transform_hierarchy_depth_intra.
+    pub max_depth_intra: u8,
+    /// Log2MinCuQpDeltaSize.
+    pub log2_group: u8,
+    /// QpBdOffsetY.
+    pub qp_offset: u8,
+    pub cu_qp_delta_enabled: bool,
+    pub transquant_bypass_enabled: bool,
+    pub transform_skip_enabled: bool,
+    pub sign_data_hiding_enabled: bool,
+    pub pcm: PcmSyntax,
+    /// slice_sao_luma_flag.
+    pub sao_luma: bool,
+    /// slice_sao_chroma_flag.
+    pub sao_chroma: bool,
+    /// Whether the unit on the left is in the picture and in the same slice.
+    pub has_left: bool,
+    /// Whether the unit above is in the picture and in the same slice.
+    pub has_above: bool,
+    /// How many places the picture has from the unit's first on, to the right.
+    pub right: u32,
+    /// How many it has downwards.
+    pub lower: u32,
+}
+
+/// What the transform tree of an intra coding unit depends on (7.3.8.7).
+#[derive(Clone, Copy, Debug, PartialEq, Eq)]
+pub struct UnitSyntax {
+    pub square: Square,
+    pub transquant_bypass: bool,
+    /// IntraSplitFlag.
+    pub split: bool,
+    /// IntraPredModeC.
+    pub chroma_mode: u8,
+}
+
+/// cbf_cb and cbf_cr of a node of a transform tree.
+#[derive(Clone, Copy, Debug, PartialEq, Eq)]
+pub struct ChromaFlags {
+    pub cb: bool,
+    pub cr: bool,
+}
+
+/// A transform block whose coded block flag is 1 (7.3.8.10).
+#[derive(Clone, Copy, Debug, PartialEq, Eq)]
+pub struct TransformBlock {
+    /// cIdx.
+    pub component: u8,
+    /// The first place of its transform unit; of a chroma block of 4x4 samples that of the unit that was split.
+    pub x: u8,
+    pub y: u8,
+    /// The binary logarithm of its side in samples of its component.
+    pub log2_size: u8,
+    /// IntraPredModeY of its prediction block, or IntraPredModeC.
+    pub mode: u8,
+}
+
+/// What follows a coding tree unit (7.3.8.1).
+#[derive(Clone, Copy, Debug, PartialEq, Eq)]
+pub enum End {
+    /// The next unit.
+    More,
+    /// The next substream.
+    Subset,
+    /// Nothing: the slice segment ends.
+    Segment,
+}
