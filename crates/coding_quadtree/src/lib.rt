@@ -28,5 +28,3 @@ pub use unit_place::UnitPlace;
 
 #[cfg(test)]
 mod tests;
-#[cfg(test)]
-mod view_tests;

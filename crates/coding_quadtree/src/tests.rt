@@ -1,13 +1,62 @@
-use super::*;
+//! Whole units by a view that has none before them.
+
+ghost use Rattle.std.specs.Prelude.{◌≡◌, ◌^◌, ◌<◌, ◌≤◌, false, length};
+ghost use Rattle.spec_slice_data.specs.Syntax.{IsSyntax};
+
+use crate::beside::NO_SAO;
+use crate::{UnitPlace, read_ctu};
 use cabac_contexts::{BinReader, Contexts};
 use cabac_engine::Interval;
-use ctu_records::{ComponentOffset, Item, Records, Sao};
+use ctu_records::{Item, Neighbours, Picture, Records, Sao, Side};
+use hv_base::{Breach, FaultKind};
 use residual_syntax::Levels;
 use spec_slice_data::{CtuSyntax, End, PcmSyntax};
 use std::test::Fail;
 
-/// The one coding tree unit of a picture of 8x8 luma samples, with pulse code modulation of 8 bits.
-pub const SYNTAX: CtuSyntax = CtuSyntax {
+/// Nothing was read before.
+#[derive(Drop)]
+struct NoUnits;
+
+impl Picture for NoUnits {
+    ghost use Rattle.std.specs.Prelude.{false};
+    ghost use Rattle.ctu_records.specs.Tree.{no_side};
+    ghost use Rattle.spec_slice_data.specs.Offset.{no_sao};
+
+    ghost side_at = { λ v x y. no_side };
+
+    ghost sao_at = { λ v ctu. no_sao };
+
+    ghost sample_at = { λ v c x y. 0 };
+
+    ghost covers = { λ v x y. false };
+
+    ghost covers_unit = { λ v ctu. false };
+
+    ghost covers_sample = { λ v c x y. false };
+}
+
+impl Neighbours for NoUnits {
+    fn side(&mut self, _x: u32, _y: u32) -> Side {
+        Side {
+            depth: 0,
+            skipped: false,
+            intra: false,
+            luma_mode: 1,
+            qp: 0,
+        }
+    }
+
+    fn sao(&mut self, _ctu: u32) -> Sao {
+        NO_SAO
+    }
+
+    fn sample(&mut self, _c: u8, _x: u32, _y: u32) -> u16 {
+        0
+    }
+}
+
+/// A picture of 8x8 luma samples, with pulse code modulation of 8 bits.
+const SAMPLES: CtuSyntax = CtuSyntax {
     log2_min_coding: 1,
     log2_min_transform: 0,
     log2_max_transform: 2,
@@ -33,38 +82,43 @@ pub const SYNTAX: CtuSyntax = CtuSyntax {
     lower: 2,
 };
 
-const NO_SAO: Sao = Sao {
-    luma: ComponentOffset::Off,
-    cb: ComponentOffset::Off,
-    cr: ComponentOffset::Off,
+/// The one unit of the picture, before which Qp'Y is 26.
+const PLACE: UnitPlace = UnitPlace {
+    size: 2,
+    address: 0,
+    width: 1,
+    x: 0,
+    y: 0,
+    last_qp: 26,
+    is_last: true,
+    ends_subset: false,
 };
 
-/// The grey unit has a coding unit, its modes and a transform unit without levels.
-#[test]
-fn the_grey_unit_is_read(rt: HostRuntime) -> Result<(), Fail> {
-    let mut records = Records::new(rt.alloc(), 4)?;
-    let mut levels = Levels::new(rt.alloc())?;
+/// How the reading of a unit ends where Qp'Y before it is `qp`; none where its data don't start.
+fn end_of(
+    bytes: &[u8],
+    qp: u8,
+    syntax: &CtuSyntax,
+    records: &mut Records,
+    levels: &mut Levels,
+) -> Option<Result<End, Breach>>
+    requires few { length bytes.now < 2 ^ 60 }
+    requires syntax { IsSyntax syntax.now }
+    requires least { syntax.now.log2_min_coding ≤ 2 }
+    requires left { syntax.now.has_left ≡ false }
+    requires above { syntax.now.has_above ≡ false }
+{
     let mut reader = BinReader {
-        interval: Interval::start(&[0x05, 0xF7]).ok_or("the start")?,
-        contexts: Contexts::init(26, 0),
+        interval: Interval::start(bytes)?,
+        contexts: Contexts::init(i32::from(qp), 0),
     };
-    let read = coding_tree_unit(
-        &mut reader,
-        &mut records,
-        &mut levels,
-        &SYNTAX,
-        NO_SAO,
-        NO_SAO,
-    );
-    assert!(rt; read == Ok(()) && records.items().len() == 4);
-    let ends = unit_end(&mut reader, true, false);
-    assert!(rt; ends == Ok(End::Segment));
-    Ok(())
+    let mut place = PLACE;
+    place.last_qp = qp;
+    Some(read_ctu(&mut reader, syntax, &place, &mut NoUnits, records, levels))
 }
 
-/// A unit by pulse code modulation has its 96 samples in order.
-#[test]
-fn samples_are_read(rt: HostRuntime) -> Result<(), Fail> {
+/// A unit by pulse code modulation whose samples are 1 to 96.
+fn samples() -> [u8; 100] {
     let mut bytes = [0; 100];
     for i in 0..96u8 {
         bytes[usize::from(i) + 2] = i + 1;
@@ -73,26 +127,11 @@ fn samples_are_read(rt: HostRuntime) -> Result<(), Fail> {
     bytes[1] = 0x80;
     bytes[98] = 0xFE;
     bytes[99] = 0x80;
-    let mut records = Records::new(rt.alloc(), 4)?;
-    let mut levels = Levels::new(rt.alloc())?;
-    let mut reader = BinReader {
-        interval: Interval::start(&bytes).ok_or("the start")?,
-        contexts: Contexts::init(26, 0),
-    };
-    let read = coding_tree_unit(
-        &mut reader,
-        &mut records,
-        &mut levels,
-        &SYNTAX,
-        NO_SAO,
-        NO_SAO,
-    );
-    assert!(rt; read == Ok(()) && records.items().len() == 98);
-    assert!(rt; records.items().get(97) == Some(&Item::Sample(96)));
-    Ok(())
+    bytes
 }
 
-/// The data of an encoder's slice of SliceQpY 20.
+/// The data of an encoder's slice of SliceQpY 20: four luma blocks of modes 0, 11, 24 and 33 and two chroma blocks of
+/// mode 26.
 #[rattlefmt::skip]
 const DATA: [u8; 61] = [
     92, 205, 142, 88, 94, 145, 171, 251, 66, 221, 39, 195, 236, 168, 56, 163, 112, 185, 123, 114, 178,
@@ -100,31 +139,25 @@ const DATA: [u8; 61] = [
     178, 170, 69, 150, 205, 43, 171, 123, 219, 254, 44, 197, 59, 62, 175, 93, 37, 7, 56,
 ];
 
-/// Four luma blocks of modes 0, 11, 24 and 33 and two chroma blocks of mode 26 have the levels of another decoder.
+/// The grey unit, bits behind its end, samples, and the levels of another decoder.
 #[test]
-fn blocks_are_read_by_their_scans(rt: HostRuntime) -> Result<(), Fail> {
+fn units_are_read(rt: HostRuntime) -> Result<(), Fail> {
     let mut records = Records::new(rt.alloc(), 4)?;
     let mut levels = Levels::new(rt.alloc())?;
-    let mut reader = BinReader {
-        interval: Interval::start(&DATA).ok_or("the start")?,
-        contexts: Contexts::init(20, 0),
-    };
-    let mut syntax = SYNTAX;
+    let end = end_of(&[0x05, 0xF7], 26, &SAMPLES, &mut records, &mut levels);
+    assert!(rt; end == Some(Ok(End::Segment)) && records.items().len() == 4);
+    let end = end_of(&[0x05, 0xF7, 0x01], 26, &SAMPLES, &mut records, &mut levels);
+    assert!(rt; end == Some(Err(Breach::Fault(FaultKind::TrailingBits))));
+    let end = end_of(&samples(), 26, &SAMPLES, &mut records, &mut levels);
+    assert!(rt; end == Some(Ok(End::Segment)) && records.items().len() == 98);
+    assert!(rt; records.items().get(97) == Some(&Item::Sample(96)));
+    let mut syntax = SAMPLES;
     syntax.pcm.enabled = false;
     syntax.max_depth_intra = 2;
     syntax.transform_skip_enabled = true;
     syntax.sign_data_hiding_enabled = true;
-    let read = coding_tree_unit(
-        &mut reader,
-        &mut records,
-        &mut levels,
-        &syntax,
-        NO_SAO,
-        NO_SAO,
-    );
-    assert!(rt; read == Ok(()) && records.items().len() == 96);
+    let end = end_of(&DATA, 20, &syntax, &mut records, &mut levels);
+    assert!(rt; end == Some(Ok(End::Segment)) && records.items().len() == 96);
     assert!(rt; records.items().get(95) == Some(&Item::Level(0, 4)));
-    let ends = unit_end(&mut reader, true, false);
-    assert!(rt; ends == Ok(End::Segment));
     Ok(())
 }
