@@ -40,10 +40,17 @@ fn scan_of(block: TransformBlock) -> Scan
     }
 }
 
+/// What the transform tree of a coding unit depends on.
+#[derive(Clone, Copy)]
+pub struct UnitContext {
+    pub syntax: CtuSyntax,
+    pub unit: UnitSyntax,
+}
+
 /// What residual_coding of a block depends on.
 #[tactic(auto, unfolding(spec_slice_data::specs::Residual::residual_block))]
-fn residual_block(syntax: &CtuSyntax, unit: &UnitSyntax, block: TransformBlock) -> ResidualBlock
-    ensures value { result ≡ residual_block syntax.now unit.now block }
+fn residual_block(of: &UnitContext, block: TransformBlock) -> ResidualBlock
+    ensures value { result ≡ residual_block of.now.syntax of.now.unit block }
     ensures side { result.log2 ≡ block.log2_size }
 {
     let samples = if block.component == 0 { 4 } else { 2 };
@@ -53,9 +60,9 @@ fn residual_block(syntax: &CtuSyntax, unit: &UnitSyntax, block: TransformBlock) 
         y: samples * u32::from(block.y),
         log2: u32::from(block.log2_size),
         scan: scan_of(block),
-        bypass: unit.transquant_bypass,
-        skip_enabled: syntax.transform_skip_enabled,
-        sign_hiding: syntax.sign_data_hiding_enabled,
+        bypass: of.unit.transquant_bypass,
+        skip_enabled: of.syntax.transform_skip_enabled,
+        sign_hiding: of.syntax.sign_data_hiding_enabled,
     }
 }
 
@@ -106,18 +113,17 @@ fn coded_block(
     reader: &mut BinReader<'_>,
     records: &mut Records,
     levels: &mut Levels,
-    syntax: &CtuSyntax,
-    unit: &UnitSyntax,
+    of: &UnitContext,
     block: TransformBlock,
 ) -> Result<(), Breach>
     requires live { IsLive reader.old.interval }
     requires least { 2 ≤ block.log2_size }
     requires greatest { block.log2_size ≤ 5 }
     requires room { length records.old.items + (1 + 4 ^ block.log2_size) ≤ room }
-    ensures value { Fills result records.new reader.old reader.new (coded_block syntax.now unit.now block records.old) }
+    ensures value { Fills result records.new reader.old reader.new (coded_block of.now.syntax of.now.unit block records.old) }
     ensures room { Grows result records.old records.new (1 + 4 ^ block.log2_size) }
 {
-    read_residual(reader, residual_block(syntax, unit, block), levels)?;
+    read_residual(reader, residual_block(of, block), levels)?;
     add_residual(records, block, levels);
     Ok(())
 }
@@ -127,8 +133,7 @@ pub fn block_where(
     reader: &mut BinReader<'_>,
     records: &mut Records,
     levels: &mut Levels,
-    syntax: &CtuSyntax,
-    unit: &UnitSyntax,
+    of: &UnitContext,
     coded: bool,
     block: TransformBlock,
 ) -> Result<(), Breach>
@@ -136,11 +141,11 @@ pub fn block_where(
     requires least { 2 ≤ block.log2_size }
     requires greatest { block.log2_size ≤ 5 }
     requires room { length records.old.items + (1 + 4 ^ block.log2_size) ≤ room }
-    ensures value { Fills result records.new reader.old reader.new (block_where syntax.now unit.now coded block records.old) }
+    ensures value { Fills result records.new reader.old reader.new (block_where of.now.syntax of.now.unit coded block records.old) }
     ensures room { Grows result records.old records.new (1 + 4 ^ block.log2_size) }
 {
     if coded {
-        coded_block(reader, records, levels, syntax, unit, block)
+        coded_block(reader, records, levels, of, block)
     } else {
         Ok(())
     }

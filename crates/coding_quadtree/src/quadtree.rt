@@ -82,42 +82,14 @@ pub fn coding_quadtree(
     }
     begin_group(records, syntax, square);
     let split = split_cu_flag(reader, records, syntax, square, depth)?;
-    if split {
-        coding_quadtree(
-            reader,
-            records,
-            levels,
-            syntax,
-            upper_left(square),
-            depth + 1,
-        )?;
-        coding_quadtree(
-            reader,
-            records,
-            levels,
-            syntax,
-            upper_right(square),
-            depth + 1,
-        )?;
-        coding_quadtree(
-            reader,
-            records,
-            levels,
-            syntax,
-            lower_left(square),
-            depth + 1,
-        )?;
-        coding_quadtree(
-            reader,
-            records,
-            levels,
-            syntax,
-            lower_right(square),
-            depth + 1,
-        )
-    } else {
-        coding_unit(reader, records, levels, syntax, square, depth)
+    if !split {
+        return coding_unit(reader, records, levels, syntax, square, depth);
     }
+    let below = depth + 1;
+    coding_quadtree(reader, records, levels, syntax, upper_left(square), below)?;
+    coding_quadtree(reader, records, levels, syntax, upper_right(square), below)?;
+    coding_quadtree(reader, records, levels, syntax, lower_left(square), below)?;
+    coding_quadtree(reader, records, levels, syntax, lower_right(square), below)
 }
 
 /// A coding tree unit, by the sample adaptive offset of the units on the left and above.

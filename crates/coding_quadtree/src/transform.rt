@@ -8,7 +8,7 @@ ghost use Rattle.spec_slice_data.specs.Transform.{cbf_chroma, cbf_luma_at, chrom
 ghost use Rattle.cabac_contexts.specs.Takes.{Takes};
 ghost use Rattle.coding_quadtree.specs.Leaves.{Fills, Grows};
 
-use crate::coded_block::block_where;
+use crate::coded_block::{UnitContext, block_where};
 use crate::quantization::delta_where;
 use crate::squares::{lower_left, lower_right, upper_left, upper_right};
 use cabac_contexts::BinReader;
@@ -16,22 +16,40 @@ use ctu_records::{Item, Records, Square, TransformUnit};
 use hv_base::Breach;
 use residual_syntax::Levels;
 use spec_cabac::{CBF_CHROMA, CBF_LUMA, SPLIT_TRANSFORM_FLAG};
-use spec_slice_data::{ChromaFlags, CtuSyntax, TransformBlock, UnitSyntax};
+use spec_slice_data::{ChromaFlags, TransformBlock};
+
+/// A node of a transform tree.
+#[derive(Clone, Copy)]
+pub struct TransformNode {
+    /// Its chroma flags, or those of the node above before they are read.
+    pub flags: ChromaFlags,
+    pub square: Square,
+    pub depth: u8,
+}
+
+impl TransformNode {
+    /// A node like this one over another square.
+    fn over(self, square: Square) -> TransformNode
+        ensures { result ≡ record { flags = self.flags; square = square; depth = self.depth } }
+    {
+        TransformNode { square, ..self }
+    }
+}
 
 /// split_transform_flag, or what it is taken to be.
 #[tactic(auto, unfolding(spec_slice_data::specs::Transform::split_transform_flag))]
 fn split_transform_flag(
     reader: &mut BinReader<'_>,
-    syntax: &CtuSyntax,
-    unit: &UnitSyntax,
+    of: &UnitContext,
     n: u8,
     depth: u8,
 ) -> Result<bool, Breach>
     requires live { IsLive reader.old.interval }
-    requires syntax { IsSyntax syntax.now }
-    ensures value { Takes (λ x. x) result reader.old reader.new (split_transform_flag syntax.now unit.now n depth) }
+    requires syntax { IsSyntax of.now.syntax }
+    ensures value { Takes (λ x. x) result reader.old reader.new (split_transform_flag of.now.syntax of.now.unit n depth) }
     ensures small { IfOk result (λ split. split ≡ false → n ≤ 3) }
 {
+    let (syntax, unit) = (&of.syntax, &of.unit);
     let splits_first = unit.split && depth == 0;
     let max_depth = syntax.max_depth_intra + if unit.split { 1 } else { 0 };
     let sized = n <= syntax.log2_max_transform && syntax.log2_min_transform < n;
@@ -77,28 +95,26 @@ fn chroma_blocks(
     reader: &mut BinReader<'_>,
     records: &mut Records,
     levels: &mut Levels,
-    syntax: &CtuSyntax,
-    unit: &UnitSyntax,
-    flags: ChromaFlags,
-    square: Square,
+    of: &UnitContext,
+    node: TransformNode,
 ) -> Result<(), Breach>
     requires live { IsLive reader.old.interval }
-    requires least { 1 ≤ square.log2_size }
-    requires greatest { square.log2_size ≤ 3 }
-    requires room { length records.old.items + (2 + 8 * 4 ^ square.log2_size) ≤ room }
-    ensures value { Fills result records.new reader.old reader.new (chroma_blocks syntax.now unit.now flags square records.old) }
-    ensures room { Grows result records.old records.new (2 + 8 * 4 ^ square.log2_size) }
+    requires least { 1 ≤ node.square.log2_size }
+    requires greatest { node.square.log2_size ≤ 3 }
+    requires room { length records.old.items + (2 + 8 * 4 ^ node.square.log2_size) ≤ room }
+    ensures value { Fills result records.new reader.old reader.new (chroma_blocks of.now.syntax of.now.unit node.flags node.square records.old) }
+    ensures room { Grows result records.old records.new (2 + 8 * 4 ^ node.square.log2_size) }
 {
     let cb = TransformBlock {
         component: 1,
-        x: square.x,
-        y: square.y,
-        log2_size: square.log2_size + 1,
-        mode: unit.chroma_mode,
+        x: node.square.x,
+        y: node.square.y,
+        log2_size: node.square.log2_size + 1,
+        mode: of.unit.chroma_mode,
     };
     let cr = TransformBlock { component: 2, ..cb };
-    block_where(reader, records, levels, syntax, unit, flags.cb, cb)?;
-    block_where(reader, records, levels, syntax, unit, flags.cr, cr)
+    block_where(reader, records, levels, of, node.flags.cb, cb)?;
+    block_where(reader, records, levels, of, node.flags.cr, cr)
 }
 
 /// The chroma blocks that belong to a transform unit.
@@ -107,20 +123,19 @@ fn chroma_of(
     reader: &mut BinReader<'_>,
     records: &mut Records,
     levels: &mut Levels,
-    syntax: &CtuSyntax,
-    unit: &UnitSyntax,
-    flags: ChromaFlags,
-    square: Square,
+    of: &UnitContext,
+    node: TransformNode,
 ) -> Result<(), Breach>
     requires live { IsLive reader.old.interval }
-    requires placed { IsPlaced square }
-    requires greatest { square.log2_size ≤ 3 }
-    requires room { length records.old.items + (26 + 8 * 4 ^ square.log2_size) ≤ room }
-    ensures value { Fills result records.new reader.old reader.new (chroma_of syntax.now unit.now flags square records.old) }
-    ensures room { Grows result records.old records.new (26 + 8 * 4 ^ square.log2_size) }
+    requires placed { IsPlaced node.square }
+    requires greatest { node.square.log2_size ≤ 3 }
+    requires room { length records.old.items + (26 + 8 * 4 ^ node.square.log2_size) ≤ room }
+    ensures value { Fills result records.new reader.old reader.new (chroma_of of.now.syntax of.now.unit node.flags node.square records.old) }
+    ensures room { Grows result records.old records.new (26 + 8 * 4 ^ node.square.log2_size) }
 {
+    let square = node.square;
     if square.log2_size != 0 {
-        return chroma_blocks(reader, records, levels, syntax, unit, flags, square);
+        return chroma_blocks(reader, records, levels, of, node);
     }
     if square.x % 2 == 1 && square.y % 2 == 1 {
         let whole = Square {
@@ -128,7 +143,7 @@ fn chroma_of(
             y: square.y - 1,
             log2_size: 1,
         };
-        chroma_blocks(reader, records, levels, syntax, unit, flags, whole)
+        chroma_blocks(reader, records, levels, of, node.over(whole))
     } else {
         Ok(())
     }
@@ -140,8 +155,7 @@ fn luma_of(
     reader: &mut BinReader<'_>,
     records: &mut Records,
     levels: &mut Levels,
-    syntax: &CtuSyntax,
-    unit: &UnitSyntax,
+    of: &UnitContext,
     coded: bool,
     square: Square,
 ) -> Result<(), Breach>
@@ -149,7 +163,7 @@ fn luma_of(
     requires placed { IsPlaced square }
     requires greatest { square.log2_size ≤ 3 }
     requires room { length records.old.items + (1 + 16 * 4 ^ square.log2_size) ≤ room }
-    ensures value { Fills result records.new reader.old reader.new (luma_of syntax.now unit.now coded square records.old) }
+    ensures value { Fills result records.new reader.old reader.new (luma_of of.now.syntax of.now.unit coded square records.old) }
     ensures room { Grows result records.old records.new (1 + 16 * 4 ^ square.log2_size) }
 {
     let block = TransformBlock {
@@ -159,7 +173,7 @@ fn luma_of(
         log2_size: square.log2_size + 2,
         mode: records.luma_mode(usize::from(square.x), usize::from(square.y)),
     };
-    block_where(reader, records, levels, syntax, unit, coded, block)
+    block_where(reader, records, levels, of, coded, block)
 }
 
 /// What stands in a transform unit behind its coded block flags.
@@ -168,26 +182,24 @@ fn transform_blocks(
     reader: &mut BinReader<'_>,
     records: &mut Records,
     levels: &mut Levels,
-    syntax: &CtuSyntax,
-    unit: &UnitSyntax,
+    of: &UnitContext,
     cbf_luma: bool,
-    flags: ChromaFlags,
-    square: Square,
+    node: TransformNode,
 ) -> Result<(), Breach>
     requires live { IsLive reader.old.interval }
-    requires syntax { IsSyntax syntax.now }
-    requires unit { IsPlaced unit.now.square }
-    requires placed { IsPlaced square }
-    requires greatest { square.log2_size ≤ 3 }
-    requires room { length records.old.items + (28 + 24 * 4 ^ square.log2_size) ≤ room }
-    ensures value { Fills result records.new reader.old reader.new (transform_blocks syntax.now unit.now cbf_luma flags square records.old) }
-    ensures room { Grows result records.old records.new (28 + 24 * 4 ^ square.log2_size) }
+    requires syntax { IsSyntax of.now.syntax }
+    requires unit { IsPlaced of.now.unit.square }
+    requires placed { IsPlaced node.square }
+    requires greatest { node.square.log2_size ≤ 3 }
+    requires room { length records.old.items + (28 + 24 * 4 ^ node.square.log2_size) ≤ room }
+    ensures value { Fills result records.new reader.old reader.new (transform_blocks of.now.syntax of.now.unit cbf_luma node.flags node.square records.old) }
+    ensures room { Grows result records.old records.new (28 + 24 * 4 ^ node.square.log2_size) }
 {
-    let coded = cbf_luma || (flags.cb || flags.cr);
-    let there = coded && (syntax.cu_qp_delta_enabled && !records.quantization().coded);
-    delta_where(reader, records, syntax, unit.square, there)?;
-    luma_of(reader, records, levels, syntax, unit, cbf_luma, square)?;
-    chroma_of(reader, records, levels, syntax, unit, flags, square)
+    let coded = cbf_luma || (node.flags.cb || node.flags.cr);
+    let there = coded && (of.syntax.cu_qp_delta_enabled && !records.quantization().coded);
+    delta_where(reader, records, &of.syntax, of.unit.square, there)?;
+    luma_of(reader, records, levels, of, cbf_luma, node.square)?;
+    chroma_of(reader, records, levels, of, node)
 }
 
 /// cbf_luma.
@@ -208,32 +220,27 @@ fn transform_unit(
     reader: &mut BinReader<'_>,
     records: &mut Records,
     levels: &mut Levels,
-    syntax: &CtuSyntax,
-    unit: &UnitSyntax,
-    flags: ChromaFlags,
-    square: Square,
-    depth: u8,
+    of: &UnitContext,
+    node: TransformNode,
 ) -> Result<(), Breach>
     requires live { IsLive reader.old.interval }
-    requires syntax { IsSyntax syntax.now }
-    requires unit { IsPlaced unit.now.square }
-    requires placed { IsPlaced square }
-    requires greatest { square.log2_size ≤ 3 }
-    requires room { length records.old.items + (29 + 24 * 4 ^ square.log2_size) ≤ room }
-    ensures value { Fills result records.new reader.old reader.new (transform_unit syntax.now unit.now flags depth square records.old) }
-    ensures room { Grows result records.old records.new (29 + 24 * 4 ^ square.log2_size) }
+    requires syntax { IsSyntax of.now.syntax }
+    requires unit { IsPlaced of.now.unit.square }
+    requires placed { IsPlaced node.square }
+    requires greatest { node.square.log2_size ≤ 3 }
+    requires room { length records.old.items + (29 + 24 * 4 ^ node.square.log2_size) ≤ room }
+    ensures value { Fills result records.new reader.old reader.new (transform_unit of.now.syntax of.now.unit node.flags node.depth node.square records.old) }
+    ensures room { Grows result records.old records.new (29 + 24 * 4 ^ node.square.log2_size) }
 {
-    let cbf_luma = cbf_luma_at(reader, depth)?;
+    let cbf_luma = cbf_luma_at(reader, node.depth)?;
     records.push(Item::Transform(TransformUnit {
-        square,
-        depth,
+        square: node.square,
+        depth: node.depth,
         cbf_luma,
-        cbf_cb: flags.cb,
-        cbf_cr: flags.cr,
+        cbf_cb: node.flags.cb,
+        cbf_cr: node.flags.cr,
     }));
-    transform_blocks(
-        reader, records, levels, syntax, unit, cbf_luma, flags, square,
-    )
+    transform_blocks(reader, records, levels, of, cbf_luma, node)
 }
 
 /// The transform tree of a square under a node with these chroma flags.
@@ -242,69 +249,34 @@ pub fn transform_tree(
     reader: &mut BinReader<'_>,
     records: &mut Records,
     levels: &mut Levels,
-    syntax: &CtuSyntax,
-    unit: &UnitSyntax,
-    above: ChromaFlags,
-    square: Square,
-    depth: u8,
+    of: &UnitContext,
+    node: TransformNode,
 ) -> Result<(), Breach>
     requires live { IsLive reader.old.interval }
-    requires syntax { IsSyntax syntax.now }
-    requires unit { IsPlaced unit.now.square }
-    requires placed { IsPlaced square }
-    requires depth { depth + square.log2_size ≤ 4 }
-    requires room { length records.old.items + 56 * 4 ^ square.log2_size ≤ room }
-    ensures value { Fills result records.new reader.old reader.new (transform_tree syntax.now unit.now above square.log2_size depth square records.old) }
-    ensures room { Grows result records.old records.new (56 * 4 ^ square.log2_size) }
+    requires syntax { IsSyntax of.now.syntax }
+    requires unit { IsPlaced of.now.unit.square }
+    requires placed { IsPlaced node.square }
+    requires depth { node.depth + node.square.log2_size ≤ 4 }
+    requires room { length records.old.items + 56 * 4 ^ node.square.log2_size ≤ room }
+    ensures value { Fills result records.new reader.old reader.new (transform_tree of.now.syntax of.now.unit node.flags node.square.log2_size node.depth node.square records.old) }
+    ensures room { Grows result records.old records.new (56 * 4 ^ node.square.log2_size) }
 {
-    let n = square.log2_size;
-    if n == 0 {
-        return transform_unit(reader, records, levels, syntax, unit, above, square, depth);
+    let square = node.square;
+    if square.log2_size == 0 {
+        return transform_unit(reader, records, levels, of, node);
     }
-    let split = split_transform_flag(reader, syntax, unit, n, depth)?;
-    let flags = chroma_flags(reader, above, depth)?;
-    if split {
-        transform_tree(
-            reader,
-            records,
-            levels,
-            syntax,
-            unit,
-            flags,
-            upper_left(square),
-            depth + 1,
-        )?;
-        transform_tree(
-            reader,
-            records,
-            levels,
-            syntax,
-            unit,
-            flags,
-            upper_right(square),
-            depth + 1,
-        )?;
-        transform_tree(
-            reader,
-            records,
-            levels,
-            syntax,
-            unit,
-            flags,
-            lower_left(square),
-            depth + 1,
-        )?;
-        transform_tree(
-            reader,
-            records,
-            levels,
-            syntax,
-            unit,
-            flags,
-            lower_right(square),
-            depth + 1,
-        )
-    } else {
-        transform_unit(reader, records, levels, syntax, unit, flags, square, depth)
+    let split = split_transform_flag(reader, of, square.log2_size, node.depth)?;
+    let flags = chroma_flags(reader, node.flags, node.depth)?;
+    if !split {
+        return transform_unit(reader, records, levels, of, TransformNode { flags, ..node });
     }
+    let below = TransformNode {
+        flags,
+        square,
+        depth: node.depth + 1,
+    };
+    transform_tree(reader, records, levels, of, below.over(upper_left(square)))?;
+    transform_tree(reader, records, levels, of, below.over(upper_right(square)))?;
+    transform_tree(reader, records, levels, of, below.over(lower_left(square)))?;
+    transform_tree(reader, records, levels, of, below.over(lower_right(square)))
 }

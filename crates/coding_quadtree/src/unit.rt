@@ -9,9 +9,10 @@ ghost use Rattle.cabac_contexts.specs.Takes.{Reaches, Takes, state_of};
 ghost use Rattle.spec_cabac.specs.Bins.{read};
 ghost use Rattle.coding_quadtree.specs.Leaves.{Fills, Grows, Leaves};
 
+use crate::coded_block::UnitContext;
 use crate::modes::{chroma_modes, luma_modes};
 use crate::squares::area;
-use crate::transform::transform_tree;
+use crate::transform::{TransformNode, transform_tree};
 use cabac_contexts::BinReader;
 use ctu_records::{CodingUnit, Item, Quantization, Records, Square};
 use hv_base::Breach;
@@ -160,14 +161,21 @@ fn intra_unit(
     luma_modes(reader, records, square, split)?;
     let chroma_mode = chroma_modes(reader, records, square.x, square.y)?;
     records.push(Item::Chroma(chroma_mode));
-    let unit = UnitSyntax {
-        square,
-        transquant_bypass,
-        split,
-        chroma_mode,
+    let of = UnitContext {
+        syntax: *syntax,
+        unit: UnitSyntax {
+            square,
+            transquant_bypass,
+            split,
+            chroma_mode,
+        },
     };
-    let above = ChromaFlags { cb: true, cr: true };
-    transform_tree(reader, records, levels, syntax, &unit, above, square, 0)
+    let root = TransformNode {
+        flags: ChromaFlags { cb: true, cr: true },
+        square,
+        depth: 0,
+    };
+    transform_tree(reader, records, levels, &of, root)
 }
 
 /// A coding unit behind cu_transquant_bypass_flag.
