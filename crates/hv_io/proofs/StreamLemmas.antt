@@ -1,6 +1,6 @@
 -- Lemmas on what several reads or writes do, one after the other.
-use Rattle.std.proofs.Common.{◌≡◌, ℕ, ◌+◌, ◌-◌, ◌≤◌, List, [], ◌++◌, length, take, drop, Option, Some, None, refl, sym, ap, ◌∙◌, append_assoc, append-nil, length-append, length-drop, take_all, arith}
-use Rattle.std.proofs.Math.Seq.{take-add, take-length, take-append-add}
+use Rattle.std.proofs.Common.{◌≡◌, ℕ, ◌+◌, ◌-◌, ◌≤◌, List, [], ◌++◌, length, take, drop, Option, Some, None, sym, ap, ◌∙◌, append_assoc, append-nil, length-append, length-drop, take_all, arith}
+use Rattle.std.proofs.Math.Seq.{take-add, take-append-add}
 use Rattle.std.proofs.lemmas.List.{take-append-le}
 use Rattle.hv_io.specs.Streams.{Takes, Gains, GainsPrefix}
 
@@ -26,10 +26,6 @@ Gains-more a b c i n piece p q =
     take_all _ _ (omega (arith, length-drop i piece)) in
     rw (take-add i n piece) (Gains-append a b c _ _ p (rw rest at q))
 
--- all of a piece is a front of it
-pub GainsPrefix-all : (a b : Option (List ℕ)) (piece : List ℕ) → Gains a b piece → GainsPrefix a b piece
-GainsPrefix-all a b piece p = (length piece, (omega arith, rw (take-length piece) p))
-
 -- a front of a piece is a front of what the piece begins
 pub GainsPrefix-front : (a b : Option (List ℕ)) (first second : List ℕ)
     → GainsPrefix a b first → GainsPrefix a b (first ++ second)
@@ -48,11 +44,6 @@ GainsPrefix-append a b c first second p q =
         rw (take-append-add first second q.0) (Gains-append a b c _ _ p q.1.1),
       ),
     )
-
--- nothing is taken by no read
-pub Takes-nil : (a : Option (List ℕ)) → Takes a a []
-Takes-nil None = tt
-Takes-nil (Some x) = refl
 
 -- two reads take the one's bytes and then the other's
 pub Takes-append : (a b c : Option (List ℕ)) (first second : List ℕ)

@@ -1,5 +1,5 @@
 -- How a framer's state goes on with the stream.
-use Rattle.std.proofs.Common.{◌≡◌, ℕ, ◌-◌, ◌<◌, ◌≤◌, Bool, true, false, List, [], ◌∷◌, ◌++◌, length, take, drop, Some, None, Result, Ok, Err, OnOk, IfOk, OnErr, refl, sym, ap, ◌∙◌, arith, append_assoc, length-drop}
+use Rattle.std.proofs.Common.{◌≡◌, ℕ, ◌-◌, ◌<◌, ◌≤◌, Bool, true, false, List, [], ◌∷◌, ◌++◌, length, take, drop, Some, None, Result, Ok, Err, IfOk, refl, sym, ap, ◌∙◌, arith, append_assoc, length-drop}
 use Rattle.std.proofs.lemmas.List.{drop-append-le, append-nil}
 use Rattle.std.proofs.Math.ListN.{drop_of_length-le}
 use Rattle.spec_units.specs.Units.{ends_unit, unit_end, unit_at, unit_to, trimmed, Raw, Padding, Inside, parts}
@@ -12,7 +12,7 @@ use Rattle.nal_stream.specs.declared.refused.Refused.{Refused}
 use Rattle.nal_stream.specs.declared.refused.Refused.TheVariants as refused
 use Rattle.nal_stream.specs.declared.framer.Framer.{Framer}
 use Rattle.nal_stream.specs.Answers.{told_by}
-use Rattle.nal_stream.specs.Framing.{History, with_piece, with_answer, IsNext, pending, parts_here, told_refused, to_come_of, to_come, CanGoOn, StandsFor, Goes, Answers, before, IsJudged}
+use Rattle.nal_stream.specs.Framing.{History, with_answer, IsNext, pending, parts_here, told_refused, to_come_of, to_come, CanGoOn, StandsFor, Goes, Answers, before, IsJudged}
 
 -- the places that were searched stay searched when bytes come
 pub searched-append : (bs piece : List ℕ) (start searched : ℕ) → start ≤ length bs → searched ≤ length (drop start bs) - 2
@@ -35,20 +35,6 @@ go_along true true ended rest e g = g
 go_along false false ended rest e g = tt
 go_along true false ended rest e g = cc
 go_along false true ended rest e g = tt
-
-go_open : (b ended : Bool) (rest : List ℕ) → b ≡ false → CanGoOn b ended rest
-go_open true ended rest e = cc
-go_open false ended rest e = tt
-
--- what was fed stands in the history
-pub StandsFor-piece : (old new : Framer) (piece : List ℕ) (h : History) → old.finished ≡ false → new.finished ≡ false
-    → ((ended : Bool) (rest : List ℕ) → to_come new ended rest ≡ to_come old ended (piece ++ rest)) → StandsFor old h → StandsFor new (with_piece h piece)
-StandsFor-piece old new piece h going still e s = record {
-  finished = still ∙ sym going ∙ s.finished;
-  told = λ ended rest g. ap (told_of ended) (append_assoc h.fed piece rest)
-      ∙ s.told ended (piece ++ rest) (go_open old.finished ended (piece ++ rest) going)
-      ∙ ap (λ ts. h.given ++ ts) (sym (e ended rest));
-}
 
 -- a framer that told nothing stands for the same
 pub StandsFor-same : (old new : Framer) (h : History) → Goes old new [] → StandsFor old h → StandsFor new h
@@ -100,17 +86,6 @@ pub next-value : {E : Type 0} (r : Result Next E) (old middle new : Framer) (h :
     → IfOk r (λ n. IsNext h n × StandsFor new (with_answer h n))
 next-value (Ok n) old middle new h g a s = answer_is_next n middle new h a (StandsFor-same old middle h g s)
 next-value (Err e) old middle new h g a s = tt
-
-pub next-err : {E : Type 0} (r : Result Next E) (old middle new : Framer) (h : History) → Goes old middle [] → OnErr r (Goes middle new []) → StandsFor old h → OnErr r (StandsFor new h)
-next-err (Ok n) old middle new h g a s = tt
-next-err (Err e) old middle new h g a s = StandsFor-same middle new h a (StandsFor-same old middle h g s)
-
-pub feed-ok : {X E : Type 0} (r : Result X E) (old middle new : Framer) (piece : List ℕ) (h : History) → old.finished ≡ false → new.finished ≡ false
-    → ((ended : Bool) (rest : List ℕ) → to_come middle ended rest ≡ to_come old ended rest)
-    → OnOk r ((ended : Bool) (rest : List ℕ) → to_come new ended rest ≡ to_come middle ended (piece ++ rest)) → StandsFor old h → OnOk r (StandsFor new (with_piece h piece))
-feed-ok (Ok x) old middle new piece h going still m a s =
-    StandsFor-piece old new piece h going still (λ ended rest. a ended rest ∙ m ended (piece ++ rest)) s
-feed-ok (Err e) old middle new piece h going still m a s = tt
 
 before-told : (n : Next) (t : Told) (later : List Told) → told_by n ≡ t ∷ [] → then_told t later ≡ before n later
 before-told (next.Unit n) t later e = let is : Whole (unit_of n) ≡ t = cc in ap (λ u. then_told u later) (sym is)

@@ -5,12 +5,6 @@ use Rattle.std.proofs.lemmas.Bool.Decides.{Decides-eqb}
 use Rattle.spec_units.specs.Judged.{places}
 use Rattle.spec_units.proofs.Ends.{decide, if_true, if_false}
 
-pub places-more : (test : ℕ → Bool) (n m : ℕ) → m ≡ n + 1 → test n ≡ true → places test m ≡ places test n ++ n ∷ []
-places-more test n m e t = let s : m ≡ suc n = omega arith in ap (places test) s ∙ if_true _ _ _ t
-
-pub places-same : (test : ℕ → Bool) (n m : ℕ) → m ≡ n + 1 → test n ≡ false → places test m ≡ places test n
-places-same test n m e t = let s : m ≡ suc n = omega arith in ap (places test) s ∙ if_false _ _ _ t
-
 pub some_place : (test : ℕ → Bool) (n i : ℕ) → i < n → test i ≡ true → 0 < length (places test n)
 some_place test zero i lt t = absurd (omega arith)
 some_place test (suc n) i lt t =

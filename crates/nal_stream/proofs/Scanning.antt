@@ -84,16 +84,6 @@ all_zero-get [] i h = refl
 all_zero-get (b ∷ bs) zero h = same_number b 0 (and_left (b == 0) _ h)
 all_zero-get (b ∷ bs) (suc i) h = all_zero-get bs i (and_right (b == 0) _ h)
 
-back : (bs : List ℕ) (k : ℕ) → get_or bs k 0 ≡ 0 → all_zero (drop (suc k) bs) ≡ true → all_zero (drop k bs) ≡ true
-back [] zero z h = refl
-back [] (suc k) z h = h
-back (b ∷ bs) zero z h = let d = Decides-eqb b 0 in and_both (b == 0) _ (d.1 z) h
-back (b ∷ bs) (suc k) z h = back bs k z h
-
--- one more zero byte at the end
-pub all_zero-drop : (bs : List ℕ) (k n : ℕ) → n ≡ k + 1 → get_or bs k 0 ≡ 0 → all_zero (drop n bs) ≡ true → all_zero (drop k bs) ≡ true
-all_zero-drop bs k n e z h = let s : n ≡ suc k = omega arith in back bs k z (ap (λ m. all_zero (drop m bs)) (sym s) ∙ h)
-
 pub trimmed-none : (bs : List ℕ) → all_zero bs ≡ true → trimmed bs ≡ []
 trimmed-none [] h = refl
 trimmed-none (b ∷ bs) h = if_true _ _ _ h
