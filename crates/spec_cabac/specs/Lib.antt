@@ -2,3 +2,4 @@ pub mod Contexts
 pub mod Engine
 pub mod Bins
 pub mod Plain
+pub mod TablesByColumn

@@ -17,7 +17,7 @@ pub use init_values::{
     PRED_MODE_FLAG, PREV_INTRA_LUMA_PRED_FLAG, REF_IDX, RQT_ROOT_CBF, SAO_MERGE_FLAG, SAO_TYPE_IDX,
     SIG_COEFF_FLAG, SPLIT_CU_FLAG, SPLIT_TRANSFORM_FLAG, TRANSFORM_SKIP_FLAG,
 };
-pub use laws::bins_are_spelled;
+pub use laws::{bins_are_spelled, tables_stand_by_column};
 pub use plain::{PlainEngine, bypass, decision, start, terminate};
 pub use tables::{lps_range, next_state_lps, next_state_mps, tables_keep_their_order};
 
