@@ -13,12 +13,12 @@ use residual_syntax::Levels;
 use spec_slice_data::{CtuSyntax, End, PcmSyntax};
 use std::test::Fail;
 
-/// Nothing was read before.
+/// A view of which each place may be asked, and none is available.
 #[derive(Drop)]
 struct NoUnits;
 
 impl Picture for NoUnits {
-    ghost use Rattle.std.specs.Prelude.{false};
+    ghost use Rattle.std.specs.Prelude.{true};
     ghost use Rattle.ctu_records.specs.Tree.{no_side};
     ghost use Rattle.spec_slice_data.specs.Offset.{no_sao};
 
@@ -28,11 +28,11 @@ impl Picture for NoUnits {
 
     ghost sample_at = { λ v c x y. 0 };
 
-    ghost covers = { λ v x y. false };
+    ghost covers = { λ v x y. true };
 
-    ghost covers_unit = { λ v ctu. false };
+    ghost covers_unit = { λ v ctu. true };
 
-    ghost covers_sample = { λ v c x y. false };
+    ghost covers_sample = { λ v c x y. true };
 }
 
 impl Neighbours for NoUnits {
