@@ -1,0 +1,15 @@
+//! Residuals of a transform block from its levels (H.265 8.6.2 to 8.6.4).
+#![tactic(auto)]
+
+mod matrix;
+mod products;
+mod scaling;
+mod skipping;
+mod stages;
+
+pub use scaling::scale;
+pub use skipping::skip;
+pub use stages::inverse;
+
+#[cfg(test)]
+mod tests;

@@ -1,0 +1,86 @@
+//! The scaling process for transform coefficients (8.6.3).
+
+ghost use Rattle.std.specs.Prelude.{◌≡◌, ℕ, ◌+◌, ◌-◌, ◌*◌, ◌^◌, ◌<◌, ◌≤◌, pos, negsuc, ◌+ℤ◌, ◌*ℤ◌, ◌≤ℤ◌, length, slice_index};
+ghost use Rattle.std.specs.List.{All};
+ghost use Rattle.spec_transforms.specs.Matrices.{at};
+ghost use Rattle.spec_transforms.specs.Scaling.{Is16, IsDepth, IsParameter, IsSize, clip16, quantizer, rounded, scaled};
+
+use spec_transforms::LEVEL_SCALE;
+
+/// The scaled coefficients `out` of the `levels` of a block of 2^`log2` columns and rows, both row after row.
+///
+/// `qp` is qP of 8.6.2, which has QpBdOffset in it and so is never below 0; `factors` has the scaling factor m of each
+/// place, 16 everywhere where there are no scaling lists; `depth` is the bit depth of the component.
+pub fn scale(levels: &[i32], log2: u32, qp: u32, factors: &[u8], depth: u32, out: &mut [i32])
+    requires depth { IsDepth depth }
+    requires log2 { IsSize log2 }
+    requires qp { IsParameter depth qp }
+    requires levels { All Is16 levels.now }
+    requires count { length levels.now ≡ 2 ^ log2 * 2 ^ log2 }
+    requires factors { length factors.now ≡ length levels.now }
+    requires room { length out.old ≡ length levels.now }
+    ensures value { (i : ℕ) → i < length levels.now
+        → at out.new i ≡ scaled depth log2 qp (slice_index factors.now i) (at levels.now i) }
+    ensures small { All Is16 out.new }
+{
+    let quantizer = quantizer(qp);
+    let shift = depth + log2 - 5;
+    for i in 0..levels.len() {
+        out[i] = scaled(levels[i], factors[i], quantizer, shift);
+    }
+}
+
+/// levelScale[qP % 6] << (qP / 6).
+#[tactic(auto, unfolding(spec_transforms::specs::Scaling::quantizer))]
+fn quantizer(qp: u32) -> u32
+    requires { qp ≤ 87 }
+    ensures value { result ≡ quantizer qp }
+    ensures small { result ≤ 1179648 }
+{
+    u32::from(LEVEL_SCALE[(qp % 6) as usize]) << (qp / 6)
+}
+
+/// A level under a scaling factor, rounded and held to 16 bits.
+fn scaled(level: i32, factor: u8, quantizer: u32, shift: u32) -> i32
+    requires level { Is16 level }
+    requires quantizer { quantizer ≤ 1179648 }
+    requires some_shift { 1 ≤ shift }
+    requires shift { shift ≤ 14 }
+    ensures value { result ≡ clip16 (rounded shift (level *ℤ pos (factor * quantizer))) }
+    ensures small { Is16 result }
+{
+    if level == 0 {
+        return 0;
+    }
+    held(rounded(product(level, u32::from(factor) * quantizer), shift))
+}
+
+/// A level times its whole factor.
+fn product(level: i32, factor: u32) -> i64
+    requires level { Is16 level }
+    requires factor { factor ≤ 300810240 }
+    ensures value { result ≡ level *ℤ pos factor }
+    ensures low { negsuc 9856949944319 ≤ℤ result }
+    ensures high { result ≤ℤ pos 9856949944320 }
+{
+    i64::from(level) * i64::from(factor)
+}
+
+/// A product in units of 2^-`shift`, to the nearest whole number.
+fn rounded(product: i64, shift: u32) -> i64
+    requires low { negsuc 9856949944319 ≤ℤ product }
+    requires high { product ≤ℤ pos 9856949944320 }
+    requires some_shift { 1 ≤ shift }
+    requires shift { shift ≤ 14 }
+    ensures { result ≡ rounded shift product }
+{
+    (product + (1 << (shift - 1))) >> shift
+}
+
+/// A number held to 16 bits.
+fn held(value: i64) -> i32
+    ensures value { result ≡ clip16 value }
+    ensures small { Is16 result }
+{
+    value.clamp(-32768, 32767) as i32
+}
