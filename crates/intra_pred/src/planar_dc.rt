@@ -1,0 +1,140 @@
+//! Planar and DC prediction (8.4.4.2.4, 8.4.4.2.5).
+
+ghost use Rattle.std.specs.Prelude.{◌≡◌, ◌≤◌, ◌<◌, ◌+◌, ◌-◌, ◌*◌, ◌^◌, ◌/◌, ℕ, true, length, cond, nat_le, nat_lt, ◌&&◌};
+ghost use Rattle.spec_intra_prediction.specs.Neighbours.{at, left_at, above_at};
+ghost use Rattle.spec_intra_prediction.specs.PlanarDc.{planar, dc, levelled, mean_beside, sum_below};
+
+use crate::rows::{columns, lay};
+
+/// Writes the planar prediction of a block, line after line.
+pub fn planar(edge: &[u16], log2: u32, out: &mut [u16])
+    requires log2 { (2 ≤ log2) × (log2 ≤ 5) }
+    requires edge { length edge.now ≡ 4 * 2 ^ log2 + 1 }
+    requires out { 2 ^ log2 * 2 ^ log2 ≤ length out.old }
+    ensures value { (x y : ℕ) → x < 2 ^ log2 → y < 2 ^ log2 → at out.new (2 ^ log2 * y + x) ≡ planar log2 edge.now x y }
+    ensures rest { (k : ℕ) → 2 ^ log2 * 2 ^ log2 ≤ k → at out.new k ≡ at out.old k }
+{
+    let n = columns(log2);
+    for y in 0..n {
+        planar_line(edge, log2, n, y, out);
+    }
+}
+
+/// A line of the planar prediction.
+fn planar_line(edge: &[u16], log2: u32, n: usize, y: usize, out: &mut [u16])
+    requires log2 { (2 ≤ log2) × (log2 ≤ 5) }
+    requires n { n ≡ 2 ^ log2 }
+    requires few { n ≤ 32 }
+    requires y { y < n }
+    requires edge { length edge.now ≡ 4 * n + 1 }
+    requires out { n * y + n ≤ length out.old }
+    ensures { (q : ℕ) → at out.new q ≡ cond (nat_le (n * y) q && nat_lt q (n * y + n)) (planar log2 edge.now (q - n * y) y) (at out.old q) }
+{
+    let left = edge[2 * n - (y + 1)];
+    let right = edge[2 * n + 1 + n];
+    let below = edge[2 * n - (n + 1)];
+    for x in 0..n {
+        let across = part_way(n, x, left, right);
+        let down = part_way(n, y, edge[2 * n + 1 + x], below);
+        out[n * y + x] = mean_of(log2, n, across, down);
+    }
+}
+
+/// A sample on the way from one place to another, `n` times.
+fn part_way(n: usize, k: usize, from: u16, to: u16) -> u32
+    requires n { n ≤ 32 }
+    requires k { k < n }
+    ensures value { result ≡ (n - 1 - k) * from + (k + 1) * to }
+    ensures greatest { result ≤ n * 65535 }
+{
+    (n - 1 - k) as u32 * u32::from(from) + (k + 1) as u32 * u32::from(to)
+}
+
+/// The mean of two sums of so many samples, rounded.
+fn mean_of(log2: u32, n: usize, first: u32, second: u32) -> u16
+    requires log2 { log2 ≤ 5 }
+    requires n { n ≡ 2 ^ log2 }
+    requires first { first ≤ n * 65535 }
+    requires second { second ≤ n * 65535 }
+    ensures { result ≡ (first + second + n) / 2 ^ (log2 + 1) }
+{
+    ((first + second + n as u32) >> (log2 + 1)) as u16
+}
+
+/// Writes the DC prediction of a block, line after line; `edges` says whether its first line and column are filtered.
+#[tactic(auto, unfolding(spec_intra_prediction::specs::PlanarDc::dc))]
+pub fn dc(edge: &[u16], edges: bool, log2: u32, out: &mut [u16])
+    requires log2 { (2 ≤ log2) × (log2 ≤ 5) }
+    requires edge { length edge.now ≡ 4 * 2 ^ log2 + 1 }
+    requires out { 2 ^ log2 * 2 ^ log2 ≤ length out.old }
+    ensures value { (x y : ℕ) → x < 2 ^ log2 → y < 2 ^ log2 → at out.new (2 ^ log2 * y + x) ≡ dc edges log2 edge.now x y }
+    ensures rest { (k : ℕ) → 2 ^ log2 * 2 ^ log2 ≤ k → at out.new k ≡ at out.old k }
+{
+    let n = columns(log2);
+    let mean = mean_beside(edge, log2, n);
+    for y in 0..n {
+        level_line(edge, edges, n, mean, y, out);
+    }
+}
+
+/// The mean of the samples on the left and above.
+#[tactic(auto, unfolding(spec_intra_prediction::specs::PlanarDc::mean_beside))]
+fn mean_beside(edge: &[u16], log2: u32, n: usize) -> u16
+    requires log2 { (2 ≤ log2) × (log2 ≤ 5) }
+    requires n { n ≡ 2 ^ log2 }
+    requires edge { length edge.now ≡ 4 * n + 1 }
+    ensures { result ≡ mean_beside log2 edge.now }
+{
+    let mut above = 0;
+    let mut left = 0;
+    for k in 0..n {
+        above += u32::from(edge[2 * n + 1 + k]);
+        left += u32::from(edge[2 * n - (k + 1)]);
+    }
+    mean_of(log2, n, above, left)
+}
+
+/// A line of the DC prediction.
+fn level_line(edge: &[u16], edges: bool, n: usize, mean: u16, y: usize, out: &mut [u16])
+    requires n { (4 ≤ n) × (n ≤ 32) }
+    requires y { y < n }
+    requires edge { length edge.now ≡ 4 * n + 1 }
+    requires out { n * y + n ≤ length out.old }
+    ensures { (q : ℕ) → at out.new q ≡ cond (nat_le (n * y) q && nat_lt q (n * y + n)) (levelled edges n edge.now mean (q - n * y) y) (at out.old q) }
+{
+    if edges && y == 0 {
+        first_line(edge, n, mean, out);
+    } else {
+        lay(out, n * y, n, mean);
+        if edges {
+            out[n * y] = closer(edge[2 * n - (y + 1)], mean);
+        }
+    }
+}
+
+/// The first line of the DC prediction, filtered.
+fn first_line(edge: &[u16], n: usize, mean: u16, out: &mut [u16])
+    requires n { (4 ≤ n) × (n ≤ 32) }
+    requires edge { length edge.now ≡ 4 * n + 1 }
+    requires out { n ≤ length out.old }
+    ensures { (q : ℕ) → at out.new q ≡ cond (nat_lt q n) (levelled true n edge.now mean q 0) (at out.old q) }
+{
+    for x in 0..n {
+        out[x] = closer(edge[2 * n + 1 + x], mean);
+    }
+    out[0] = corner(edge[2 * n - 1], mean, edge[2 * n + 1]);
+}
+
+/// A mean, closer to the sample beside it.
+fn closer(beside: u16, mean: u16) -> u16
+    ensures { result ≡ (beside + 3 * mean + 2) / 4 }
+{
+    ((u32::from(beside) + 3 * u32::from(mean) + 2) / 4) as u16
+}
+
+/// A mean, closer to the samples on its left and above.
+fn corner(left: u16, mean: u16, above: u16) -> u16
+    ensures { result ≡ (left + 2 * mean + above + 2) / 4 }
+{
+    ((u32::from(left) + 2 * u32::from(mean) + u32::from(above) + 2) / 4) as u16
+}

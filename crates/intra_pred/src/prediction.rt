@@ -1,0 +1,145 @@
+//! Intra prediction of a block from its neighbours (8.4.4.2).
+
+ghost use Rattle.std.specs.Prelude.{◌≡◌, ◌≤◌, ◌<◌, ◌+◌, ◌*◌, ◌^◌, ◌-◌, ℕ, length, take, cond, nat_le, nat_lt, ◌&&◌};
+ghost use Rattle.spec_intra_prediction.specs.Neighbours.{at, left_side};
+ghost use Rattle.spec_intra_prediction.specs.Prediction.{predicted, predicted_from, directed, has_filtered_edges};
+ghost use Rattle.spec_intra_prediction.specs.Angular.{angular};
+
+use crate::angular::{Direction, angular};
+use crate::planar_dc::{dc, planar};
+use crate::rows::columns;
+use crate::smoothing::{filter, is_filtered};
+
+/// Writes the prediction of a block of N = 2^`log2` columns in component `c` by a mode (0 planar, 1 DC, 2 to 34
+/// directions), line after line, from its 4N + 1 substituted neighbours. `strong` is strong_intra_smoothing_enabled_flag,
+/// `depth` the bits of a sample.
+#[tactic(auto, using(crate::proofs::Sizes::small))]
+pub fn predict(edge: &[u16], c: u8, log2: u32, mode: u8, strong: bool, depth: u32, out: &mut [u16])
+    requires log2 { (2 ≤ log2) × (log2 ≤ 5) }
+    requires mode { mode ≤ 34 }
+    requires depth { (8 ≤ depth) × (depth ≤ 16) }
+    requires edge { length edge.now ≡ 4 * 2 ^ log2 + 1 }
+    requires out { 2 ^ log2 * 2 ^ log2 ≤ length out.old }
+    ensures value { (x y : ℕ) → x < 2 ^ log2 → y < 2 ^ log2 → at out.new (2 ^ log2 * y + x) ≡ predicted c log2 mode strong depth edge.now x y }
+    ensures rest { (k : ℕ) → 2 ^ log2 * 2 ^ log2 ≤ k → at out.new k ≡ at out.old k }
+{
+    if is_filtered(c, log2, mode) {
+        let mut smooth = [0; 129];
+        filter(edge, log2, strong, depth, &mut smooth);
+        predict_from(&smooth[..edge.len()], c, log2, mode, depth, out);
+    } else {
+        predict_from(edge, c, log2, mode, depth, out);
+    }
+}
+
+/// The prediction of a block from neighbours that are filtered where they have to be.
+#[tactic(auto, unfolding(spec_intra_prediction::specs::Prediction::predicted_from))]
+fn predict_from(edge: &[u16], c: u8, log2: u32, mode: u8, depth: u32, out: &mut [u16])
+    requires log2 { (2 ≤ log2) × (log2 ≤ 5) }
+    requires mode { mode ≤ 34 }
+    requires depth { (8 ≤ depth) × (depth ≤ 16) }
+    requires edge { length edge.now ≡ 4 * 2 ^ log2 + 1 }
+    requires out { 2 ^ log2 * 2 ^ log2 ≤ length out.old }
+    ensures value { (x y : ℕ) → x < 2 ^ log2 → y < 2 ^ log2 → at out.new (2 ^ log2 * y + x) ≡ predicted_from c log2 mode depth edge.now x y }
+    ensures rest { (k : ℕ) → 2 ^ log2 * 2 ^ log2 ≤ k → at out.new k ≡ at out.old k }
+{
+    let edges = has_filtered_edges(c, log2);
+    match mode {
+        0 => planar(edge, log2, out),
+        1 => dc(edge, edges, log2, out),
+        _ => directed(
+            edge,
+            Direction {
+                log2,
+                mode,
+                edges,
+                depth,
+            },
+            out,
+        ),
+    }
+}
+
+/// Whether DC, horizontal and vertical filter the edges of a block.
+fn has_filtered_edges(c: u8, log2: u32) -> bool
+    ensures { result ≡ has_filtered_edges c log2 }
+{
+    c == 0 && log2 < 5
+}
+
+/// The prediction of a block along a direction.
+fn directed(edge: &[u16], direction: Direction, out: &mut [u16])
+    requires log2 { (2 ≤ direction.log2) × (direction.log2 ≤ 5) }
+    requires mode { (2 ≤ direction.mode) × (direction.mode ≤ 34) }
+    requires depth { (8 ≤ direction.depth) × (direction.depth ≤ 16) }
+    requires edge { length edge.now ≡ 4 * 2 ^ direction.log2 + 1 }
+    requires out { 2 ^ direction.log2 * 2 ^ direction.log2 ≤ length out.old }
+    ensures value { (x y : ℕ) → x < 2 ^ direction.log2 → y < 2 ^ direction.log2 → at out.new (2 ^ direction.log2 * y + x) ≡ directed direction.edges direction.log2 direction.mode direction.depth edge.now x y }
+    ensures rest { (k : ℕ) → 2 ^ direction.log2 * 2 ^ direction.log2 ≤ k → at out.new k ≡ at out.old k }
+{
+    let n = columns(direction.log2);
+    let mut sides = [0; 65];
+    turn(edge, n, &mut sides);
+    let left = &sides[..2 * n + 1];
+    let above = &edge[2 * n..];
+    if 18 <= direction.mode {
+        angular(above, left, direction, out);
+    } else if n <= 8 {
+        across(left, above, direction, &mut [0; 64], out);
+    } else {
+        across(left, above, direction, &mut [0; 1024], out);
+    }
+}
+
+/// The prediction of a block from the left, written with columns for lines at first.
+fn across(left: &[u16], above: &[u16], direction: Direction, turned: &mut [u16], out: &mut [u16])
+    requires log2 { (2 ≤ direction.log2) × (direction.log2 ≤ 5) }
+    requires mode { (2 ≤ direction.mode) × (direction.mode ≤ 34) }
+    requires depth { (8 ≤ direction.depth) × (direction.depth ≤ 16) }
+    requires left { length left.now ≡ 2 * 2 ^ direction.log2 + 1 }
+    requires above { length above.now ≡ 2 * 2 ^ direction.log2 + 1 }
+    requires turned { 2 ^ direction.log2 * 2 ^ direction.log2 ≤ length turned.old }
+    requires out { 2 ^ direction.log2 * 2 ^ direction.log2 ≤ length out.old }
+    ensures value { (x y : ℕ) → x < 2 ^ direction.log2 → y < 2 ^ direction.log2 → at out.new (2 ^ direction.log2 * y + x) ≡ angular direction.edges direction.log2 direction.mode direction.depth left.now above.now y x }
+    ensures rest { (k : ℕ) → 2 ^ direction.log2 * 2 ^ direction.log2 ≤ k → at out.new k ≡ at out.old k }
+{
+    angular(left, above, direction, turned);
+    transpose(turned, columns(direction.log2), out);
+}
+
+/// Writes the samples on the left, from the corner down.
+fn turn(edge: &[u16], n: usize, left: &mut [u16; 65])
+    requires n { n ≤ 32 }
+    requires edge { length edge.now ≡ 4 * n + 1 }
+    ensures { take (2 * n + 1) left.new ≡ left_side n edge.now }
+{
+    for k in 0..2 * n + 1 {
+        left[k] = edge[2 * n - k];
+    }
+}
+
+/// Writes lines as columns.
+fn transpose(turned: &[u16], n: usize, out: &mut [u16])
+    requires n { n ≤ 32 }
+    requires turned { n * n ≤ length turned.now }
+    requires out { n * n ≤ length out.old }
+    ensures value { (x y : ℕ) → x < n → y < n → at out.new (n * y + x) ≡ at turned.now (n * x + y) }
+    ensures rest { (k : ℕ) → n * n ≤ k → at out.new k ≡ at out.old k }
+{
+    for y in 0..n {
+        transpose_line(turned, n, y, out);
+    }
+}
+
+/// Writes a column as a line.
+fn transpose_line(turned: &[u16], n: usize, y: usize, out: &mut [u16])
+    requires n { n ≤ 32 }
+    requires y { y < n }
+    requires turned { n * n ≤ length turned.now }
+    requires out { n * y + n ≤ length out.old }
+    ensures { (q : ℕ) → at out.new q ≡ cond (nat_le (n * y) q && nat_lt q (n * y + n)) (at turned.now (n * (q - n * y) + y)) (at out.old q) }
+{
+    for x in 0..n {
+        out[n * y + x] = turned[n * x + y];
+    }
+}
