@@ -12,7 +12,6 @@ use Rattle.hv_base.specs.declared.refusal.Stop.{Stop}
 use Rattle.header_types.specs.declared.former.Former.{Former}
 use Rattle.header_types.specs.declared.former.Sets.{Sets}
 use Rattle.header_types.specs.declared.reference_pictures.DpbPicture.{DpbPicture}
-use Rattle.header_types.specs.declared.reference_pictures.Mark.{Mark}
 use Rattle.header_types.specs.declared.reference_pictures.Rps.{Rps}
 use Rattle.header_types.specs.declared.slice.SliceHeaderFields.{SliceHeaderFields}
 use Rattle.header_types.specs.SequenceParameterSets.{highest_ordering}
@@ -24,7 +23,7 @@ use Rattle.spec_reference_pictures.specs.PictureOrderCount.{is_idr, pic_order_cn
 use Rattle.spec_reference_pictures.specs.ReferencePictureSet.{named_sets, reference_picture_set}
 use Rattle.spec_reference_pictures.proofs.DerivedSets.{marks_length, set_is}
 use Rattle.spec_slice_headers.specs.NamedSets.{Named, named_by}
-use Rattle.spec_output_order.specs.OutputOrder.{GoesOutAtOnce, NoneNeededForOutput, all_marked, outputs_of}
+use Rattle.spec_output_order.specs.OutputOrder.{GoesOutAtOnce, NoneNeededForOutput, outputs_of}
 use Rattle.spec_output_order.proofs.AtOnce.{at_once, none_last}
 use Rattle.plan_types.specs.declared.segment_plan.SegmentPlan.{SegmentPlan}
 use Rattle.plan_types.specs.declared.picture_plan.PicturePlan.{PicturePlan}
@@ -53,15 +52,6 @@ once_append (p ∷ closed) pictures X h = λ n. let i = h n in (i.0, once_append
 
 abbrev IsOnce : PicturePlan → Type 0
 IsOnce p = needs_inter p ≡ false → GoesOutAtOnce (length p.rps.marks) p.outputs
-
-marked_length : (dpb : List DpbPicture) (marks : List Mark) → length marks ≡ length dpb → length (all_marked dpb marks) ≡ length marks
-marked_length [] [] e = refl
-marked_length [] (m ∷ marks) e = absurd cc
-marked_length (p ∷ dpb) [] e = refl
-marked_length (p ∷ dpb) (m ∷ marks) e =
-    let less : length marks ≡ length dpb = omega (arith, e) in
-    let rest = marked_length dpb marks less in
-    omega (arith, rest)
 
 not_false : (b : Bool) → not b ≡ false → b ≡ true
 not_false true e = refl
@@ -149,7 +139,7 @@ opened_once former u header n poc rps quiet marks =
       segments = first ∷ [];
     } in
     λ e. let is = lone p e in
-    subst (λ (size : ℕ). GoesOutAtOnce size p.outputs) (marked_length former.dpb rps.marks marks)
+    subst (λ (size : ℕ). GoesOutAtOnce size p.outputs) (sym marks)
     (at_once (current_picture header n.sps poc) former.dpb rps.marks quiet (first_shown first is.shown) is.ordered)
 
 with_set_once : (former : Former) (u : NalUnit) (header : SliceHeaderFields) (n : Named) (poc : ℤ) (r : Result Rps FaultKind) → NoneNeededForOutput former.dpb

@@ -37,11 +37,12 @@ bumped_none reorder size pictures quiet = at_most_none reorder size (length pict
 
 marked_none : (pictures : List DpbPicture) (marks : List Mark) → NoneNeededForOutput pictures → NoneNeededForOutput (all_marked pictures marks)
 marked_none [] marks quiet = All-nil IsQuiet
-marked_none (p ∷ pictures) [] quiet = All-nil IsQuiet
+marked_none (p ∷ pictures) [] quiet =
+    All-cons IsQuiet (marked p mark.Unused) (all_marked pictures []) (All-head IsQuiet p pictures quiet) (marked_none pictures [] (All-tail IsQuiet p pictures quiet))
 marked_none (p ∷ pictures) (m ∷ marks) quiet =
     All-cons IsQuiet (marked p m) (all_marked pictures marks) (All-head IsQuiet p pictures quiet) (marked_none pictures marks (All-tail IsQuiet p pictures quiet))
 
-discarded_none : (pictures : List DpbPicture) → NoneNeededForOutput (discarded pictures)
+pub discarded_none : (pictures : List DpbPicture) → NoneNeededForOutput (discarded pictures)
 discarded_none [] = All-nil IsQuiet
 discarded_none (p ∷ pictures) = All-cons IsQuiet (not_needed p) (discarded pictures) refl (discarded_none pictures)
 
@@ -117,15 +118,20 @@ ended_once current pictures quiet shown none =
     = ap (λ (n : ℕ). bumped n None (pictures ++ q ∷ [])) none ∙ bumped_once pictures q quiet shown in
     rw e (refl, none_pushed pictures q quiet)
 
+pub marked_length : (pictures : List DpbPicture) (marks : List Mark) → length (all_marked pictures marks) ≡ length pictures
+marked_length [] marks = refl
+marked_length (p ∷ pictures) [] = let rest = marked_length pictures [] in omega (arith, rest)
+marked_length (p ∷ pictures) (m ∷ marks) = let rest = marked_length pictures marks in omega (arith, rest)
+
 pub at_once : (current : CurrentPicture) (dpb : List DpbPicture) (marks : List Mark) → NoneNeededForOutput dpb → current.pic_output_flag ≡ true → current.ordering.max_num_reorder_pics ≡ 0
-    → GoesOutAtOnce (length (all_marked dpb marks)) (outputs_of current dpb marks)
+    → GoesOutAtOnce (length dpb) (outputs_of current dpb marks)
 unfolding outputs_of
 at_once current dpb marks quiet shown none =
     let begun = started_none current (all_marked dpb marks) (marked_none dpb marks quiet) in
     let goes = ended_once current (started current (all_marked dpb marks)).left begun.left shown none in
     record {
       before = begun.out;
-      behind = goes.0 ∙ ap (λ (n : ℕ). n ∷ []) begun.same;
+      behind = goes.0 ∙ ap (λ (n : ℕ). n ∷ []) (begun.same ∙ marked_length dpb marks);
       left = All-filter is_kept IsQuiet (ended current (started current (all_marked dpb marks)).left).left goes.1;
     }
 

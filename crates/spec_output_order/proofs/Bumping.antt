@@ -47,7 +47,7 @@ bumped_marks : (reorder : ℕ) (size : Option ℕ) (pictures : List DpbPicture) 
 unfolding bumped
 bumped_marks reorder size pictures = same_marks reorder size (length pictures) pictures
 
-few_bumped : (reorder : ℕ) (size : Option ℕ) (pictures : List DpbPicture) → count_by is_needed_for_output (bumped reorder size pictures).left ≤ reorder
+pub few_bumped : (reorder : ℕ) (size : Option ℕ) (pictures : List DpbPicture) → count_by is_needed_for_output (bumped reorder size pictures).left ≤ reorder
 unfolding bumped
 few_bumped reorder size pictures = few_needed reorder size (length pictures) pictures (count_by-le-length is_needed_for_output pictures)
 

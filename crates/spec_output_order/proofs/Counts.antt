@@ -5,6 +5,7 @@ use Rattle.std.proofs.lemmas.Bool.{and_parts, cases_Bool}
 use Rattle.std.proofs.lemmas.List.Sums.{sum_by-cons, sum_by_push}
 use Rattle.header_types.specs.declared.reference_pictures.DpbPicture.{DpbPicture}
 use Rattle.header_types.specs.declared.reference_pictures.Mark.{Mark}
+use Rattle.header_types.specs.declared.reference_pictures.Mark.TheVariants as mark
 use Rattle.spec_reference_pictures.specs.ReferencePictureSet.{is_reference}
 use Rattle.spec_output_order.specs.declared.current_picture.CurrentPicture.{CurrentPicture}
 use Rattle.spec_output_order.specs.declared.next_output.NextOutput.{NextOutput}
@@ -34,7 +35,10 @@ kept_either (p ∷ pictures) =
 -- as many pictures as marks say are marked, at most
 pub few_marked : (pictures : List DpbPicture) (marks : List Mark) → count_by is_marked (all_marked pictures marks) ≤ count_by is_reference marks
 few_marked [] marks = omega arith
-few_marked (p ∷ pictures) [] = omega arith
+few_marked (p ∷ pictures) [] =
+    let one = count-cons is_marked (marked p mark.Unused) (all_marked pictures []) in
+    let rest = few_marked pictures [] in
+    omega (arith, one, rest)
 few_marked (p ∷ pictures) (m ∷ marks) =
     let one = count-cons is_marked (marked p m) (all_marked pictures marks) in
     let same = count-cons is_reference m marks in
@@ -104,7 +108,7 @@ lowers [] w e = absurd cc
 lowers (p ∷ pictures) w e = lowers_by p pictures (next_output pictures) (lowers pictures) w e
 
 -- where no picture is next, none is needed for output
-none_of : (p : DpbPicture) (next : Option NextOutput) → sooner p next ≡ None → (p.needed_for_output ≡ false) × (next ≡ None)
+pub none_of : (p : DpbPicture) (next : Option NextOutput) → sooner p next ≡ None → (p.needed_for_output ≡ false) × (next ≡ None)
 none_of p None e = elim (cases_Bool p.needed_for_output) [
   | inl is ↦ let no = rw is at e in absurd cc
   | inr is ↦ (is, refl)

@@ -1,3 +1,6 @@
 pub mod Counts
 pub mod Bumping
 pub mod AtOnce
+pub mod FirstForOutput
+pub mod Fates
+pub mod Bounds

@@ -1,1 +1,2 @@
 pub mod OutputOrder
+pub mod Waiting

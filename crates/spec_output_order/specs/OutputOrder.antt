@@ -16,13 +16,13 @@ is_needed_for_output p = p.needed_for_output
 abbrev pub is_kept : DpbPicture → Bool
 is_kept p = p.needed_for_output || is_reference p.mark
 
--- the pictures of the buffer as the current picture marks them
+-- the pictures of the buffer as the current picture marks them: one without a mark is unused for reference (8.3.2)
 abbrev pub marked : DpbPicture → Mark → DpbPicture
 marked p m = record (p) { mark = m }
 
 abbrev pub all_marked : List DpbPicture → List Mark → List DpbPicture
 all_marked [] marks = []
-all_marked (p ∷ pictures) [] = []
+all_marked (p ∷ pictures) [] = marked p mark.Unused ∷ all_marked pictures []
 all_marked (p ∷ pictures) (m ∷ marks) = marked p m ∷ all_marked pictures marks
 
 -- the sooner of a picture at place 0 and one of those behind it, whose places count from 0: the one of the lesser order

@@ -6,5 +6,9 @@ mod laws;
 mod next_output;
 
 pub use current_picture::CurrentPicture;
-pub use laws::{few_pictures_stay, lone_pictures_go_out_at_once};
+pub use laws::{
+    buffer_keeps_its_bounds, few_pictures_stay, first_pictures_go_out,
+    lone_pictures_go_out_at_once, outputs_name_pictures_of_the_buffer,
+    waiting_pictures_go_out_once,
+};
 pub use next_output::NextOutput;
