@@ -3,3 +3,4 @@ pub mod Pictures
 pub mod Closing
 pub mod Steps
 pub mod Planned
+pub mod Grouping

@@ -4,5 +4,5 @@
 mod laws;
 mod unit_kind;
 
-pub use laws::fronts_stay;
+pub use laws::{accepted_headers_open_pictures, fronts_stay, segments_are_grouped_to_pictures};
 pub use unit_kind::UnitKind;
