@@ -81,7 +81,17 @@ pub fn residual_of(sum: i32, depth: u32) -> i32
     ensures small { IsResidual result }
 {
     let shift = 20 - depth;
-    shifted(sum + (1 << (shift - 1)), shift)
+    shifted(sum + half(shift), shift)
+}
+
+/// Half of 2^`shift`.
+fn half(shift: u32) -> i32
+    requires some_shift { 6 ≤ shift }
+    requires shift { shift ≤ 12 }
+    ensures value { result ≡ pos (2 ^ (shift - 1)) }
+    ensures high { result ≤ℤ pos 2048 }
+{
+    1 << (shift - 1)
 }
 
 /// A number in units of 2^-`shift`, rounded down.

@@ -11,7 +11,6 @@ use crate::products::residual_of;
 
 /// The residuals `out` of the scaled coefficients `d` of a block of 2^`log2` columns and rows whose transform is skipped,
 /// both row after row; `depth` is the bit depth of the component.
-#[tactic(auto, unfolding(spec_transforms::specs::Transforms::skipped))]
 pub fn skip(d: &[i32], log2: u32, depth: u32, out: &mut [i32])
     requires depth { IsDepth depth }
     requires log2 { IsSize log2 }
@@ -23,6 +22,17 @@ pub fn skip(d: &[i32], log2: u32, depth: u32, out: &mut [i32])
 {
     let size = size_of(log2);
     for i in 0..size * size {
-        out[i] = residual_of(d[i] * 128, depth);
+        out[i] = skipped(d[i], depth);
     }
+}
+
+/// The residual of a scaled coefficient.
+#[tactic(auto, unfolding(spec_transforms::specs::Transforms::skipped))]
+fn skipped(d: i32, depth: u32) -> i32
+    requires d { Is16 d }
+    requires depth { IsDepth depth }
+    ensures value { result ≡ skipped depth d }
+    ensures small { IsResidual result }
+{
+    residual_of(d * 128, depth)
 }

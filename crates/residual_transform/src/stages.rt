@@ -7,9 +7,8 @@ ghost use Rattle.spec_transforms.specs.Scaling.{Is16, IsDepth, IsSize, clip16, r
 ghost use Rattle.spec_transforms.specs.Transforms.{IsResidual, block_in, first_stage, residual_of, second_stage, transformed};
 ghost use Rattle.residual_transform.specs.Sums.{IsMatrix, IsSum};
 
-use crate::matrix::{Matrix, size_of};
+use crate::matrix::{Matrix, matrix_of};
 use crate::products::{column_sums, held, residual_of};
-use spec_transforms::{COSINE_MATRIX, SINE_MATRIX};
 
 /// The residuals `out` of the scaled coefficients `d` of a block of 2^`log2` columns and rows, both row after row.
 ///
@@ -26,22 +25,8 @@ pub fn inverse(d: &[i32], log2: u32, dst: bool, depth: u32, out: &mut [i32])
         → block_in (2 ^ log2) out.new x y ≡ transformed depth dst (2 ^ log2) (block_in (2 ^ log2) d.now) x y }
     ensures small { All IsResidual out.new }
 {
-    let size = size_of(log2);
-    if dst {
-        let matrix = Matrix {
-            entries: &SINE_MATRIX,
-            stride: 4,
-            size,
-        };
-        transform(d, &matrix, depth, out);
-    } else {
-        let matrix = Matrix {
-            entries: &COSINE_MATRIX,
-            stride: 32 * (32 / size),
-            size,
-        };
-        transform(d, &matrix, depth, out);
-    }
+    let matrix = matrix_of(dst, log2);
+    transform(d, &matrix, depth, out);
 }
 
 /// Both stages. What is between them stands column after column, so that the second reads its rows as columns.
