@@ -1,10 +1,10 @@
 -- The tables of the transforms as matrices of a size.
-use Rattle.std.proofs.Common.{◌≡◌, ℕ, zero, suc, ◌+◌, ◌*◌, ◌/◌, ◌^◌, ◌<◌, ◌≤◌, ℤ, pos, negsuc, List, get_or, Bool, true, false, refl, ap, ◌∙◌, arith}
+use Rattle.std.proofs.Common.{◌≡◌, ℕ, zero, suc, ◌+◌, ◌*◌, ◌/◌, ◌^◌, ◌<◌, ◌≤◌, ℤ, pos, negsuc, List, get_or, Bool, true, refl, ap, ◌∙◌, arith}
 use Rattle.std.specs.List.{All, list_all, range_with_len}
 use Rattle.std.specs.Int.Signed.{le_z, le_z_yes}
 use Rattle.std.proofs.lemmas.Float.{T_from_true}
 use Rattle.std.proofs.lemmas.List.Elements.{All-from_get_or}
-use Rattle.spec_transforms.specs.declared.matrices.TheConstants.{COSINE_MATRIX, SINE_MATRIX}
+use Rattle.spec_transforms.specs.declared.matrices.TheConstants.{COSINE_MATRIX}
 use Rattle.spec_transforms.specs.Matrices.{Matrix, matrix_in, entry}
 use Rattle.spec_transforms.specs.Transforms.{block_in, first_stage, second_stage, residual_of, transformed}
 use Rattle.spec_transforms.proofs.Entries.{tested}
