@@ -54,11 +54,11 @@ high_all = refl
 pub negative_between : (i : ℕ) → i < 33 → get_or INTRA_PRED_ANGLE i (pos 0) <ℤ pos 0 → (9 ≤ i) × (i ≤ 23)
 negative_between i h neg =
     let low : i < 9 → pos 0 ≤ℤ get_or INTRA_PRED_ANGLE i (pos 0) =
-        λ k. le_z_yes (T_from_true _ (tested (λ i. le_z (pos 0) (get_or INTRA_PRED_ANGLE i (pos 0))) 9 low_all i k)) in
+    λ k. le_z_yes (T_from_true _ (tested (λ i. le_z (pos 0) (get_or INTRA_PRED_ANGLE i (pos 0))) 9 low_all i k)) in
     let high : 23 < i → pos 0 ≤ℤ get_or INTRA_PRED_ANGLE i (pos 0) =
-        λ k. let e : 24 + (i - 24) ≡ i = omega arith in
-            subst (λ (j : ℕ). pos 0 ≤ℤ get_or INTRA_PRED_ANGLE j (pos 0)) e
-                (le_z_yes (T_from_true _ (tested (λ i. le_z (pos 0) (get_or INTRA_PRED_ANGLE (24 + i) (pos 0))) 9 high_all (i - 24) (omega arith)))) in
+    λ k. let e : 24 + (i - 24) ≡ i = omega arith in
+    subst (λ (j : ℕ). pos 0 ≤ℤ get_or INTRA_PRED_ANGLE j (pos 0)) e
+    (le_z_yes (T_from_true _ (tested (λ i. le_z (pos 0) (get_or INTRA_PRED_ANGLE (24 + i) (pos 0))) 9 high_all (i - 24) (omega arith)))) in
     apart i (get_or INTRA_PRED_ANGLE i (pos 0)) neg low high
 
 product_all : list_all (λ i. nat_le (unsigned_abs (get_or INTRA_PRED_ANGLE (9 + i) (pos 0)) * get_or INVERSE_ANGLE i 0) 8208) (range_with_len 0 15) ≡ true

@@ -7,7 +7,7 @@ unfoldable pub planar : ℕ → List ℕ → ℕ → ℕ → ℕ
 planar log2 p x y =
     let n : ℕ = 2 ^ log2 in
     ((n - 1 - x) * left_at n p y + (x + 1) * above_at n p n + (n - 1 - y) * above_at n p x + (y + 1) * left_at n p n + n)
-        / 2 ^ (log2 + 1)
+    / 2 ^ (log2 + 1)
 
 -- the sum of f k over the k below n
 abbrev pub sum_below : ℕ → (ℕ → ℕ) → ℕ
@@ -25,8 +25,8 @@ abbrev pub levelled : Bool → ℕ → List ℕ → ℕ → ℕ → ℕ → ℕ
 levelled edges n p mean x y =
     if edges
     then (if y == 0
-        then (if x == 0 then (left_at n p 0 + 2 * mean + above_at n p 0 + 2) / 4 else (above_at n p x + 3 * mean + 2) / 4)
-        else (if x == 0 then (left_at n p y + 3 * mean + 2) / 4 else mean))
+    then (if x == 0 then (left_at n p 0 + 2 * mean + above_at n p 0 + 2) / 4 else (above_at n p x + 3 * mean + 2) / 4)
+    else (if x == 0 then (left_at n p y + 3 * mean + 2) / 4 else mean))
     else mean
 
 unfoldable pub dc : Bool → ℕ → List ℕ → ℕ → ℕ → ℕ

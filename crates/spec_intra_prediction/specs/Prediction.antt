@@ -21,7 +21,7 @@ unfoldable pub predicted_from : ℕ → ℕ → ℕ → ℕ → List ℕ → ℕ
 predicted_from c log2 mode depth p x y =
     if mode == 0 then planar log2 p x y
     else (if mode == 1 then dc (has_filtered_edges c log2) log2 p x y
-        else directed (has_filtered_edges c log2) log2 mode depth p x y)
+    else directed (has_filtered_edges c log2) log2 mode depth p x y)
 
 -- the sample at (x, y) of a block of 2^log2 columns in component c, by a mode, from its substituted neighbours:
 -- predSamples[x][y]
