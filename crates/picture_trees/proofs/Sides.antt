@@ -1,0 +1,25 @@
+-- The places beside a unit, one by one.
+use Rattle.std.proofs.Common.{◌≡◌, ℕ, ◌<◌, ◌≤◌, Bool, true, false, List, length, get_or, map, refl, sym, ◌∙◌, if◌then◌else◌, nat_lt, arith}
+use Rattle.std.specs.List.{range_with_len}
+use Rattle.std.proofs.lemmas.Bool.Decides.{nat_tests}
+use Rattle.std.proofs.lemmas.List.FromFn.{fill_by_all, get_or-map-range_with_len}
+use Rattle.ctu_records.specs.declared.side.Side.{Side}
+use Rattle.ctu_records.specs.Tree.{no_side, side}
+
+taken : (b : Bool) (x y : Side) → b ≡ true → (if b then x else y) ≡ x
+taken true x y e = refl
+taken false x y e = absurd cc
+
+-- sixteen places that are all known
+pub places_side : (places : List Side) (f : ℕ → Side) → length places ≡ 16 → ((k : ℕ) → k < 16 → get_or places k no_side ≡ f k) → places ≡ side 16 f
+unfolding side
+places_side places f full each =
+    fill_by_all (λ k. if nat_lt k 16 then f k else no_side) places 16 no_side full
+    (λ k h. each k h ∙ sym (taken (nat_lt k 16) (f k) no_side (grind (arith, nat_tests))))
+
+-- a place of a side
+pub at_side : (f : ℕ → Side) (k : ℕ) → k < 16 → get_or (side 16 f) k no_side ≡ f k
+unfolding side
+at_side f k h =
+    get_or-map-range_with_len (λ i. if nat_lt i 16 then f i else no_side) 0 16 k k no_side h (omega arith)
+    ∙ taken (nat_lt k 16) (f k) no_side (grind (arith, nat_tests))

@@ -1,0 +1,10 @@
+use Rattle.std.proofs.Common.{◌≡◌, ℕ, ◌-◌, ◌<◌, length, get_or}
+use Rattle.ctu_records.specs.Tree.{no_side}
+use Rattle.spec_slice_data.specs.Segment.{side_of}
+use Rattle.picture_trees.proofs.beside.bottom_places.Given as goal
+
+abbrev pub invariant-loop-k : goal.invariant-loop-k
+invariant-loop-k l = record {
+  count : length l.places ≡ 16;
+  told : (q : ℕ) → q < l.k → get_or l.places q no_side ≡ side_of l.records q (l.n - 1);
+}

@@ -1,0 +1,15 @@
+//! Reads all coding tree units of a planned picture of I slices in order (H.265 7.3.8.1, 9.3.1), on one thread, over a
+//! view of the units before each.
+#![tactic(auto)]
+
+mod beside;
+mod layout;
+mod picture;
+mod segment;
+mod segment_data;
+mod slice_syntax;
+mod trees;
+mod units;
+
+pub use picture::read_picture;
+pub use trees::{ReadError, Trees};

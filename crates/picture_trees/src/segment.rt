@@ -1,0 +1,161 @@
+//! A slice segment as its data are read (7.3.8.1).
+
+ghost use Rattle.std.specs.Prelude.{◌≡◌, ◌-◌, ◌^◌, ◌≤◌, ◌<◌, ◌∷◌, [], drop, length, take, slice_index_or};
+ghost use Rattle.header_types.specs.SequenceParameterSets.{size_in_ctbs};
+ghost use Rattle.spec_slice_headers.specs.SliceFields.{slice_qp};
+ghost use Rattle.spec_cabac.specs.Contexts.{first_contexts};
+ghost use Rattle.spec_picture_data.specs.Shapes.{address_of, first_qp, qp_bd_offset, segment_shape, slice_start, substream_bytes};
+
+use cabac_contexts::Contexts;
+use header_types::{Pps, Substream};
+use plan_types::{PicturePlan, SegmentPlan};
+use std::marker::Model;
+
+/// The most bytes that a NAL unit has.
+const MOST_BYTES: usize = 67108864;
+
+/// A slice segment: where its units stand, what its slice begins with, and its substreams.
+#[derive(Drop)]
+pub(crate) struct Segment<'a> {
+    /// The address of its first unit.
+    pub(crate) first: u32,
+    pub(crate) count: u32,
+    /// The address of its slice's first unit.
+    pub(crate) slice: u32,
+    /// Qp'Y of its slice.
+    pub(crate) qp: u8,
+    /// The contexts that its slice begins with.
+    pub(crate) contexts: Contexts,
+    pub(crate) dependent: bool,
+    payload: &'a [u8],
+    ranges: &'a [Substream],
+}
+
+impl<'a> Model for Segment<'a> {
+    ghost use Rattle.std.specs.Prelude.{map, ◌+◌, ◌≤◌};
+    ghost use Rattle.spec_picture_data.specs.Shapes.{substream_bytes};
+    ghost use Rattle.spec_slice_data.specs.Segment.{SegmentShape};
+
+    ghost Value = { SegmentShape };
+
+    ghost view = { λ s. record { first = s.first; count = s.count; slice = s.slice; qp = s.qp; contexts = s.contexts; dependent = s.dependent; substreams = map (substream_bytes s.payload.now) s.ranges.now } };
+
+    ghost invariant = { λ s. s.first + s.count ≤ 262144 };
+}
+
+impl<'a> Segment<'a> {
+    /// A segment of a picture, from the place where its first unit stands to the one behind its last.
+    #[tactic(auto, unfolding(spec_picture_data::specs::Shapes::segment_shape))]
+    pub(crate) fn new(
+        picture: &PicturePlan,
+        segment: &'a SegmentPlan,
+        first: u32,
+        behind: u32,
+    ) -> Segment<'a>
+        requires order { first ≤ behind }
+        requires few { behind ≤ 262144 }
+        ensures { result ≡ segment_shape picture.now segment.now first behind }
+    {
+        let header = segment.header.fields();
+        let slice_qp = slice_qp(&picture.pps, header.slice.slice_qp_delta);
+        let offset = 6 * picture.sps.fields().format.bit_depth_luma_minus8;
+        Segment {
+            first,
+            count: behind - first,
+            slice: slice_address(picture, segment),
+            qp: first_qp(offset, slice_qp),
+            contexts: first_contexts(slice_qp),
+            dependent: header.segment.dependent_slice_segment_flag,
+            payload: segment.payload.as_slice(),
+            ranges: segment.substreams.as_slice(),
+        }
+    }
+
+    /// The bytes of the substream with this number, or none.
+    pub(crate) fn substream(&self, number: usize) -> &'a [u8]
+        ensures value { result.now ≡ slice_index_or self.now.substreams number [] }
+        ensures short { length result.now < 2 ^ 60 }
+    {
+        if number < self.ranges.len() {
+            substream_bytes(self.payload, self.ranges[number])
+        } else {
+            &[]
+        }
+    }
+}
+
+/// The address of the first unit of a segment's slice.
+fn slice_address(picture: &PicturePlan, segment: &SegmentPlan) -> u32
+    ensures { result ≡ address_of (slice_start picture.now segment.now) }
+{
+    let segments = picture.segments.as_slice();
+    if segment.slice < segments.len() {
+        address_of(&segments[segment.slice])
+    } else {
+        address_of(segment)
+    }
+}
+
+/// slice_segment_address.
+pub(crate) fn address_of(segment: &SegmentPlan) -> u32
+    ensures { result ≡ address_of segment.now }
+{
+    segment.header.fields().segment.slice_segment_address
+}
+
+/// SliceQpY (7-40).
+fn slice_qp(pps: &Pps, slice_qp_delta: i32) -> i64
+    ensures { result ≡ slice_qp pps.now slice_qp_delta }
+{
+    26 + i64::from(pps.fields().init_qp_minus26) + i64::from(slice_qp_delta)
+}
+
+/// Qp'Y of a slice, by QpBdOffsetY and SliceQpY.
+fn first_qp(qp_offset: u32, slice_qp: i64) -> u8
+    requires { qp_offset ≤ 48 }
+    ensures { result ≡ first_qp qp_offset slice_qp }
+{
+    let offset = i64::from(qp_offset);
+    slice_qp.saturating_add(offset).clamp(0, 51 + offset) as u8
+}
+
+/// The contexts that an I slice begins with.
+#[tactic(auto, unfolding(spec_cabac::specs::Contexts::first_contexts))]
+fn first_contexts(slice_qp: i64) -> Contexts
+    ensures { result ≡ first_contexts slice_qp 0 }
+{
+    Contexts::init(slice_qp.clamp(0, 51) as i32, 0)
+}
+
+/// The bytes of a substream.
+#[tactic(auto, unfolding(spec_picture_data::specs::Shapes::substream_bytes))]
+fn substream_bytes(payload: &[u8], range: Substream) -> &[u8]
+    ensures value { result.now ≡ substream_bytes payload.now range }
+    ensures short { length result.now < 2 ^ 60 }
+{
+    let count = range.end.saturating_sub(range.start).min(MOST_BYTES);
+    front_of(behind(payload, range.start), count)
+}
+
+/// The bytes from a place on: none where it is past the end.
+fn behind(bytes: &[u8], place: usize) -> &[u8]
+    ensures { result.now ≡ drop place bytes.now }
+{
+    if place < bytes.len() {
+        &bytes[place..]
+    } else {
+        &[]
+    }
+}
+
+/// The first bytes, so many or fewer.
+fn front_of(bytes: &[u8], count: usize) -> &[u8]
+    ensures value { result.now ≡ take count bytes.now }
+    ensures short { length result.now ≤ count }
+{
+    if bytes.len() <= count {
+        bytes
+    } else {
+        &bytes[..count]
+    }
+}

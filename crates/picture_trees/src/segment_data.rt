@@ -1,0 +1,171 @@
+//! A slice segment of a picture with all that its data are read by.
+
+ghost use Rattle.std.specs.Prelude.{◌≡◌, ℕ, ◌+◌, ◌-◌, ◌*◌, ◌^◌, ◌≤◌, ◌<◌, ◌∷◌, List};
+ghost use Rattle.header_types.specs.SequenceParameterSets.{size_in_ctbs, width_in_ctbs};
+ghost use Rattle.plan_types.specs.declared.segment_plan.SegmentPlan.{SegmentPlan};
+ghost use Rattle.spec_slice_data.specs.Segment.{begins_row, column_of, has_above, has_left, has_stored, is_last, row_of, syntax_at};
+ghost use Rattle.spec_slice_data.specs.Syntax.{IsSyntax};
+ghost use Rattle.spec_picture_data.specs.Picture.{segment_at};
+ghost use Rattle.spec_picture_data.specs.Shapes.{end_of};
+
+use crate::layout::Layout;
+use crate::segment::Segment;
+use crate::slice_syntax::segment_syntax;
+use coding_quadtree::UnitPlace;
+use plan_types::{PicturePlan, SegmentPlan};
+use spec_slice_data::CtuSyntax;
+use std::marker::Model;
+
+/// A slice segment of a picture: its number, the number of its NAL unit, and what its data are read by.
+#[derive(Drop)]
+pub(crate) struct SegmentData<'a> {
+    number: usize,
+    nal: u32,
+    syntax: CtuSyntax,
+    pub(crate) layout: Layout,
+    pub(crate) shape: Segment<'a>,
+}
+
+impl<'a> Model for SegmentData<'a> {
+    ghost use Rattle.std.specs.Prelude.{◌+◌, ◌*◌, ◌≤◌};
+    ghost use Rattle.spec_slice_data.specs.Syntax.{IsSyntax};
+    ghost use Rattle.spec_picture_data.specs.Picture.{SegmentAt};
+
+    ghost Value = { SegmentAt };
+
+    ghost view = { λ s. record { number = s.number; nal = s.nal; syntax = s.syntax; picture = s.layout; shape = s.shape } };
+
+    ghost invariant = { λ s. IsSyntax s.syntax × (s.syntax.log2_min_coding ≤ s.layout.size) × (s.shape.first + s.shape.count ≤ 512 * s.layout.width) };
+}
+
+impl<'a> SegmentData<'a> {
+    /// A segment from the place where its first unit stands to the one behind its last.
+    #[tactic(auto, unfolding(spec_picture_data::specs::Shapes::picture_shape, spec_picture_data::specs::Shapes::segment_shape))]
+    pub(crate) fn new(
+        picture: &PicturePlan,
+        number: usize,
+        segment: &'a SegmentPlan,
+        first: u32,
+        behind: u32,
+    ) -> SegmentData<'a>
+        requires order { first ≤ behind }
+        requires few { behind ≤ 262144 }
+        requires inside { behind ≤ 512 * width_in_ctbs picture.now.sps }
+        ensures value { (later : List SegmentPlan) → behind ≡ end_of (size_in_ctbs picture.now.sps) first later → result ≡ segment_at picture.now number first segment.now later }
+        ensures first { result.shape.first ≡ first }
+        ensures behind { result.shape.first + result.shape.count ≡ behind }
+    {
+        SegmentData {
+            number,
+            nal: segment.header.fields().nal,
+            syntax: segment_syntax(picture, segment),
+            layout: Layout::new(picture),
+            shape: Segment::new(picture, segment, first, behind),
+        }
+    }
+
+    /// Its number in the picture.
+    pub(crate) fn number(&self) -> usize
+        ensures { result ≡ self.now.number }
+    {
+        self.number
+    }
+
+    /// The number of its NAL unit.
+    pub(crate) fn nal(&self) -> u32
+        ensures { result ≡ self.now.nal }
+    {
+        self.nal
+    }
+
+    /// The address of its first unit.
+    pub(crate) fn first(&self) -> u32
+        ensures { result ≡ self.now.shape.first }
+    {
+        self.shape.first
+    }
+
+    /// The place behind its last unit.
+    pub(crate) fn behind(&self) -> u32
+        ensures value { result ≡ self.now.shape.first + self.now.shape.count }
+        ensures inside { result ≤ 512 * self.now.picture.width }
+    {
+        self.shape.first + self.shape.count
+    }
+
+    /// What the elements of a unit depend on.
+    #[tactic(auto, unfolding(spec_slice_data::specs::Segment::syntax_at))]
+    pub(crate) fn syntax_at(&self, address: u32) -> CtuSyntax
+        requires { address < 512 * self.now.picture.width }
+        ensures value { result ≡ syntax_at self.now.syntax self.now.picture self.now.shape address }
+        ensures syntax { IsSyntax result }
+        ensures least { result.log2_min_coding ≤ self.now.picture.size }
+    {
+        let n = self.layout.side();
+        CtuSyntax {
+            has_left: self.has_left(address),
+            has_above: self.has_above(address),
+            right: self
+                .layout
+                .across
+                .saturating_sub(n * self.layout.column(address)),
+            lower: self
+                .layout
+                .down
+                .saturating_sub(n * self.layout.row(address)),
+            ..self.syntax
+        }
+    }
+
+    fn has_left(&self, address: u32) -> bool
+        ensures { result ≡ has_left self.now.picture self.now.shape address }
+    {
+        self.layout.column(address) > 0 && self.shape.slice <= address.saturating_sub(1)
+    }
+
+    fn has_above(&self, address: u32) -> bool
+        ensures { result ≡ has_above self.now.picture self.now.shape address }
+    {
+        self.layout.width <= address
+            && self.shape.slice <= address.saturating_sub(self.layout.width)
+    }
+
+    /// Whether the second unit of the row above is in the same slice (9.3.1).
+    pub(crate) fn has_stored(&self, address: u32) -> bool
+        ensures { result ≡ has_stored self.now.picture self.now.shape address }
+    {
+        let width = self.layout.width;
+        2 <= width
+            && width <= address
+            && self.shape.slice <= address.saturating_sub(width).saturating_add(1)
+    }
+
+    /// Where a unit stands, behind one of this Qp'Y.
+    pub(crate) fn place_at(&self, address: u32, last_qp: u8) -> UnitPlace
+        requires { address < 512 * self.now.picture.width }
+        ensures at { result.address ≡ address }
+        ensures size { result.size ≡ self.now.picture.size }
+        ensures small { result.size ≤ 4 }
+        ensures width { result.width ≡ self.now.picture.width }
+        ensures some { 1 ≤ result.width }
+        ensures x { result.x ≡ 4 * (2 ^ self.now.picture.size * column_of self.now.picture address) }
+        ensures y { result.y ≡ 4 * (2 ^ self.now.picture.size * row_of self.now.picture address) }
+        ensures short_x { result.x < 65536 }
+        ensures short_y { result.y < 65536 }
+        ensures qp { result.last_qp ≡ last_qp }
+        ensures last { result.is_last ≡ is_last self.now.shape address }
+        ensures subset { result.ends_subset ≡ begins_row self.now.picture (address + 1) }
+    {
+        let side = 4 * self.layout.side();
+        UnitPlace {
+            size: self.layout.size,
+            address,
+            width: self.layout.width,
+            x: side * self.layout.column(address),
+            y: side * self.layout.row(address),
+            last_qp,
+            is_last: address + 1 == self.shape.first + self.shape.count,
+            ends_subset: self.layout.begins_row(address + 1),
+        }
+    }
+}

@@ -1,0 +1,101 @@
+-- A planned picture and its slice segments as their data are read (6.3.1, 7.3.8.1, 7.4.3.2, 7.4.3.3, 7.4.7.1, 9.3.1).
+-- Sizes are binary logarithms of sides in places of 4x4 luma samples.
+use Rattle.std.specs.Prelude.{ℕ, ◌+◌, ◌-◌, ◌*◌, ◌/◌, ◌^◌, ℤ, pos, ◌+ℤ◌, Bool, true, false, List, [], ◌∷◌, map, take, drop, min, max, Option, Some, None, is_some, unwrap_or, slice_index_or, unsigned_abs}
+use Rattle.header_types.specs.declared.sps.SpsFields.{SpsFields}
+use Rattle.header_types.specs.declared.sps.PcmFormat.{PcmFormat}
+use Rattle.header_types.specs.declared.pps.PpsFields.{PpsFields}
+use Rattle.header_types.specs.declared.substream.Substream.{Substream}
+use Rattle.header_types.specs.SequenceParameterSets.{ctb_log2, min_cb_log2, min_tb_log2, max_tb_log2, min_pcm_log2, max_pcm_log2, width_in_ctbs}
+use Rattle.plan_types.specs.declared.segment_plan.SegmentPlan.{SegmentPlan}
+use Rattle.plan_types.specs.declared.picture_plan.PicturePlan.{PicturePlan}
+use Rattle.spec_slice_headers.specs.SliceFields.{slice_qp}
+use Rattle.spec_cabac.specs.Contexts.{clip3, first_contexts}
+use Rattle.spec_slice_data.specs.declared.syntax.CtuSyntax.{CtuSyntax}
+use Rattle.spec_slice_data.specs.declared.syntax.PcmSyntax.{PcmSyntax}
+use Rattle.spec_slice_data.specs.Segment.{PictureShape, SegmentShape}
+
+-- a side in places, by its side in luma samples
+abbrev pub in_places : ℕ → ℕ
+in_places log2 = log2 - 2
+
+unfoldable pub picture_shape : SpsFields → PpsFields → PictureShape
+picture_shape sps pps = record {
+  width = width_in_ctbs sps;
+  across = sps.format.pic_width_in_luma_samples / 4;
+  down = sps.format.pic_height_in_luma_samples / 4;
+  size = in_places (ctb_log2 sps.blocks);
+  sync = pps.entropy_coding_sync_enabled_flag;
+}
+
+-- QpBdOffsetY
+abbrev pub qp_bd_offset : SpsFields → ℕ
+qp_bd_offset sps = 6 * sps.format.bit_depth_luma_minus8
+
+-- the blocks that pulse code modulation takes
+abbrev pub pcm_syntax : Option PcmFormat → PcmSyntax
+pcm_syntax None = record { enabled = false; log2_least = 0; log2_greatest = 0; luma_bits = 0; chroma_bits = 0 }
+pcm_syntax (Some pcm) = record {
+  enabled = true;
+  log2_least = in_places (min_pcm_log2 pcm);
+  log2_greatest = in_places (max_pcm_log2 pcm);
+  luma_bits = pcm.pcm_sample_bit_depth_luma_minus1 + 1;
+  chroma_bits = pcm.pcm_sample_bit_depth_chroma_minus1 + 1;
+}
+
+-- what the elements of all units of a slice depend on. What depends on the unit is not known yet
+unfoldable pub slice_syntax : SpsFields → PpsFields → Bool → Bool → CtuSyntax
+slice_syntax sps pps sao_luma sao_chroma = record {
+  log2_min_coding = in_places (min_cb_log2 sps.blocks);
+  log2_min_transform = in_places (min_tb_log2 sps.blocks);
+  log2_max_transform = in_places (max_tb_log2 sps.blocks);
+  max_depth_intra = sps.blocks.max_transform_hierarchy_depth_intra;
+  log2_group = in_places (ctb_log2 sps.blocks - unwrap_or pps.diff_cu_qp_delta_depth 0);
+  qp_offset = qp_bd_offset sps;
+  cu_qp_delta_enabled = is_some pps.diff_cu_qp_delta_depth;
+  transquant_bypass_enabled = pps.transquant_bypass_enabled_flag;
+  transform_skip_enabled = pps.transform_skip_enabled_flag;
+  sign_data_hiding_enabled = pps.sign_data_hiding_enabled_flag;
+  pcm = pcm_syntax sps.pcm;
+  sao_luma = sao_luma;
+  sao_chroma = sao_chroma;
+  has_left = false;
+  has_above = false;
+  right = 0;
+  lower = 0;
+}
+
+abbrev pub segment_syntax : PicturePlan → SegmentPlan → CtuSyntax
+segment_syntax p s = slice_syntax p.sps p.pps s.header.slice.slice_sao_luma_flag s.header.slice.slice_sao_chroma_flag
+
+-- Qp'Y of a slice, by SliceQpY (8.6.1)
+abbrev pub first_qp : ℕ → ℤ → ℕ
+first_qp qp_offset slice_qp_y = unsigned_abs (clip3 (pos 0) (pos (51 + qp_offset)) (slice_qp_y +ℤ pos qp_offset))
+
+-- the bytes of a substream. A NAL unit has at most 2^26 bytes
+unfoldable pub substream_bytes : List ℕ → Substream → List ℕ
+substream_bytes payload range = take (min (range.end - range.start) (2 ^ 26)) (drop range.start payload)
+
+abbrev pub address_of : SegmentPlan → ℕ
+address_of s = s.header.segment.slice_segment_address
+
+-- the segment that begins a segment's slice
+abbrev pub slice_start : PicturePlan → SegmentPlan → SegmentPlan
+slice_start p s = slice_index_or p.segments s.slice s
+
+-- the place behind a segment's last unit: where the next one begins, or the picture's end. It begins at a place in the
+-- picture, and not before the segment does
+abbrev pub end_of : ℕ → ℕ → List SegmentPlan → ℕ
+end_of size first [] = max first size
+end_of size first (next ∷ later) = max first (min (address_of next) size)
+
+-- a segment, from the place where its first unit stands to the one behind its last
+unfoldable pub segment_shape : PicturePlan → SegmentPlan → ℕ → ℕ → SegmentShape
+segment_shape p s first behind = record {
+  first = first;
+  count = behind - first;
+  slice = address_of (slice_start p s);
+  qp = first_qp (qp_bd_offset p.sps) (slice_qp p.pps s.header.slice.slice_qp_delta);
+  contexts = first_contexts (slice_qp p.pps s.header.slice.slice_qp_delta) 0;
+  dependent = s.header.segment.dependent_slice_segment_flag;
+  substreams = map (substream_bytes s.payload) s.substreams;
+}
