@@ -10,7 +10,7 @@ use Rattle.hv_base.specs.Flight.{FlightRows, picture_at}
 use Rattle.hv_base.specs.declared.line.Line.{Line}
 use Rattle.hv_base.specs.declared.row_range.Reference.TheVariants.{Flight}
 use Rattle.board_core.specs.Places.{b_line}
-use Rattle.board_core.specs.Needs.{above_needs, build_needs, reach_needs, read_needs, reference_needs, row_needs}
+use Rattle.board_core.specs.Needs.{above_needs, build_needs, collocated_of, reach_needs, read_needs, reference_needs, row_needs}
 use Rattle.board_core.specs.States.{CoreState, AreCounted, count_of}
 
 pub left_part : {X : Type 0} (P : X → Type 0) (xs ys : List X) → All P (xs ++ ys) → All P xs
@@ -76,28 +76,28 @@ one_each plan s need all = let P : Line × ℕ → Type 0 = λ need. need.1 ≤ 
 
 -- the needs of a build are those of the row above, of the collocated picture, and of its reach
 pub build_all : (plan : FlightRows) (s : CoreState) (l : Line) (x : ℕ) → AreCounted plan s (read_needs plan l x)
-    → AreCounted plan s (row_needs plan (picture_at plan l.picture).collocated l.row) → AreCounted plan s (reach_needs plan l x)
+    → AreCounted plan s (row_needs plan (collocated_of plan l x) l.row) → AreCounted plan s (reach_needs plan l x)
     → AreCounted plan s (build_needs plan l x)
 build_all plan s l x above collocated reach =
     let P : Line × ℕ → Type 0 = λ need. need.1 ≤ count_of plan s need.0 in
-    let row = row_needs plan (picture_at plan l.picture).collocated l.row in
+    let row = row_needs plan (collocated_of plan l x) l.row in
     All-append P (above_needs plan l x) (row ++ reach_needs plan l x) above (All-append P row (reach_needs plan l x) collocated reach)
 
 pub build_above : (plan : FlightRows) (s : CoreState) (l : Line) (x : ℕ) → AreCounted plan s (build_needs plan l x) → AreCounted plan s (read_needs plan l x)
 build_above plan s l x all =
     let P : Line × ℕ → Type 0 = λ need. need.1 ≤ count_of plan s need.0 in
-    let row = row_needs plan (picture_at plan l.picture).collocated l.row in
+    let row = row_needs plan (collocated_of plan l x) l.row in
     left_part P (above_needs plan l x) (row ++ reach_needs plan l x) all
 
 pub build_row : (plan : FlightRows) (s : CoreState) (l : Line) (x : ℕ) → AreCounted plan s (build_needs plan l x)
-    → AreCounted plan s (row_needs plan (picture_at plan l.picture).collocated l.row)
+    → AreCounted plan s (row_needs plan (collocated_of plan l x) l.row)
 build_row plan s l x all =
     let P : Line × ℕ → Type 0 = λ need. need.1 ≤ count_of plan s need.0 in
-    let row = row_needs plan (picture_at plan l.picture).collocated l.row in
+    let row = row_needs plan (collocated_of plan l x) l.row in
     left_part P row (reach_needs plan l x) (right_part P (above_needs plan l x) (row ++ reach_needs plan l x) all)
 
 pub build_reach : (plan : FlightRows) (s : CoreState) (l : Line) (x : ℕ) → AreCounted plan s (build_needs plan l x) → AreCounted plan s (reach_needs plan l x)
 build_reach plan s l x all =
     let P : Line × ℕ → Type 0 = λ need. need.1 ≤ count_of plan s need.0 in
-    let row = row_needs plan (picture_at plan l.picture).collocated l.row in
+    let row = row_needs plan (collocated_of plan l x) l.row in
     right_part P row (reach_needs plan l x) (right_part P (above_needs plan l x) (row ++ reach_needs plan l x) all)

@@ -10,7 +10,7 @@ use Rattle.hv_base.specs.declared.row_range.Reference.TheVariants.{Base, Flight}
 use Rattle.hv_base.specs.declared.row_range.RowRange.{RowRange}
 use Rattle.board_core.specs.declared.event.Event.TheVariants.{Fault}
 use Rattle.board_core.specs.Places.{b_line, IsLine, lines_of, ticket_of, unit_of, width_of}
-use Rattle.board_core.specs.Needs.{build_needs, range_needs, reach_needs, read_needs, reference_needs, row_needs}
+use Rattle.board_core.specs.Needs.{build_needs, collocated_of, range_needs, reach_needs, read_needs, reference_needs, row_needs}
 use Rattle.board_core.specs.States.{CoreState, AreCounted, IsBad, IsBefore, IsBuildable, IsNext, IsReadable, IsReady, count_of, is_parsed}
 use Rattle.board_core.specs.Runs.{IsEnded, IsUnfinished}
 use Rattle.board_core.specs.Progress.{AreDone, IsLeft}
@@ -123,13 +123,24 @@ reach_counted plan s l x flight line full =
           absurd (omega (arith, few, inside))
     ])
 
+-- the collocated picture of a unit's slice is none, a base or an earlier picture
+collocated_earlier : (plan : FlightRows) (l : Line) (x : ℕ) → IsFlight plan → IsLine plan l → IsNoneOrEarlier l.picture (collocated_of plan l x)
+collocated_earlier plan l x flight line =
+    let references : List (Option Reference) = (picture_at plan l.picture).collocated in
+    let at : ℕ = l.row * width_of plan l + x in
+    let earlier = (flight.earlier l.picture (line_inside plan l line)).collocated in
+    elim (cases_lt at (length references)) [
+      | inl h ↦ earlier at None h
+      | inr h ↦ subst (IsNoneOrEarlier l.picture) (sym (get_or_past references at None h)) tt
+    ]
+
 -- what building a unit of the first line that is left needs is counted
 pub build_counted : (plan : FlightRows) (s : CoreState) (l : Line) (x : ℕ) → IsFlight plan → IsLine plan l → IsLeft plan s l
     → AreDone plan s (ticket_of plan l) → AreCounted plan s (build_needs plan l x)
 build_counted plan s l x flight line left earlier =
     let full = earlier_full plan s l line left earlier in
     build_all plan s l x (above_counted plan s l x line full)
-    (row_counted plan s l (picture_at plan l.picture).collocated l.row (flight.earlier l.picture (line_inside plan l line)).collocated full)
+    (row_counted plan s l (collocated_of plan l x) l.row (collocated_earlier plan l x flight line) full)
     (reach_counted plan s l x flight line full)
 
 -- the next unit of the first line that is left, where the line is drawn

@@ -28,6 +28,14 @@ row_needs plan (Some (Flight picture)) row =
     then ((b_line picture row, (picture_at plan picture).width) ∷ [])
     else []
 
+-- a coding tree unit's number in its picture, in raster order
+abbrev pub unit_in_picture : FlightRows → Line → ℕ → ℕ
+unit_in_picture plan l x = l.row * width_of plan l + x
+
+-- the collocated picture of the slice of the coding tree unit x of a line, where it has one
+abbrev pub collocated_of : FlightRows → Line → ℕ → Option Reference
+collocated_of plan l x = slice_index_or (picture_at plan l.picture).collocated (unit_in_picture plan l x) None
+
 -- the rows of a range, as many as the picture has
 abbrev pub reference_needs : FlightRows → Reference → ℕ → ℕ → List (Line × ℕ)
 reference_needs plan (Base _) first last = []
@@ -41,17 +49,17 @@ range_needs plan range = reference_needs plan range.picture range.first range.la
 
 -- the rows that the coding tree unit x of a line reaches
 abbrev pub reach_needs : FlightRows → Line → ℕ → List (Line × ℕ)
-reach_needs plan l x = flat_map (range_needs plan) (slice_index_or (picture_at plan l.picture).reach (l.row * width_of plan l + x) [])
+reach_needs plan l x = flat_map (range_needs plan) (slice_index_or (picture_at plan l.picture).reach (unit_in_picture plan l x) [])
 
 -- what parsing the coding tree unit x of a line needs
 abbrev pub read_needs : FlightRows → Line → ℕ → List (Line × ℕ)
 read_needs plan l x = above_needs plan l x
 
--- what building it needs: the same, the row of the collocated picture, and the rows that it reaches
+-- what building it needs: the same, the row of the collocated picture of its slice, and the rows that it reaches
 abbrev pub build_needs : FlightRows → Line → ℕ → List (Line × ℕ)
 build_needs plan l x =
     above_needs plan l x
-    ++ (row_needs plan (picture_at plan l.picture).collocated l.row ++ reach_needs plan l x)
+    ++ (row_needs plan (collocated_of plan l x) l.row ++ reach_needs plan l x)
 
 -- the needs of an event; those of a fault are what parsing the unit needs
 abbrev pub IsNeedsOf : FlightRows → Event → List (Line × ℕ) → Type 0

@@ -5,15 +5,15 @@ ghost use Rattle.std.specs.Option.{option_to_list};
 ghost use Rattle.hv_base.specs.Flight.{picture_at, units_of};
 ghost use Rattle.hv_base.specs.declared.line.Line.{Line};
 ghost use Rattle.board_core.specs.Places.{IsLine, IsPlaceOf, lines_of, ticket_of, width_of};
-ghost use Rattle.board_core.specs.Needs.{build_needs, range_needs, reach_needs, read_needs, reference_needs, row_needs};
+ghost use Rattle.board_core.specs.Needs.{build_needs, collocated_of, range_needs, reach_needs, read_needs, reference_needs, row_needs};
 ghost use Rattle.std.specs.List.{flat_map};
 ghost use Rattle.board_core.specs.States.{after, count_of, is_parsed, lesser, opening, AreCounted, IsBad, IsBuildable, IsNext, IsReadable, IsReady};
 
 mod progress;
 
 use crate::event::Event;
-use crate::event_needs::{above, b_line, reach_at, whole_row};
-use crate::pictures::{collocated_at, rows_end, width_at};
+use crate::event_needs::{above, b_line, collocated_at, reach_at, whole_row};
+use crate::pictures::{rows_end, width_at};
 use crate::places::Places;
 use hv_base::{FlightPlan, Line, Reference, RowRange, Unit};
 use std::alloc::{AllocError, Global};
@@ -199,7 +199,7 @@ impl<'a> Core<'a> {
         if !self.is_above_counted(line, x) {
             return false;
         }
-        if !self.is_collocated_counted(line) {
+        if !self.is_collocated_counted(line, x) {
             return false;
         }
         self.is_reach_counted(line, x)
@@ -212,13 +212,13 @@ impl<'a> Core<'a> {
         self.are_ranges_counted(reach_at(self.plan(), line, x))
     }
 
-    fn is_collocated_counted(&self, line: Line) -> bool
+    fn is_collocated_counted(&self, line: Line, x: u32) -> bool
         ensures { IsTrue result
             ↔ AreCounted self.now.plan self.now.state
-            (row_needs self.now.plan (picture_at self.now.plan line.picture).collocated line.row) }
+            (row_needs self.now.plan (collocated_of self.now.plan line x) line.row) }
     {
         let plan = self.plan();
-        self.is_counted(whole_row(plan, collocated_at(plan, line.picture), line.row))
+        self.is_counted(whole_row(plan, collocated_at(plan, line, x), line.row))
     }
 
     fn is_counted(&self, need: Option<(Line, u64)>) -> bool

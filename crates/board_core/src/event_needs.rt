@@ -4,12 +4,12 @@ ghost use Rattle.hv_base.specs.declared.line.Line.{Line};
 ghost use Rattle.std.specs.Prelude.{ℕ, ◌≡◌, ◌+◌, ◌*◌, ◌≤◌, ◌↔◌, [], slice_index_or, IfSome, None};
 ghost use Rattle.std.specs.Option.{option_to_list};
 ghost use Rattle.hv_base.specs.Flight.{picture_at, units_of};
-ghost use Rattle.board_core.specs.Needs.{above_needs, read_needs, row_needs, IsNeedsOf};
+ghost use Rattle.board_core.specs.Needs.{above_needs, collocated_of, read_needs, row_needs, unit_in_picture, IsNeedsOf};
 ghost use Rattle.board_core.specs.Places.{IsLine, IsPlaceOf, width_of};
 
 use crate::event::Event;
 use crate::need_list::Needs;
-use crate::pictures::{collocated_at, rows_at, sync_at, width_at};
+use crate::pictures::{rows_at, sync_at, width_at};
 use crate::places::row_and_column;
 use hv_base::{FlightPlan, Line, Phase, Reference, RowRange, Unit};
 
@@ -24,7 +24,7 @@ pub fn needs<'a>(plan: &'a FlightPlan, event: Event) -> Needs<'a>
         Event::Build(line, x) => Needs::new(
             plan,
             above(plan, line, x),
-            whole_row(plan, collocated_at(plan, line.picture), line.row),
+            whole_row(plan, collocated_at(plan, line, x), line.row),
             reach_at(plan, line, x),
         ),
         Event::Fault(unit) => fault_needs(plan, unit),
@@ -89,9 +89,21 @@ pub fn whole_row(plan: &FlightPlan, reference: Option<Reference>, row: u32) -> O
     }
 }
 
+/// The collocated picture of the slice of the coding tree unit `x` of a line, where it has one.
+pub fn collocated_at(plan: &FlightPlan, line: Line, x: u32) -> Option<Reference>
+    ensures { result ≡ collocated_of plan.now line x }
+{
+    match plan.pictures().get(line.picture as usize) {
+        Some(found) => found.collocated(
+            (u64::from(line.row) * u64::from(found.width()) + u64::from(x)) as usize,
+        ),
+        None => None,
+    }
+}
+
 /// The row ranges that the coding tree unit `x` of a line reads.
 pub fn reach_at<'a>(plan: &'a FlightPlan, line: Line, x: u32) -> &'a [RowRange]
-    ensures { result.now ≡ slice_index_or (picture_at plan.now line.picture).reach (line.row * width_of plan.now line + x) [] }
+    ensures { result.now ≡ slice_index_or (picture_at plan.now line.picture).reach (unit_in_picture plan.now line x) [] }
 {
     match plan.pictures().get(line.picture as usize) {
         Some(found) => found.reach(

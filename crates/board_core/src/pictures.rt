@@ -3,7 +3,7 @@
 ghost use Rattle.std.specs.Prelude.{◌≡◌, ◌+◌, ◌≤◌, min};
 ghost use Rattle.hv_base.specs.Flight.{picture_at};
 
-use hv_base::{FlightPlan, Reference};
+use hv_base::FlightPlan;
 
 /// The rows of a picture, 0 where the flight has no such picture.
 pub fn rows_at(plan: &FlightPlan, picture: u32) -> u32
@@ -34,16 +34,6 @@ pub fn sync_at(plan: &FlightPlan, picture: u32) -> bool
     match plan.pictures().get(picture as usize) {
         Some(found) => found.sync(),
         None => false,
-    }
-}
-
-/// The collocated picture of a picture, where it has one.
-pub fn collocated_at(plan: &FlightPlan, picture: u32) -> Option<Reference>
-    ensures { result ≡ (picture_at plan.now picture).collocated }
-{
-    match plan.pictures().get(picture as usize) {
-        Some(found) => found.collocated(),
-        None => None,
     }
 }
 

@@ -5,7 +5,7 @@ use std::alloc::{AllocError, Global};
 /// A flight of one picture of three by two units, with the row above needed.
 fn plan_of(alloc: Global) -> Result<FlightPlan, AllocError> {
     let mut plan = FlightPlan::new(alloc);
-    let picture = FlightPicture::new(3, 2, true, None, Vec::new(alloc));
+    let picture = FlightPicture::new(3, 2, true, Vec::new(alloc), Vec::new(alloc));
     if plan.takes(&picture) {
         plan.push(picture)?;
     }

@@ -4,13 +4,14 @@ use Rattle.hv_base.specs.declared.row_range.Reference.{Reference}
 use Rattle.hv_base.specs.declared.row_range.Reference.TheVariants.{Base, Flight}
 use Rattle.hv_base.specs.declared.row_range.RowRange.{RowRange}
 
--- a picture's coding tree units a row, its rows, whether entropy coding sync is on, the collocated picture, and the
--- row ranges that each coding tree unit in raster order reads; one past the list's end reads none
+-- a picture's coding tree units a row, its rows, whether entropy coding sync is on, and, by coding tree unit in raster
+-- order, the collocated picture of the unit's slice and the row ranges that the unit reads; a unit past a list's end has
+-- none
 pub record PictureRows : Type 0 where
   pub width : ℕ
   pub rows : ℕ
   pub sync : Bool
-  pub collocated : Option Reference
+  pub collocated : List (Option Reference)
   pub reach : List (List RowRange)
 
 -- the pictures in decoding order, and the numbers of the units at which a rule is broken
@@ -44,12 +45,12 @@ IsNoneOrEarlier n (Some r) = IsEarlier n r
 
 -- all that a picture reads is in bases or in the first n pictures of the flight
 pub record ReadsEarlier (n : ℕ) (p : PictureRows) : Type 0 where
-  pub collocated : IsNoneOrEarlier n p.collocated
+  pub collocated : All (IsNoneOrEarlier n) p.collocated
   pub reach : All (λ ranges. All (λ (r : RowRange). IsEarlier n r.picture) ranges) p.reach
 
 -- what stands at a place that no picture has
 abbrev pub no_picture : PictureRows
-no_picture = record { width = 0; rows = 0; sync = false; collocated = None; reach = [] }
+no_picture = record { width = 0; rows = 0; sync = false; collocated = []; reach = [] }
 
 -- the picture at a place of the flight
 abbrev pub picture_at : FlightRows → ℕ → PictureRows

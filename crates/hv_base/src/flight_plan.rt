@@ -1,6 +1,6 @@
 //! What a flight of pictures is to do: the pictures that are decoded together, each with the rows that it waits for.
 
-ghost use Rattle.std.specs.Prelude.{◌≡◌, ◌<◌, ◌≤◌, ◌++◌, ◌∷◌, ◌↔◌, [], length, OnOk, OnErr, IsTrue, All, slice_index_or};
+ghost use Rattle.std.specs.Prelude.{◌≡◌, ◌<◌, ◌≤◌, ◌++◌, ◌∷◌, ◌↔◌, [], None, length, OnOk, OnErr, IsTrue, All, slice_index_or};
 ghost use Rattle.hv_base.specs.Flight.{IsEarlier, IsFlight, IsInRange, IsNoneOrEarlier, ReadsEarlier, units_of};
 
 use crate::row_range::{Reference, RowRange, RowRanges};
@@ -14,14 +14,14 @@ pub const MAX_SIDE_IN_CTBS: u32 = 512;
 /// The most pictures of a flight.
 pub const MAX_FLIGHT_PICTURES: usize = 65_536;
 
-/// One picture of a flight: its size in coding tree blocks, whether entropy coding sync is on, and what it reads of
-/// other pictures. Contracts see a `PictureRows`.
+/// One picture of a flight: its size in coding tree blocks, whether entropy coding sync is on, and what its coding tree
+/// units read of other pictures. Contracts see a `PictureRows`.
 #[derive(Drop)]
 pub struct FlightPicture {
     width: u32,
     rows: u32,
     sync: bool,
-    collocated: Option<Reference>,
+    collocated: Vec<Option<Reference>>,
     reach: Vec<RowRanges>,
 }
 
@@ -35,7 +35,7 @@ impl Model for FlightPicture {
           width = p.width;
           rows = p.rows;
           sync = p.sync;
-          collocated = p.collocated;
+          collocated = p.collocated.items;
           reach = p.reach.items;
         } };
 
@@ -45,20 +45,20 @@ impl Model for FlightPicture {
           width = p.width;
           rows = p.rows;
           sync = p.sync;
-          collocated = p.collocated;
+          collocated = p.collocated.items;
           reach = p.reach.items;
         }) };
 }
 
 impl FlightPicture {
-    /// A picture of `rows` rows of `width` coding tree units. `collocated` is the collocated picture, where there is
-    /// one; the item of `reach` at a coding tree unit in raster order has the rows that the unit reads, and a unit
-    /// past its end reads none.
+    /// A picture of `rows` rows of `width` coding tree units. At a coding tree unit in raster order the item of
+    /// `collocated` is the collocated picture of the unit's slice, where it has one (8.5.3.2.8), and that of `reach`
+    /// has the rows that the unit reads; a unit past the end has none.
     pub fn new(
         width: u32,
         rows: u32,
         sync: bool,
-        collocated: Option<Reference>,
+        collocated: Vec<Option<Reference>>,
         reach: Vec<RowRanges>,
     ) -> FlightPicture
         requires some_width { 1 ≤ width }
@@ -66,7 +66,7 @@ impl FlightPicture {
         requires some_rows { 1 ≤ rows }
         requires rows { rows ≤ 512 }
         ensures { result
-            ≡ record { width = width; rows = rows; sync = sync; collocated = collocated; reach = reach.items } }
+            ≡ record { width = width; rows = rows; sync = sync; collocated = collocated.items; reach = reach.items } }
     {
         FlightPicture {
             width,
@@ -100,11 +100,14 @@ impl FlightPicture {
         self.sync
     }
 
-    /// The collocated picture, where there is one.
-    pub fn collocated(&self) -> Option<Reference>
-        ensures { result ≡ self.now.collocated }
+    /// The collocated picture of the slice of the coding tree unit at `unit`, in raster order, where it has one.
+    pub fn collocated(&self, unit: usize) -> Option<Reference>
+        ensures { result ≡ slice_index_or self.now.collocated unit None }
     {
-        self.collocated
+        match self.collocated.get(unit) {
+            Some(reference) => *reference,
+            None => None,
+        }
     }
 
     /// The rows of other pictures that the coding tree unit at `unit`, in raster order, reads.
@@ -125,12 +128,11 @@ impl FlightPicture {
     }
 
     fn collocates_earlier(&self, count: usize) -> bool
-        ensures { IsTrue result ↔ IsNoneOrEarlier count self.now.collocated }
+        ensures { IsTrue result ↔ All (IsNoneOrEarlier count) self.now.collocated }
     {
-        match self.collocated {
-            Some(reference) => reference.is_earlier(count),
-            None => true,
-        }
+        self.collocated
+            .iter()
+            .all(|reference| is_none_or_earlier(*reference, count))
     }
 
     fn reaches_earlier(&self, count: usize) -> bool
@@ -142,6 +144,16 @@ impl FlightPicture {
             }
         }
         true
+    }
+}
+
+/// Whether this is no reference, or one to a base or to one of the first `count` pictures of the flight.
+fn is_none_or_earlier(reference: Option<Reference>, count: usize) -> bool
+    ensures { IsTrue result ↔ IsNoneOrEarlier count reference }
+{
+    match reference {
+        Some(reference) => reference.is_earlier(count),
+        None => true,
     }
 }
 

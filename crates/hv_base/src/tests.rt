@@ -34,7 +34,7 @@ fn answers_read_as_documented(rt: HostRuntime) {
 /// Whether a plan takes a picture and a bad unit of it.
 fn is_planned(alloc: Global) -> bool {
     let mut plan = FlightPlan::new(alloc);
-    let picture = FlightPicture::new(3, 2, true, Some(Reference::Base(7)), Vec::new(alloc));
+    let picture = FlightPicture::new(3, 2, true, Vec::new(alloc), Vec::new(alloc));
     let is_taken = plan.takes(&picture) && plan.push(picture).is_ok();
     is_taken && plan.units() == 6 && plan.push_bad(5).is_ok() && plan.bad() == [5].as_slice()
 }
