@@ -9,8 +9,8 @@ ghost use Rattle.spec_transforms.specs.Transforms.{IsResidual, skipped};
 use crate::matrix::size_of;
 use crate::products::residual_of;
 
-/// The residuals `out` of the scaled coefficients `d` of a block of 2^`log2` columns and rows whose transform is skipped,
-/// both row after row; `depth` is the bit depth of the component.
+/// The residuals `out` of the scaled coefficients `d` of a block of 2^`log2` columns and rows whose transform is
+/// skipped, both row after row; `depth` is the bit depth of the component.
 pub fn skip(d: &[i32], log2: u32, depth: u32, out: &mut [i32])
     requires depth { IsDepth depth }
     requires log2 { IsSize log2 }

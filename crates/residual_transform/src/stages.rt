@@ -12,8 +12,8 @@ use crate::products::{column_sums, held, residual_of};
 
 /// The residuals `out` of the scaled coefficients `d` of a block of 2^`log2` columns and rows, both row after row.
 ///
-/// `dst` asks for the transform of sines, which 4x4 luma blocks of intra prediction have; `depth` is the bit depth of the
-/// component.
+/// `dst` asks for the transform of sines, which 4x4 luma blocks of intra prediction have; `depth` is the bit depth of
+/// the component.
 pub fn inverse(d: &[i32], log2: u32, dst: bool, depth: u32, out: &mut [i32])
     requires depth { IsDepth depth }
     requires log2 { IsSize log2 }

@@ -69,8 +69,8 @@ pub static COSINE_MATRIX: [i32; 1024] = [
      90, -90,  88, -85,  82, -78,  73, -67,  61, -54,  46, -38,  31, -22,  13,  -4,
 ];
 
-/// The entries of the matrix of cosines by angle, 0 to 32 in units of a sixty-fourth of half a turn. Row 0 of the matrix
-/// has 64 for 1, and no entry has the angle 0.
+/// The entries of the matrix of cosines by angle, 0 to 32 in units of a sixty-fourth of half a turn. Row 0 of the
+/// matrix has 64 for 1, and no entry has the angle 0.
 #[rattlefmt::skip]
 pub static COSINES: [i32; 33] = [
      0, 90, 90, 90, 89, 88, 87, 85, 83, 82, 80, 78, 75, 73, 70, 67, 64,
