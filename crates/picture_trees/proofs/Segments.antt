@@ -126,11 +126,11 @@ kept_for p number first r units s at e begins kept =
     subst P (sym (ap (λ (a : SegmentAt). a.picture) e)) (subst Q (sym begins) kept)
 
 -- a segment that isn't read whole ends the picture
-pub reached_end : (p : PicturePlan) (number first k : ℕ) (r next : Reading) (given more : List TreeUnit) (whole : Result Progress Halt) (s : SegmentPlan) (at : SegmentAt) (error : ReadError) → at ≡ next_segment p number first s
-    → number < length p.segments → (w : IsReached p number first r given whole) → ReadsSegment (Err error) at.picture k next more (segment_read at (progress_of r w.units given))
-    → ReadsPicture (Err error) more whole
-reached_end p number first k r next given more whole s at errors.Memory e lt w got = tt
-reached_end p number first k r next given more whole s at (errors.Broken breach nal ctu) e lt w got = and_then_segment p number first r given whole s at _ e lt w got
+pub reached_end : (p : PicturePlan) (number first k : ℕ) (r next : Reading) (given : List TreeUnit) (tells : List TreeUnit → Type 0) (whole : Result Progress Halt) (s : SegmentPlan) (at : SegmentAt) (error : ReadError) → at ≡ next_segment p number first s
+    → number < length p.segments → (w : IsReached p number first r given whole) → ReadsSegment (Err error) at.picture k next tells (segment_read at (progress_of r w.units given))
+    → ReadsPicture (Err error) tells whole
+reached_end p number first k r next given tells whole s at errors.Memory e lt w got = tt
+reached_end p number first k r next given tells whole s at (errors.Broken breach nal ctu) e lt w got = (got.0, got.1, (and_then_segment p number first r given whole s at _ e lt w got.2))
 
 -- behind the last segment
 pub reached_last : (p : PicturePlan) (number first : ℕ) (r : Reading) (given : List TreeUnit) (whole : Result Progress Halt) → length p.segments ≤ number → IsReached p number first r given whole → AreAll given whole

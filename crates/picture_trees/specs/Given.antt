@@ -14,9 +14,13 @@ pub record AreAll (given : List TreeUnit) (read : Result Progress Halt) : Type 0
   pub all : read ≡ Ok progress
   pub same : progress.given ≡ given
 
--- the units that were handed over and the answer are those of reading the picture; where there was no memory nothing is
--- said
-abbrev pub ReadsPicture : Result (Unit {0}) ReadError → List TreeUnit → Result Progress Halt → Type 0
-ReadsPicture (Ok x) given read = AreAll given read
-ReadsPicture (Err error.Memory) given read = Unit {0}
-ReadsPicture (Err (error.Broken breach nal ctu)) given read = read ≡ Err (record { given = given; broken = record { breach = breach; nal = nal; ctu = ctu } })
+-- this holds of units of which it is told that they were handed over
+abbrev pub Told : (List TreeUnit → Type 0) → (List TreeUnit → Type 0) → Type 0
+Told tells holds = (given : List TreeUnit) × tells given × holds given
+
+-- the units that are told to be handed over and the answer are those of reading the picture; where there was no memory
+-- nothing is said
+abbrev pub ReadsPicture : Result (Unit {0}) ReadError → (List TreeUnit → Type 0) → Result Progress Halt → Type 0
+ReadsPicture (Ok x) tells read = Told tells (λ given. AreAll given read)
+ReadsPicture (Err error.Memory) tells read = Unit {0}
+ReadsPicture (Err (error.Broken breach nal ctu)) tells read = Told tells (λ given. read ≡ Err (record { given = given; broken = record { breach = breach; nal = nal; ctu = ctu } }))

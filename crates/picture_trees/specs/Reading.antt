@@ -8,6 +8,7 @@ use Rattle.spec_picture_data.specs.Picture.{TreeUnit, Progress, Halt, SegmentAt,
 use Rattle.spec_picture_data.specs.Shapes.{picture_shape}
 use Rattle.plan_types.specs.declared.segment_plan.SegmentPlan.{SegmentPlan}
 use Rattle.plan_types.specs.declared.picture_plan.PicturePlan.{PicturePlan}
+use Rattle.picture_trees.specs.Given.{Told}
 use Rattle.picture_trees.specs.Beside.{UnitsBeside, bottom_of, no_column, right_of}
 use Rattle.picture_trees.specs.declared.trees.ReadError.{ReadError}
 use Rattle.picture_trees.specs.declared.trees.ReadError.TheVariants as error
@@ -50,10 +51,10 @@ pub record IsBehind (picture : PictureShape) (address : ℕ) (r : Reading) (give
   pub told : read ≡ Ok (progress_of r units given)
 
 -- by a result: all units of a segment were handed over, or those before the rule that is broken
-abbrev pub ReadsSegment : Result (Unit {0}) ReadError → PictureShape → ℕ → Reading → List TreeUnit → Result Progress Halt → Type 0
-ReadsSegment (Ok x) picture address r given read = IsBehind picture address r given read
-ReadsSegment (Err error.Memory) picture address r given read = Unit {0}
-ReadsSegment (Err (error.Broken breach nal ctu)) picture address r given read = read ≡ Err (record { given = given; broken = record { breach = breach; nal = nal; ctu = ctu } })
+abbrev pub ReadsSegment : Result (Unit {0}) ReadError → PictureShape → ℕ → Reading → (List TreeUnit → Type 0) → Result Progress Halt → Type 0
+ReadsSegment (Ok x) picture address r tells read = Told tells (λ given. IsBehind picture address r given read)
+ReadsSegment (Err error.Memory) picture address r tells read = Unit {0}
+ReadsSegment (Err (error.Broken breach nal ctu)) picture address r tells read = Told tells (λ given. read ≡ Err (record { given = given; broken = record { breach = breach; nal = nal; ctu = ctu } }))
 
 -- within a segment: some units were read, and what is to come gives the whole
 pub record IsWithin (at : SegmentAt) (address : ℕ) (r : Reading) (given : List TreeUnit) (whole : Result Progress Halt) : Type 0 where

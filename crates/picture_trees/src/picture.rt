@@ -1,9 +1,9 @@
 //! All coding tree units of a picture.
 
-ghost use Rattle.std.specs.Prelude.{◌≡◌, ◌+◌, ◌*◌, ◌<◌, ◌≤◌, drop, length};
+ghost use Rattle.std.specs.Prelude.{◌≡◌, ◌+◌, ◌*◌, ◌<◌, ◌≤◌, List, drop, length};
 ghost use Rattle.plan_types.specs.declared.segment_plan.SegmentPlan.{SegmentPlan};
 ghost use Rattle.header_types.specs.SequenceParameterSets.{size_in_ctbs, width_in_ctbs};
-ghost use Rattle.spec_picture_data.specs.Picture.{picture_read};
+ghost use Rattle.spec_picture_data.specs.Picture.{TreeUnit, picture_read};
 ghost use Rattle.spec_picture_data.specs.Shapes.{end_of};
 ghost use Rattle.picture_trees.specs.Given.{ReadsPicture};
 ghost use Rattle.picture_trees.specs.Reading.{next_segment};
@@ -25,7 +25,7 @@ pub fn read_picture<T: Trees>(
     plan: &PicturePlan,
     trees: &mut T,
 ) -> Result<(), ReadError>
-    ensures value { ReadsPicture result (T.given trees.new) (picture_read plan.now (T.given trees.old)) }
+    ensures value { (given : List TreeUnit) → T.tells trees.old given → ReadsPicture result (T.tells trees.new) (picture_read plan.now given) }
 {
     let Ok(mut reading) = Reading::new(alloc, &Layout::new(plan)) else {
         return Err(ReadError::Memory);

@@ -1,6 +1,6 @@
 //! Who is handed the coding tree units of a picture, and how reading ends.
 
-ghost use Rattle.std.specs.Prelude.{◌≡◌, List, [], ◌∷◌, ◌++◌, OnErr, OnOk};
+ghost use Rattle.std.specs.Prelude.{List, [], ◌∷◌, ◌++◌, OnOk};
 ghost use Rattle.spec_picture_data.specs.Picture.{TreeUnit};
 ghost use Rattle.picture_trees.specs.Given.{tree_unit};
 
@@ -10,14 +10,13 @@ use std::alloc::AllocError;
 
 /// Is handed each coding tree unit of a picture once it is read.
 pub trait Trees {
-    /// The units that it was handed, in order.
-    ghost given: { Self → List TreeUnit };
+    /// Whether these may be the units that it was handed, in order. Who tells nothing of them takes any.
+    ghost tells: { Self → List TreeUnit → Type 0 };
 
     /// Takes what was read of the coding tree unit at address `ctu`, in raster order, of the picture's slice segment with
     /// this number, from 0.
     fn unit(&mut self, segment: usize, ctu: u32, records: &Records) -> Result<(), AllocError>
-        ensures ok { OnOk result (Self.given self.new ≡ Self.given self.old ++ tree_unit segment ctu records.now ∷ []) }
-        ensures err { OnErr result (Self.given self.new ≡ Self.given self.old) };
+        ensures { (given : List TreeUnit) → Self.tells self.old given → OnOk result (Self.tells self.new (given ++ tree_unit segment ctu records.now ∷ [])) };
 }
 
 /// Why the coding tree units of a picture weren't all read.

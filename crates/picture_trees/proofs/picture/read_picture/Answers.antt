@@ -9,7 +9,7 @@ loop-number-init g c =
     let P : PictureShape → Type 0 = λ l. IsKept l 0 c.in-Ok.reading.beside [] in
     record {
       inside = omega arith;
-      told = reached_first c.args.plan.now c.in-Ok.reading (g.T.Trees.given c.args.trees.now) (subst P c.new.ensures c.in-Ok.ensures.kept) c.in-Ok.ensures.before;
+      told = λ given tells. (given, tells, (reached_first c.args.plan.now c.in-Ok.reading given (subst P c.new.ensures c.in-Ok.ensures.kept) c.in-Ok.ensures.before));
     }
 
 pub returns-in-Err : goal.returns-in-Err
@@ -18,12 +18,14 @@ returns-in-Err g c =
     let lt : number < length c.args.plan.now.segments = omega (arith, c.loop-number-test.true) in
     let s = item_of c.args.plan.now.segments number lt in
     let segment = c.segment_data-segment in
-    let w = c.loop-number.invariant.told in
     let e = segment.ensures.value s in
     record {
-      value = reached_end c.args.plan.now number c.loop-number.first (segment.result.shape.first + segment.result.shape.count) c.loop-number.reading c.read_segment.new.self
-          (g.T.Trees.given c.loop-number.trees) (g.T.Trees.given c.read_segment.new.trees) _ s segment.result c.in-Err.error e lt w
-          (c.in-Err.ensures w.units (kept_for c.args.plan.now number c.loop-number.first c.loop-number.reading w.units s segment.result e segment.ensures.first w.kept));
+      value = λ given tells.
+          let t = c.loop-number.invariant.told given tells in
+          let w = t.2 in
+          reached_end c.args.plan.now number c.loop-number.first (segment.result.shape.first + segment.result.shape.count) c.loop-number.reading c.read_segment.new.self
+          t.0 (g.T.Trees.tells c.read_segment.new.trees) _ s segment.result c.in-Err.error e lt w
+          (c.in-Err.ensures w.units t.0 (kept_for c.args.plan.now number c.loop-number.first c.loop-number.reading w.units s segment.result e segment.ensures.first w.kept) t.1);
     }
 
 pub loop-number-preserved : goal.loop-number-preserved
@@ -32,16 +34,23 @@ loop-number-preserved g c =
     let lt : number < length c.args.plan.now.segments = omega (arith, c.loop-number-test.true) in
     let s = item_of c.args.plan.now.segments number lt in
     let segment = c.segment_data-segment in
-    let w = c.loop-number.invariant.told in
     let e = segment.ensures.value s in
     record {
       inside = omega (arith, c.behind-first.ensures.value, segment.ensures.inside);
-      told = rw c.behind-first.ensures.value (reached_more c.args.plan.now number c.loop-number.first c.loop-number.reading c.read_segment.new.self
-          (g.T.Trees.given c.loop-number.trees) (g.T.Trees.given c.read_segment.new.trees) _ s segment.result e lt segment.ensures.behind w
-          (c.in_default-read_segment.ensures w.units (kept_for c.args.plan.now number c.loop-number.first c.loop-number.reading w.units s segment.result e segment.ensures.first w.kept)));
+      told = λ given tells.
+          let t = c.loop-number.invariant.told given tells in
+          let w = t.2 in
+          let got = c.in_default-read_segment.ensures w.units t.0 (kept_for c.args.plan.now number c.loop-number.first c.loop-number.reading w.units s segment.result e segment.ensures.first w.kept) t.1 in (
+            got.0,
+            got.1,
+            (rw c.behind-first.ensures.value (reached_more c.args.plan.now number c.loop-number.first c.loop-number.reading c.read_segment.new.self
+                t.0 got.0 _ s segment.result e lt segment.ensures.behind w got.2)),
+          );
     }
 
 pub returns : goal.returns
 returns g c = record {
-  value = reached_last c.args.plan.now c.loop-number.number c.loop-number.first c.loop-number.reading (g.T.Trees.given c.loop-number.trees) _ (omega (arith, c.loop-number-test.false)) c.loop-number.invariant.told;
+  value = λ given tells.
+      let t = c.loop-number.invariant.told given tells in
+      (t.0, t.1, (reached_last c.args.plan.now c.loop-number.number c.loop-number.first c.loop-number.reading t.0 _ (omega (arith, c.loop-number-test.false)) t.2));
 }

@@ -1,11 +1,13 @@
-use Rattle.std.proofs.Common.{◌≡◌, ◌≤◌}
+use Rattle.std.proofs.Common.{◌≡◌, ◌≤◌, List}
 use Rattle.header_types.specs.SequenceParameterSets.{size_in_ctbs}
-use Rattle.spec_picture_data.specs.Picture.{picture_read}
+use Rattle.spec_picture_data.specs.Picture.{TreeUnit, picture_read}
+use Rattle.picture_trees.specs.Given.{Told}
 use Rattle.picture_trees.specs.Reading.{IsReached}
 use Rattle.picture_trees.proofs.picture.read_picture.Given as goal
 
 abbrev pub invariant-loop-number : goal.invariant-loop-number
 invariant-loop-number g l = record {
   inside : l.first ≤ size_in_ctbs l.plan.sps;
-  told : IsReached l.plan l.number l.first l.reading (g.T.Trees.given l.trees) (picture_read l.plan (g.T.Trees.given l.fn.trees));
+  told : (given : List TreeUnit) → g.T.Trees.tells l.fn.trees given
+      → Told (g.T.Trees.tells l.trees) (λ more. IsReached l.plan l.number l.first l.reading more (picture_read l.plan given));
 }
