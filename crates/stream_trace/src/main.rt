@@ -6,6 +6,7 @@
 //! With the word `pictures` it prints a line for each planned picture instead, in decoding order: its number, its picture
 //! order count, its `nal_unit_type`, its width and its height inside the conformance window; with the word `slices` the
 //! fields of the picture's slice segment headers follow, and with the word `outputs` the pictures come in output order.
+//! With the word `trees` the coding trees of pictures of I slices come, a line each for what was read.
 //! What stops the stream is told on the error stream then, and by the exit status: 2 where it breaks a rule, 3 where it
 //! meets a limit.
 //!
@@ -26,12 +27,15 @@ mod set_trace;
 mod slice_lines;
 mod sps_lines;
 mod trace_error;
+mod tree_lines;
+mod tree_trace;
 mod weight_lines;
 
 use crate::output_trace::OutputTrace;
 use crate::plan_trace::{PlanLines, PlanTrace};
 use crate::set_trace::print_set;
 use crate::trace_error::TraceError;
+use crate::tree_trace::TreeTrace;
 use hv_base::{Nal, Outcome, Status, Stop};
 use nal_stream::{Framer, Next};
 use std::alloc::Global;
@@ -102,6 +106,7 @@ fn asked_for(rt: &HostRuntime, word: &str) -> Result<Trace, TraceError> {
         "pictures" => plan(rt, PlanLines::Pictures),
         "slices" => plan(rt, PlanLines::Slices),
         "outputs" => plan(rt, PlanLines::Outputs(OutputTrace::new(rt.alloc()))),
+        "trees" => plan(rt, PlanLines::Trees(TreeTrace::new(rt.alloc()))),
         _ => Err(TraceError::Usage),
     }
 }

@@ -3,6 +3,7 @@
 use crate::output_trace::{OutputTrace, PictureLine};
 use crate::slice_lines::slice_lines;
 use crate::trace_error::TraceError;
+use crate::tree_trace::TreeTrace;
 use hv_base::Stop;
 use nal_stream::Next;
 use picture_plan::{Flight, Planned, Planner};
@@ -19,6 +20,8 @@ pub(crate) enum PlanLines {
     Slices,
     /// A line a picture, in output order.
     Outputs(OutputTrace),
+    /// The coding trees of pictures of I slices, in decoding order.
+    Trees(TreeTrace),
 }
 
 /// Prints pictures as they are planned.
@@ -44,7 +47,10 @@ impl PlanTrace {
 
     /// What stopped the stream, if anything did.
     pub(crate) fn stop(&self) -> Option<Stop> {
-        self.stop
+        match &self.lines {
+            PlanLines::Trees(trees) => trees.stop().or(self.stop),
+            _ => self.stop,
+        }
     }
 
     /// Plans what a framer answers, and prints the pictures that are over so. Says whether the stream goes on.
@@ -55,7 +61,7 @@ impl PlanTrace {
     ) -> Result<bool, TraceError> {
         let planned = self.planner.unit(next)?;
         self.print_planned(planned, out)?;
-        Ok(self.stop.is_none())
+        Ok(self.stop().is_none())
     }
 
     /// Prints the pictures that are over where the input ends.
@@ -78,7 +84,7 @@ impl PlanTrace {
             }
         }
         match &mut self.lines {
-            PlanLines::Pictures | PlanLines::Slices => Ok(()),
+            PlanLines::Pictures | PlanLines::Slices | PlanLines::Trees(_) => Ok(()),
             PlanLines::Outputs(outputs) => outputs.print_places(last.as_slice(), out),
         }
     }
@@ -105,6 +111,7 @@ fn print_picture<W: Write>(
             segments(picture, out)
         }
         PlanLines::Outputs(outputs) => outputs.print_picture(picture, out),
+        PlanLines::Trees(trees) => trees.print_picture(number, picture, out),
     }
 }
 

@@ -8,7 +8,7 @@ use std::io;
 pub(crate) enum TraceError {
     Memory,
     Io,
-    /// A word on the command line isn't `units`, `fields`, `pictures`, `slices` or `outputs`.
+    /// A word on the command line isn't `units`, `fields`, `pictures`, `slices`, `outputs` or `trees`.
     Usage,
 }
 

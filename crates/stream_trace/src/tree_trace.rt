@@ -1,0 +1,172 @@
+//! The coding trees of pictures of I slices, read and printed.
+
+use crate::trace_error::TraceError;
+use crate::tree_lines::{UnitOrigin, unit_items, unit_start};
+use ctu_records::Records;
+use header_types::SliceType;
+use hv_base::{Breach, Fault, Limit, Stop};
+use picture_trees::{ReadError, Trees, read_picture};
+use plan_types::{PicturePlan, SegmentPlan};
+use std::alloc::{AllocError, Global};
+use std::io::Write;
+
+/// Prints the coding trees of pictures, up to the first broken rule.
+#[derive(Drop)]
+pub(crate) struct TreeTrace {
+    alloc: Global,
+    stop: Option<Stop>,
+}
+
+impl TreeTrace {
+    /// Before the first picture.
+    pub(crate) fn new(alloc: Global) -> TreeTrace {
+        TreeTrace { alloc, stop: None }
+    }
+
+    /// The rule that the data of a picture broke, if any did.
+    pub(crate) fn stop(&self) -> Option<Stop> {
+        self.stop
+    }
+
+    /// Prints a picture whose slices are all I, where no rule was broken before it.
+    pub(crate) fn print_picture<W: Write>(
+        &mut self,
+        number: u64,
+        picture: &PicturePlan,
+        out: &mut W,
+    ) -> Result<(), TraceError> {
+        if self.stop.is_none() && is_intra(picture) {
+            picture_start(out, number, picture)?;
+            self.stop = print_units(self.alloc, picture, out)?;
+        }
+        Ok(())
+    }
+}
+
+/// Whether the slices of a picture are all I.
+fn is_intra(picture: &PicturePlan) -> bool {
+    picture.segments.as_slice().iter().all(is_i)
+}
+
+fn is_i(segment: &SegmentPlan) -> bool {
+    segment.header.fields().slice.slice_type == SliceType::I
+}
+
+/// A picture's line: its number in decoding order, the number of its first unit, its size, and the types of its slices.
+fn picture_start<W: Write>(
+    out: &mut W,
+    number: u64,
+    picture: &PicturePlan,
+) -> Result<(), TraceError> {
+    let (nal, kind, poc) = (picture.nal, picture.kind.nal_type, picture.poc);
+    let format = picture.sps.fields().format;
+    let (width, height) = (
+        format.pic_width_in_luma_samples,
+        format.pic_height_in_luma_samples,
+    );
+    write!(
+        out,
+        "picture {number} nal {nal} type {kind} poc {poc} size {width}x{height} slices "
+    )?;
+    slice_types(out, picture.segments.as_slice())
+}
+
+/// A letter for each slice.
+fn slice_types<W: Write>(out: &mut W, segments: &[SegmentPlan]) -> Result<(), TraceError> {
+    for (number, segment) in segments.iter().enumerate() {
+        if segment.slice == number {
+            write!(out, "I")?;
+        }
+    }
+    writeln!(out)?;
+    Ok(())
+}
+
+/// Prints the coding tree units of a picture, and answers what the data break.
+fn print_units<W: Write>(
+    alloc: Global,
+    picture: &PicturePlan,
+    out: &mut W,
+) -> Result<Option<Stop>, TraceError> {
+    let mut lines = TreeLines::new(picture, out);
+    let read = read_picture(alloc, picture, &mut lines);
+    lines.result?;
+    match read {
+        Ok(()) => Ok(None),
+        Err(ReadError::Memory) => Err(TraceError::Memory),
+        Err(ReadError::Broken { breach, nal, ctu }) => Ok(Some(stop_at(breach, nal, ctu))),
+    }
+}
+
+/// What the data of a unit break, with its place.
+fn stop_at(breach: Breach, nal: u32, ctu: u32) -> Stop {
+    match breach {
+        Breach::Fault(kind) => Stop::Fault(Fault {
+            kind,
+            nal,
+            ctu: Some(ctu),
+        }),
+        Breach::Limit(kind) => Stop::Limit(Limit { kind, nal }),
+    }
+}
+
+/// Prints the coding tree units of a picture as they are read.
+#[derive(Drop)]
+struct TreeLines<'a, W> {
+    out: &'a mut W,
+    /// How many units a row of the picture has.
+    width: u32,
+    /// The side of a unit in luma samples.
+    side: u32,
+    /// QpBdOffsetY.
+    qp_offset: i64,
+    /// How the first write that failed ended.
+    result: Result<(), TraceError>,
+}
+
+impl<'a, W: Write> TreeLines<'a, W> {
+    /// Before the first unit of a picture.
+    fn new(picture: &PicturePlan, out: &'a mut W) -> TreeLines<'a, W> {
+        let depth = picture.sps.fields().format.bit_depth_luma_minus8;
+        TreeLines {
+            out,
+            width: picture.sps.width_in_ctbs(),
+            side: picture.sps.ctb_size(),
+            qp_offset: 6 * i64::from(depth),
+            result: Ok(()),
+        }
+    }
+
+    /// Where a unit stands.
+    fn origin(&self, address: u32) -> UnitOrigin {
+        let width = self.width.max(1);
+        UnitOrigin {
+            x: self.side.saturating_mul(address % width),
+            y: self.side.saturating_mul(address / width),
+            qp_offset: self.qp_offset,
+        }
+    }
+
+    /// The lines of a unit.
+    fn print_unit(
+        &mut self,
+        segment: usize,
+        address: u32,
+        records: &Records,
+    ) -> Result<(), TraceError> {
+        let origin = self.origin(address);
+        unit_start(self.out, address, segment)?;
+        unit_items(self.out, origin, records.items())
+    }
+}
+
+impl<'a, W: Write> Trees for TreeLines<'a, W> {
+    ghost tells = { λ _ _. Unit {0} };
+
+    fn unit(&mut self, segment: usize, ctu: u32, records: &Records) -> Result<(), AllocError> {
+        if self.result.is_ok() {
+            self.result = self.print_unit(segment, ctu, records);
+        }
+        Ok(())
+    }
+}
