@@ -5,3 +5,5 @@ pub mod Closings
 pub mod Taking
 pub mod Whole
 pub mod OneSet
+pub mod Calls
+pub mod Maximal

@@ -14,20 +14,20 @@ use Rattle.picture_plan.specs.Runs.{new_plans, run, behind_flights, ArePlanned}
 use Rattle.picture_plan.proofs.Pictures.{pictures_of-append, cut-all, cut-none, step-all}
 
 -- the pictures and the stop of what a planner gives are those that are planned, behind what waited
-record Goes (g : Given) (waited : List PicturePlan) (p : Planned) : Type 0 where
-  pictures : pictures_of g.flights ≡ waited ++ p.pictures
-  last : g.last ≡ p.last
-  stop : stop_of g.left.next ≡ p.stop
+pub record Goes (g : Given) (waited : List PicturePlan) (p : Planned) : Type 0 where
+  pub pictures : pictures_of g.flights ≡ waited ++ p.pictures
+  pub last : g.last ≡ p.last
+  pub stop : stop_of g.left.next ≡ p.stop
 
 stops : (next : Result Between Stop) → stop_of next ≡ planned_stop next
 stops (Ok s) = refl
 stops (Err e) = refl
 
 -- all that waits is cut at the end
-cut-pictures : (g : Gathered) → pictures_of (cut g).flights ≡ pictures_of g.flights ++ g.pending
+pub cut-pictures : (g : Gathered) → pictures_of (cut g).flights ≡ pictures_of g.flights ++ g.pending
 cut-pictures g = sym (append-nil (pictures_of (cut g).flights)) ∙ sym (ap (λ (ps : List PicturePlan). pictures_of (cut g).flights ++ ps) (cut-none g)) ∙ cut-all g
 
-end-goes : (ahead : ℕ) (pending : List PicturePlan) (s : Between)
+pub end-goes : (ahead : ℕ) (pending : List PicturePlan) (s : Between)
     → Goes (at_end (record { ahead = ahead; pending = pending; next = Ok s })) pending (planned_from true s [])
 unfolding at_end
 end-goes ahead pending s =
@@ -40,7 +40,7 @@ end-goes ahead pending s =
     }
 
 -- behind a stop nothing comes but what waited
-stopped-goes : (ahead : ℕ) (pending : List PicturePlan) (e : Stop) (ts : List Told)
+pub stopped-goes : (ahead : ℕ) (pending : List PicturePlan) (e : Stop) (ts : List Told)
     → Goes (run (record { ahead = ahead; pending = pending; next = Err e }) ts) pending (record { pictures = []; last = []; stop = Some e })
 unfolding at_end behind_unit
 stopped-goes ahead pending e [] = record {

@@ -5,3 +5,4 @@ pub mod Bounds
 pub mod States
 pub mod Taken
 pub mod Runs
+pub mod Calls

@@ -21,5 +21,8 @@ mod unit_kinds;
 mod units;
 
 pub use flight::{Flight, Flights};
-pub use laws::{flights_are_of_one_set, flights_are_the_pictures};
+pub use laws::{
+    flights_are_maximal, flights_are_of_one_set, flights_are_the_pictures,
+    flights_so_far_are_the_pictures, halted_flights_are_the_pictures,
+};
 pub use planner::{Planned, Planner};
