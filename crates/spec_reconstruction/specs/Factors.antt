@@ -1,0 +1,38 @@
+-- The scaling factors of transform blocks (7.4.5, 8.6.3).
+use Rattle.std.specs.Prelude.{ℕ, ◌+◌, ◌-◌, ◌*◌, ◌/◌, ◌%◌, ◌^◌, ◌==◌, ◌&&◌, nat_lt, Option, Some, None, List, [], slice_index_or, if◌then◌else◌}
+use Rattle.block_geometry.specs.declared.kind.Scan.TheVariants.{Diagonal}
+use Rattle.block_geometry.specs.Scans.{scan_index}
+use Rattle.header_types.specs.declared.scaling.ScalingList.{ScalingList}
+use Rattle.header_types.specs.declared.scaling.ScalingLists.{ScalingLists}
+use Rattle.spec_reconstruction.specs.declared.format.ScalingFactors.{ScalingFactors}
+
+-- where the factors of a component's blocks of 2^log2 samples on a side begin
+unfoldable pub first_factor : ℕ → ℕ → ℕ
+first_factor log2 c =
+    if log2 == 2 then 16 * c
+    else (if log2 == 3 then 48 + 64 * c
+    else (if log2 == 4 then 240 + 256 * c else 1008))
+
+-- m of a place of such a block, the places counted in rows
+abbrev pub factor : ScalingFactors → ℕ → ℕ → ℕ → ℕ
+factor factors log2 c place = slice_index_or factors.by_place (first_factor log2 c + place) 16
+
+-- the scaling list of a block of an intra coding unit: matrixId is cIdx
+abbrev pub no_list : ScalingList
+no_list = record { factors = []; dc = 16 }
+
+abbrev pub list_of : ScalingLists → ℕ → ℕ → ScalingList
+list_of lists log2 c = slice_index_or lists.lists (6 * (log2 - 2) + c) no_list
+
+-- ScalingFactor at column x and line y: a list is spread over blocks of 16x16 and more, whose first place has a factor of
+-- its own
+unfoldable pub listed_factor : ScalingList → ℕ → ℕ → ℕ → ℕ
+listed_factor list log2 x y =
+    if log2 == 2 then slice_index_or list.factors (scan_index 2 Diagonal x y) 16
+    else (if nat_lt 3 log2 && (x == 0 && y == 0) then list.dc
+    else slice_index_or list.factors (scan_index 3 Diagonal (x / 2 ^ (log2 - 3)) (y / 2 ^ (log2 - 3))) 16)
+
+-- the factor by the lists of the picture, 16 where it has none
+unfoldable pub scaling_factor : Option ScalingLists → ℕ → ℕ → ℕ → ℕ → ℕ
+scaling_factor None log2 c x y = 16
+scaling_factor (Some lists) log2 c x y = listed_factor (list_of lists log2 c) log2 x y

@@ -1,0 +1,51 @@
+-- The residuals of a coded transform block (8.6.2).
+use Rattle.std.specs.Prelude.{ℕ, ◌+◌, ◌*◌, ◌^◌, ◌==◌, ◌&&◌, Bool, ℤ, pos, List, [], ◌∷◌, replicate, set, if◌then◌else◌}
+use Rattle.ctu_records.specs.declared.item.CodedBlock.{CodedBlock}
+use Rattle.ctu_records.specs.declared.item.Item.{Item}
+use Rattle.ctu_records.specs.declared.item.Item.TheVariants as item
+use Rattle.ctu_records.specs.declared.item.Item.TheVariants.{Unit, Luma, Chroma, Pcm, Sample, Transform, Delta, Level}
+use Rattle.spec_reconstruction.specs.declared.format.UnitFormat.{UnitFormat}
+use Rattle.spec_reconstruction.specs.Factors.{factor}
+use Rattle.spec_reconstruction.specs.Parameters.{depth_of, parameter_of}
+use Rattle.spec_transforms.specs.Scaling.{scaled}
+use Rattle.spec_transforms.specs.Transforms.{Block, block_in, transformed, skipped}
+
+-- levels in rows, and over them those of the items that follow, up to the first item of another kind
+pub levels_laid : List ℤ → List Item → List ℤ
+levels_laid levels [] = levels
+levels_laid levels (Unit unit ∷ items) = levels
+levels_laid levels (Luma luma ∷ items) = levels
+levels_laid levels (Chroma mode ∷ items) = levels
+levels_laid levels (Pcm square ∷ items) = levels
+levels_laid levels (Sample value ∷ items) = levels
+levels_laid levels (Transform unit ∷ items) = levels
+levels_laid levels (Delta delta ∷ items) = levels
+levels_laid levels (item.Block block ∷ items) = levels
+levels_laid levels (Level place value ∷ items) = levels_laid (set levels place value) items
+
+-- the levels of a block of so many samples, by the items behind it: 0 where none is told
+abbrev pub levels_behind : ℕ → List Item → List ℤ
+levels_behind count items = levels_laid (replicate count (pos 0)) items
+
+-- the scaled coefficients of a block (8.6.3)
+abbrev pub scaled_block : UnitFormat → ℕ → ℕ → ℕ → List ℤ → Block
+scaled_block format c log2 qp levels x y =
+    scaled (depth_of format c) log2 qp (factor format.factors log2 c (2 ^ log2 * y + x)) (block_in (2 ^ log2) levels x y)
+
+-- whether a block of an intra coding unit has the transform of sines: luma of 4x4 samples (8.6.4.2)
+abbrev pub has_sines : ℕ → ℕ → Bool
+has_sines c log2 = c == 0 && log2 == 2
+
+-- residuals by column and line: the levels themselves where cu_transquant_bypass_flag is 1, else the scaled coefficients
+-- transformed, or with the transform skipped
+unfoldable pub residuals : UnitFormat → Bool → CodedBlock → ℕ → List ℤ → Block
+residuals format transquant_bypass block qp levels x y =
+    if transquant_bypass then block_in (2 ^ block.log2_size) levels x y
+    else (if block.transform_skip
+    then skipped (depth_of format block.component) (scaled_block format block.component block.log2_size qp levels x y)
+    else transformed (depth_of format block.component) (has_sines block.component block.log2_size) (2 ^ block.log2_size) (scaled_block format block.component block.log2_size qp levels) x y)
+
+-- the residuals of a block in a coding unit whose Qp'Y is qp, by the items behind it
+abbrev pub residuals_behind : UnitFormat → Bool → CodedBlock → ℕ → List Item → Block
+residuals_behind format transquant_bypass block qp items =
+    residuals format transquant_bypass block (parameter_of format block.component qp) (levels_behind (2 ^ block.log2_size * 2 ^ block.log2_size) items)

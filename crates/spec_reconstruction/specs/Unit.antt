@@ -1,0 +1,57 @@
+-- The samples of a coding tree unit of an I slice by what was read of it (8.4.4.1, 8.6.5).
+use Rattle.std.specs.Prelude.{ℕ, ◌+◌, ◌*◌, ◌^◌, ◌==◌, Bool, true, false, List, [], ◌∷◌, if◌then◌else◌}
+use Rattle.ctu_records.specs.declared.item.CodedBlock.{CodedBlock}
+use Rattle.ctu_records.specs.declared.item.Item.{Item}
+use Rattle.ctu_records.specs.declared.item.Item.TheVariants.{Unit, Luma, Chroma, Pcm, Sample, Transform, Delta, Block, Level}
+use Rattle.ctu_records.specs.declared.item.Square.{Square}
+use Rattle.ctu_records.specs.Tree.{luma_mode_at, qp_at}
+use Rattle.spec_reconstruction.specs.declared.format.UnitFormat.{UnitFormat}
+use Rattle.spec_reconstruction.specs.Known.{Known, constructed}
+use Rattle.spec_reconstruction.specs.Parameters.{depth_of}
+use Rattle.spec_reconstruction.specs.Prediction.{unit_predicted}
+use Rattle.spec_reconstruction.specs.Pulses.{pulses_laid}
+use Rattle.spec_reconstruction.specs.Residuals.{residuals_behind}
+use Rattle.spec_slice_data.specs.Residual.{samples_of_place}
+
+-- cu_transquant_bypass_flag and IntraPredModeC of the coding unit, and the samples that are known
+pub record Building : Type 0 where
+  pub transquant_bypass : Bool
+  pub chroma_mode : ℕ
+  pub known : Known
+
+-- before the first item
+abbrev pub before_unit : Known → Building
+before_unit known = record { transquant_bypass = false; chroma_mode = 0; known = known }
+
+abbrev pub with_known : Building → Known → Building
+with_known building known = record { transquant_bypass = building.transquant_bypass; chroma_mode = building.chroma_mode; known = known }
+
+-- the residuals of a block are added to its predicted samples
+unfoldable pub block_constructed : UnitFormat → List Item → Bool → CodedBlock → List Item → Known → Known
+block_constructed format all transquant_bypass block items =
+    constructed (depth_of format block.component) block.component (samples_of_place block.component * block.x) (samples_of_place block.component * block.y) (2 ^ block.log2_size)
+    (residuals_behind format transquant_bypass block (qp_at all block.x block.y) items)
+
+-- an item of a unit of which all was read, with the items behind it: a transform unit's blocks are predicted from what is
+-- known so far, and each of its coded blocks is constructed behind that
+abbrev pub item_built : UnitFormat → List Item → Building → Item → List Item → Building
+item_built format all building (Unit unit) items = record { transquant_bypass = unit.transquant_bypass; chroma_mode = building.chroma_mode; known = building.known }
+item_built format all building (Luma luma) items = building
+item_built format all building (Chroma mode) items = record { transquant_bypass = building.transquant_bypass; chroma_mode = mode; known = building.known }
+item_built format all building (Pcm square) items = with_known building (pulses_laid format square items building.known)
+item_built format all building (Sample value) items = building
+item_built format all building (Transform unit) items =
+    with_known building (unit_predicted format (luma_mode_at all unit.square.x unit.square.y) building.chroma_mode unit.square building.known)
+item_built format all building (Delta delta) items = building
+item_built format all building (Block block) items =
+    with_known building (block_constructed format all building.transquant_bypass block items building.known)
+item_built format all building (Level place value) items = building
+
+-- items in reading order, of a unit of which all was read
+pub items_built : UnitFormat → List Item → List Item → Building → Building
+items_built format all [] building = building
+items_built format all (item ∷ items) building = items_built format all items (item_built format all building item items)
+
+-- the samples that are known once a unit is built, by those known before it
+unfoldable pub unit_built : UnitFormat → List Item → Known → Known
+unit_built format items known = (items_built format items items (before_unit known)).known

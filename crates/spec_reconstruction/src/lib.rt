@@ -1,0 +1,9 @@
+//! Reconstruction of a coding tree unit of an I slice as the standard says it (H.265 8.4.4.1, 8.6.1, 8.6.2, 8.6.5): its
+//! samples by what was read of it, and by the samples that are known beside it.
+#![tactic(auto)]
+
+mod format;
+mod laws;
+
+pub use format::{ScalingFactors, UnitFormat};
+pub use laws::chroma_parameters_are_held;
