@@ -1,7 +1,7 @@
 //! Rows of `plans.txt`: a stream, how many of its pictures are planned, what stops the planning, and what is known of the
 //! last picture.
 
-ghost use Rattle.std.specs.Prelude.{◌≡◌, ◌<◌};
+ghost use Rattle.std.specs.Prelude.{◌≡◌, ◌<◌, false};
 
 use crate::byte_text::{UnitNames, number_of};
 use crate::picture_text::picture_text;
@@ -15,6 +15,13 @@ use std::alloc::{AllocError, Global};
 
 /// The sizes of pieces in which a stream comes.
 const PIECES: [usize; 3] = [1, 7, 65_536];
+
+/// A stream, and the size of the pieces in which it comes.
+#[derive(Clone, Copy)]
+struct Stream<'a> {
+    bytes: &'a [u8],
+    piece: usize,
+}
 
 /// What comes of a stream's planning.
 #[derive(Drop)]
@@ -54,7 +61,11 @@ fn answer_of(
     let pictures = number_of(columns.next().unwrap_or(""))?;
     let told = columns.next().unwrap_or("");
     let last = columns.next();
-    let plan = plan_of(alloc, input.as_slice(), piece)?;
+    let stream = Stream {
+        bytes: input.as_slice(),
+        piece,
+    };
+    let plan = plan_of(alloc, stream)?;
     let stop = stop_text(alloc, plan.stop)?;
     let is_last = last.is_none_or(|text| text == plan.last.as_str());
     if plan.pictures == pictures && stop.as_str() == told && is_last {
@@ -72,30 +83,70 @@ fn stop_text(alloc: Global, stop: Option<Stop>) -> Result<String, AllocError> {
     }
 }
 
-/// Plans the pictures of a stream that comes in pieces.
-fn plan_of(alloc: Global, input: &[u8], piece: usize) -> Result<Plan, AllocError>
-    requires { 0 < piece }
+/// Plans the pictures of a stream.
+fn plan_of(alloc: Global, stream: Stream<'_>) -> Result<Plan, AllocError>
+    requires { 0 < stream.piece }
 {
-    let mut framer = Framer::new(alloc)?;
-    let mut planner = Planner::new(alloc, 1, true)?;
     let mut plan = Plan {
         pictures: 0,
         stop: None,
         last: String::new(alloc),
     };
-    for bytes in input.chunks(piece) {
-        framer.feed(bytes)?;
-        plan.add_units(alloc, &mut framer, &mut planner)?;
-    }
-    framer.finish();
-    plan.add_units(alloc, &mut framer, &mut planner)?;
-    if plan.stop.is_none() {
-        plan.add(alloc, planner.finish()?)?;
-    }
+    plan.frame(alloc, stream)?;
     Ok(plan)
 }
 
 impl Plan {
+    /// Plans the pictures of a stream with a framer.
+    fn frame(&mut self, alloc: Global, stream: Stream<'_>) -> Result<(), AllocError>
+        requires { 0 < stream.piece }
+    {
+        let mut framer = Framer::new(alloc)?;
+        self.plan(alloc, stream, &mut framer)
+    }
+
+    /// Plans the pictures of a stream with a planner.
+    fn plan(
+        &mut self,
+        alloc: Global,
+        stream: Stream<'_>,
+        framer: &mut Framer,
+    ) -> Result<(), AllocError>
+        requires piece { 0 < stream.piece }
+        requires going_on { framer.old.finished ≡ false }
+    {
+        let mut planner = Planner::new(alloc, 1, true)?;
+        self.add_stream(alloc, stream, framer, &mut planner)
+    }
+
+    /// Plans the pictures of a stream.
+    fn add_stream(
+        &mut self,
+        alloc: Global,
+        stream: Stream<'_>,
+        framer: &mut Framer,
+        planner: &mut Planner,
+    ) -> Result<(), AllocError>
+        requires piece { 0 < stream.piece }
+        requires going_on { framer.old.finished ≡ false }
+    {
+        for bytes in stream.bytes.chunks(stream.piece) {
+            framer.feed(bytes)?;
+            self.add_units(alloc, framer, planner)?;
+        }
+        framer.finish();
+        self.add_units(alloc, framer, planner)?;
+        self.add_end(alloc, planner)
+    }
+
+    /// Plans what the end of the input gives, where nothing stopped the stream.
+    fn add_end(&mut self, alloc: Global, planner: &mut Planner) -> Result<(), AllocError> {
+        if self.stop.is_some() {
+            return Ok(());
+        }
+        self.add(alloc, planner.finish()?)
+    }
+
     /// Plans the units that are whole, up to what stops the stream.
     fn add_units(
         &mut self,
