@@ -61,7 +61,8 @@ pub(crate) fn parse_words(alloc: Global, words: &[String]) -> Result<Options, Wo
 
 /// Want of memory, or else a faulty command line.
 fn cause_of(error: &Error) -> WordsError
-    ensures { result ≡ WordsError.Usage → kind_of error.now ≢ ErrorKind.OutOfMemory }
+    ensures usage { result ≡ WordsError.Usage → kind_of error.now ≢ ErrorKind.OutOfMemory }
+    ensures memory { result ≡ WordsError.Memory → kind_of error.now ≡ ErrorKind.OutOfMemory }
 {
     match error.kind() {
         ErrorKind::OutOfMemory => WordsError::Memory,

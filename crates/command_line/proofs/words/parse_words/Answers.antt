@@ -14,4 +14,4 @@ returns-in-Ok-clause-refused c =
 
 pub returns-in-Err-clause-refused : goal.returns-in-Err-clause-refused
 returns-in-Err-clause-refused c = λ e.
-    refused _ (map string_bytes c.args.words.now) c.in-Err.error _ c.in_ok-command.ensures c.in-Err.ensures.kinds (c.cause_of.ensures (cc (e)))
+    refused _ (map string_bytes c.args.words.now) c.in-Err.error _ c.in_ok-command.ensures c.in-Err.ensures.kinds (c.cause_of.ensures.usage (cc (e)))
