@@ -1,11 +1,13 @@
 //! Where the blocks of a picture lie, what they read around them, and the orders of the places inside them.
 #![tactic(auto)]
 
+mod availability;
 mod diagonal;
 mod kind;
 mod order;
 mod reached_rows;
 
+pub use availability::{SliceArea, available};
 pub use kind::Scan;
 pub use order::{scan, scan_index};
 pub use reached_rows::needed_rows;
