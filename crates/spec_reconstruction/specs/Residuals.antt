@@ -11,7 +11,7 @@ use Rattle.spec_transforms.specs.Scaling.{scaled}
 use Rattle.spec_transforms.specs.Transforms.{Block, block_in, transformed, skipped}
 
 -- levels in rows, and over them those of the items that follow, up to the first item of another kind
-pub levels_laid : List ℤ → List Item → List ℤ
+unfoldable pub levels_laid : List ℤ → List Item → List ℤ
 levels_laid levels [] = levels
 levels_laid levels (Unit unit ∷ items) = levels
 levels_laid levels (Luma luma ∷ items) = levels

@@ -48,7 +48,7 @@ item_built format all building (Block block) items =
 item_built format all building (Level place value) items = building
 
 -- items in reading order, of a unit of which all was read
-pub items_built : UnitFormat → List Item → List Item → Building → Building
+unfoldable pub items_built : UnitFormat → List Item → List Item → Building → Building
 items_built format all [] building = building
 items_built format all (item ∷ items) building = items_built format all items (item_built format all building item items)
 

@@ -1,0 +1,9 @@
+pub mod Squares
+pub mod Changes
+pub mod Fits
+pub mod LevelItems
+pub mod Nothing
+pub mod SampleItems
+pub mod Transforming
+pub mod Sizes
+pub mod Steps

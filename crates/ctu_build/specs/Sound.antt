@@ -1,0 +1,56 @@
+-- What is asked of a unit that is built: what its syntax and the sets that it belongs to give.
+use Rattle.std.specs.Prelude.{◌≡◌, ℕ, ◌+◌, ◌-◌, ◌*◌, ◌^◌, ◌<◌, ◌≤◌, List, ⊤}
+use Rattle.std.specs.List.{All}
+use Rattle.ctu_records.specs.declared.item.Item.{Item}
+use Rattle.ctu_records.specs.declared.item.Item.TheVariants.{Unit, Luma, Chroma, Pcm, Sample, Transform, Delta, Block, Level}
+use Rattle.ctu_records.specs.declared.item.Square.{Square}
+use Rattle.ctu_records.specs.declared.item.CodedBlock.{CodedBlock}
+use Rattle.ctu_records.specs.Tree.{luma_mode_at, qp_at}
+use Rattle.spec_reconstruction.specs.declared.format.UnitFormat.{UnitFormat}
+use Rattle.spec_slice_data.specs.Residual.{samples_of_place}
+use Rattle.spec_transforms.specs.Scaling.{IsDepth, IsParameter}
+
+-- bit depths of 8 to 14, and samples of pulse code modulation of no more bits
+pub record IsFormat (format : UnitFormat) : Type 0 where
+  pub luma : IsDepth format.luma_depth
+  pub chroma : IsDepth format.chroma_depth
+  pub pcm_luma : format.pcm_luma_bits ≤ format.luma_depth
+  pub pcm_chroma : format.pcm_chroma_bits ≤ format.chroma_depth
+
+-- a square of blocks of at most 32x32 luma samples in the greatest unit
+pub record IsSquare (square : Square) : Type 0 where
+  pub size : square.log2_size ≤ 3
+  pub x : square.x + 2 ^ square.log2_size ≤ 16
+  pub y : square.y + 2 ^ square.log2_size ≤ 16
+
+-- a coded block in the greatest unit
+pub record IsCoded (block : CodedBlock) : Type 0 where
+  pub component : block.component < 3
+  pub some : 2 ≤ block.log2_size
+  pub few : block.log2_size ≤ 5
+  pub column : block.x < 16
+  pub row : block.y < 16
+  pub x : samples_of_place block.component * block.x + 2 ^ block.log2_size ≤ 64
+  pub y : samples_of_place block.component * block.y + 2 ^ block.log2_size ≤ 64
+
+-- a sample of pulse code modulation whose bits fit in 16 once they are shifted
+pub record IsPulse (format : UnitFormat) (value : ℕ) : Type 0 where
+  pub luma : value * 2 ^ (format.luma_depth - format.pcm_luma_bits) < 65536
+  pub chroma : value * 2 ^ (format.chroma_depth - format.pcm_chroma_bits) < 65536
+
+abbrev pub IsSound : UnitFormat → Item → Type 0
+IsSound format (Unit unit) = ⊤
+IsSound format (Luma luma) = ⊤
+IsSound format (Chroma mode) = mode ≤ 34
+IsSound format (Pcm square) = IsSquare square × (1 ≤ square.log2_size)
+IsSound format (Sample value) = IsPulse format value
+IsSound format (Transform unit) = IsSquare unit.square
+IsSound format (Delta delta) = ⊤
+IsSound format (Block block) = IsCoded block
+IsSound format (Level place value) = ⊤
+
+-- the items of a unit
+pub record AreSound (format : UnitFormat) (items : List Item) : Type 0 where
+  pub each : All (IsSound format) items
+  pub modes : (i j : ℕ) → luma_mode_at items i j ≤ 34
+  pub parameters : (i j : ℕ) → IsParameter format.luma_depth (qp_at items i j)

@@ -1,0 +1,103 @@
+//! Coded blocks.
+
+ghost use Rattle.std.specs.Prelude.{◌≡◌, ◌+◌, ◌*◌, ◌^◌, ◌<◌, ◌≤◌, Bool, true, false, length};
+ghost use Rattle.std.specs.List.{All};
+ghost use Rattle.ctu_build.specs.Held.{held, IsInside};
+ghost use Rattle.ctu_build.specs.Sound.{IsCoded, IsFormat};
+ghost use Rattle.spec_reconstruction.specs.Known.{constructed};
+ghost use Rattle.spec_reconstruction.specs.Parameters.{depth_of};
+ghost use Rattle.spec_reconstruction.specs.Residuals.{residuals_behind, levels_behind};
+ghost use Rattle.spec_slice_data.specs.Residual.{samples_of_place};
+ghost use Rattle.spec_transforms.specs.Scaling.{Is16, IsParameter};
+
+use crate::levels::read_levels;
+use crate::parameters::{depth_of, parameter_of};
+use crate::place::place_of;
+use crate::residuals::residuals_of;
+use crate::scratch::Scratch;
+use crate::unit_samples::UnitSamples;
+use ctu_records::{CodedBlock, Item};
+use spec_reconstruction::UnitFormat;
+
+/// A coded block, cu_transquant_bypass_flag and Qp'Y of its coding unit.
+#[derive(Clone, Copy)]
+pub(crate) struct InUnit {
+    pub(crate) block: CodedBlock,
+    pub(crate) transquant_bypass: bool,
+    pub(crate) qp: u8,
+}
+
+/// Adds the residuals of a block, whose levels are the next items, to its predicted samples.
+pub(crate) fn construct(
+    format: &UnitFormat,
+    coded: InUnit,
+    items: &[Item],
+    scratch: &mut Scratch,
+    samples: &mut UnitSamples,
+)
+    requires format { IsFormat format.now }
+    requires block { IsCoded coded.block }
+    requires qp { IsParameter format.now.luma_depth coded.qp }
+    ensures { held samples.new ≡ constructed (depth_of format.now coded.block.component) coded.block.component (samples_of_place coded.block.component * coded.block.x) (samples_of_place coded.block.component * coded.block.y) (2 ^ coded.block.log2_size) (residuals_behind format.now coded.transquant_bypass coded.block coded.qp items.now) (held samples.old) }
+{
+    let side = place_of(coded.block).side();
+    let levels = &mut scratch.levels[..];
+    let levels = &mut levels[..side * side];
+    if coded.transquant_bypass {
+        add_levels(format, coded, items, levels, samples);
+    } else {
+        let scaled = &mut scratch.scaled[..];
+        let residuals = &mut scratch.residuals[..];
+        let scaled = &mut scaled[..side * side];
+        let residuals = &mut residuals[..side * side];
+        add_residuals(format, coded, items, levels, scaled, residuals, samples);
+    }
+}
+
+/// Adds the levels of a block where cu_transquant_bypass_flag is 1.
+#[tactic(auto, using(crate::proofs::Squares::levels_are_residuals))]
+fn add_levels(
+    format: &UnitFormat,
+    coded: InUnit,
+    items: &[Item],
+    levels: &mut [i32],
+    samples: &mut UnitSamples,
+)
+    requires format { IsFormat format.now }
+    requires block { IsCoded coded.block }
+    requires bypass { coded.transquant_bypass ≡ true }
+    requires room { length levels.old ≡ 2 ^ coded.block.log2_size * 2 ^ coded.block.log2_size }
+    ensures { held samples.new ≡ constructed (depth_of format.now coded.block.component) coded.block.component (samples_of_place coded.block.component * coded.block.x) (samples_of_place coded.block.component * coded.block.y) (2 ^ coded.block.log2_size) (residuals_behind format.now coded.transquant_bypass coded.block coded.qp items.now) (held samples.old) }
+{
+    let place = place_of(coded.block);
+    let depth = depth_of(format, coded.block.component);
+    read_levels(items, levels);
+    samples.add(place, levels, depth);
+}
+
+/// Adds the residuals of a block where it is 0.
+fn add_residuals(
+    format: &UnitFormat,
+    coded: InUnit,
+    items: &[Item],
+    levels: &mut [i32],
+    scaled: &mut [i32],
+    residuals: &mut [i32],
+    samples: &mut UnitSamples,
+)
+    requires format { IsFormat format.now }
+    requires block { IsCoded coded.block }
+    requires qp { IsParameter format.now.luma_depth coded.qp }
+    requires bypass { coded.transquant_bypass ≡ false }
+    requires levels { length levels.old ≡ 2 ^ coded.block.log2_size * 2 ^ coded.block.log2_size }
+    requires scaled { length scaled.old ≡ length levels.old }
+    requires residuals { length residuals.old ≡ length levels.old }
+    ensures { held samples.new ≡ constructed (depth_of format.now coded.block.component) coded.block.component (samples_of_place coded.block.component * coded.block.x) (samples_of_place coded.block.component * coded.block.y) (2 ^ coded.block.log2_size) (residuals_behind format.now coded.transquant_bypass coded.block coded.qp items.now) (held samples.old) }
+{
+    let place = place_of(coded.block);
+    let depth = depth_of(format, coded.block.component);
+    let qp = parameter_of(format, coded.block.component, coded.qp);
+    read_levels(items, levels);
+    residuals_of(format, coded.block, qp, levels, scaled, residuals);
+    samples.add(place, residuals, depth);
+}

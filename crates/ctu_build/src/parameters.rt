@@ -1,0 +1,142 @@
+//! Bit depths, quantization parameters and scaling factors of blocks.
+
+ghost use Rattle.std.specs.Prelude.{◌≡◌, ℕ, ◌+◌, ◌-◌, ◌*◌, ◌^◌, ◌<◌, ◌≤◌, pos, negsuc, ◌-ℤ◌, ◌+ℤ◌, ◌≤ℤ◌, length, slice_index};
+ghost use Rattle.spec_reconstruction.specs.Factors.{factor, first_factor};
+ghost use Rattle.spec_reconstruction.specs.Parameters.{depth_of, depth_offset, chroma_offset, chroma_parameter, offset_parameter, parameter_of};
+ghost use Rattle.spec_slice_data.specs.Quantization.{chroma_qp_of_index};
+ghost use Rattle.spec_transforms.specs.Scaling.{IsDepth, IsParameter};
+ghost use Rattle.ctu_build.specs.Sound.{IsFormat};
+
+use spec_reconstruction::UnitFormat;
+
+/// The bit depth of a component.
+pub(crate) fn depth_of(format: &UnitFormat, c: u8) -> u32
+    requires { IsFormat format.now }
+    ensures value { result ≡ depth_of format.now c }
+    ensures depth { IsDepth result }
+{
+    if c == 0 {
+        u32::from(format.luma_depth)
+    } else {
+        u32::from(format.chroma_depth)
+    }
+}
+
+/// qP of a block of a component in a coding unit of this Qp'Y.
+#[tactic(auto, unfolding(spec_reconstruction::specs::Parameters::parameter_of))]
+pub(crate) fn parameter_of(format: &UnitFormat, c: u8, qp: u8) -> u32
+    requires format { IsFormat format.now }
+    requires qp { IsParameter format.now.luma_depth qp }
+    ensures value { result ≡ parameter_of format.now c qp }
+    ensures range { IsParameter (depth_of format.now c) result }
+{
+    if c == 0 {
+        return u32::from(qp);
+    }
+    let offset = chroma_offset(format, c);
+    let index = chroma_index(qp, depth_offset(format.luma_depth), offset);
+    chroma_parameter(depth_offset(format.chroma_depth), index)
+}
+
+/// What qPi is held from, by Qp'Y, QpBdOffsetY and the offset of a component.
+fn chroma_index(qp: u8, luma: u32, offset: i8) -> i32
+    requires { luma ≤ 36 }
+    ensures { result ≡ pos qp -ℤ pos luma +ℤ offset }
+{
+    i32::from(qp) - luma as i32 + i32::from(offset)
+}
+
+/// QpBdOffset.
+fn depth_offset(depth: u8) -> u32
+    requires { IsDepth depth }
+    ensures value { result ≡ depth_offset depth }
+    ensures few { result ≤ 36 }
+{
+    6 * (u32::from(depth) - 8)
+}
+
+/// The offset of Cb or Cr.
+fn chroma_offset(format: &UnitFormat, c: u8) -> i8
+    ensures { result ≡ chroma_offset format.now c }
+{
+    if c == 1 {
+        format.cb_qp_offset
+    } else {
+        format.cr_qp_offset
+    }
+}
+
+/// Qp'Cb or Qp'Cr by QpBdOffsetC and what qPi is held from.
+#[tactic(auto, unfolding(spec_reconstruction::specs::Parameters::chroma_parameter))]
+fn chroma_parameter(offset: u32, index: i32) -> u32
+    requires { offset ≤ 36 }
+    ensures value { result ≡ chroma_parameter offset index }
+    ensures range { result ≤ 51 + offset }
+{
+    offset_parameter(offset, index.clamp(-(offset as i32), 57))
+}
+
+/// QpC and QpBdOffsetC by qPi.
+fn offset_parameter(offset: u32, index: i32) -> u32
+    requires offset { offset ≤ 36 }
+    requires least { negsuc offset ≤ℤ index }
+    requires greatest { index ≤ℤ pos 57 }
+    ensures value { result ≡ offset_parameter offset index }
+    ensures range { result ≤ 51 + offset }
+{
+    let size = index.unsigned_abs();
+    if index < 0 {
+        offset.saturating_sub(size)
+    } else {
+        chroma_qp_of_index(size) + offset
+    }
+}
+
+/// QpC by qPi.
+#[tactic(auto, unfolding(spec_slice_data::specs::Quantization::chroma_qp_of_index))]
+fn chroma_qp_of_index(index: u32) -> u32
+    requires { index ≤ 57 }
+    ensures value { result ≡ chroma_qp_of_index index }
+    ensures range { result ≤ 51 }
+{
+    match index {
+        0..=29 => index,
+        30..=34 => index - 1,
+        35..=36 => index - 2,
+        37..=38 => index - 3,
+        39..=40 => index - 4,
+        41..=42 => index - 5,
+        _ => index - 6,
+    }
+}
+
+/// The scaling factors of blocks of a component and a size.
+#[tactic(auto, using(crate::proofs::Sizes::small))]
+pub(crate) fn factors_of<'a>(format: &'a UnitFormat, log2: u32, c: u8) -> &'a [u8]
+    requires some { 2 ≤ log2 }
+    requires few { log2 ≤ 5 }
+    requires c { c < 3 }
+    ensures count { length result.now ≡ 2 ^ log2 * 2 ^ log2 }
+    ensures value { (k : ℕ) → k < 2 ^ log2 * 2 ^ log2 → slice_index result.now k ≡ factor format.now.factors log2 c k }
+{
+    let n = 1 << log2;
+    let first = first_factor(log2, usize::from(c));
+    &format.factors.by_place[first..first + n * n]
+}
+
+/// Where they begin.
+#[tactic(auto, unfolding(spec_reconstruction::specs::Factors::first_factor))]
+fn first_factor(log2: u32, c: usize) -> usize
+    requires some { 2 ≤ log2 }
+    requires few { log2 ≤ 5 }
+    requires c { c < 3 }
+    ensures value { result ≡ first_factor log2 c }
+    ensures inside { result + 2 ^ log2 * 2 ^ log2 ≤ 2032 }
+{
+    match log2 {
+        2 => 16 * c,
+        3 => 48 + 64 * c,
+        4 => 240 + 256 * c,
+        _ => 1008,
+    }
+}

@@ -1,0 +1,114 @@
+//! Samples by pulse code modulation.
+
+ghost use Rattle.std.specs.Prelude.{◌≡◌, ℕ, ◌+◌, ◌-◌, ◌*◌, ◌^◌, ◌<◌, ◌≤◌, length, slice_index_or};
+ghost use Rattle.std.specs.List.{All};
+ghost use Rattle.ctu_records.specs.declared.item.Item.TheVariants.{Sample};
+ghost use Rattle.ctu_build.specs.Held.{held, IsInside};
+ghost use Rattle.ctu_build.specs.Sound.{IsFormat, IsSquare, IsSound};
+ghost use Rattle.spec_reconstruction.specs.Known.{laid};
+ghost use Rattle.spec_reconstruction.specs.Pulses.{sample_of, shifted, pulses_laid};
+
+use crate::place::{Place, chroma_place, luma_place};
+use crate::unit_samples::UnitSamples;
+use ctu_records::{Item, Square};
+use spec_reconstruction::UnitFormat;
+
+/// The value of an item that is a sample.
+fn sample_of(item: Item) -> u16
+    ensures { result ≡ sample_of item }
+{
+    match item {
+        Item::Sample(value) => value,
+        Item::Unit(_)
+        | Item::Luma(_)
+        | Item::Chroma(_)
+        | Item::Pcm(_)
+        | Item::Transform(_)
+        | Item::Delta(_)
+        | Item::Block(_)
+        | Item::Level(_, _) => 0,
+    }
+}
+
+/// The value of the item with this number, where it is a sample.
+fn sample_at(items: &[Item], k: usize) -> u16
+    ensures { result ≡ sample_of (slice_index_or items.now k (Sample 0)) }
+{
+    if k < items.len() {
+        sample_of(items[k])
+    } else {
+        0
+    }
+}
+
+/// Writes so many samples, shifted up by so many places: the items from a number on.
+fn shift_samples(items: &[Item], first: usize, places: u32, count: usize, out: &mut [u16; 1024])
+    requires places { places ≤ 14 }
+    requires first { first ≤ 2048 }
+    requires count { count ≤ 1024 }
+    requires small { (k : ℕ) → sample_of (slice_index_or items.now k (Sample 0)) * 2 ^ places < 65536 }
+    ensures { (k : ℕ) → k < count → slice_index_or out.new k 0 ≡ sample_of (slice_index_or items.now (first + k) (Sample 0)) * 2 ^ places }
+{
+    for k in 0..count {
+        out[k] = sample_at(items, first + k) << places;
+    }
+}
+
+/// Lays the samples of a component, which begin at an item with this number.
+fn lay_component(
+    place: Place,
+    items: &[Item],
+    first: usize,
+    places: u32,
+    block: &mut [u16; 1024],
+    samples: &mut UnitSamples,
+)
+    requires place { IsInside place }
+    requires places { places ≤ 14 }
+    requires first { first ≤ 2048 }
+    requires small { (k : ℕ) → sample_of (slice_index_or items.now k (Sample 0)) * 2 ^ places < 65536 }
+    ensures { held samples.new ≡ laid place.c place.x place.y (2 ^ place.log2) (shifted places first items.now (2 ^ place.log2)) (held samples.old) }
+{
+    let n = place.side();
+    shift_samples(items, first, places, n * n, block);
+    samples.lay(place, block);
+}
+
+/// Lays the samples of a coding unit, which are the next items.
+#[tactic(auto, using(crate::proofs::SampleItems::luma_small, crate::proofs::SampleItems::chroma_small))]
+pub(crate) fn lay_pulses(
+    format: &UnitFormat,
+    square: Square,
+    items: &[Item],
+    block: &mut [u16; 1024],
+    samples: &mut UnitSamples,
+)
+    requires format { IsFormat format.now }
+    requires square { IsSquare square }
+    requires some { 1 ≤ square.log2_size }
+    requires items { All (IsSound format.now) items.now }
+    ensures { held samples.new ≡ pulses_laid format.now square items.now (held samples.old) }
+{
+    let luma = u32::from(format.luma_depth - format.pcm_luma_bits);
+    let chroma = u32::from(format.chroma_depth - format.pcm_chroma_bits);
+    let n = luma_place(square).side();
+    let half = chroma_place(square, 1).side();
+    let behind = n * n + half * half;
+    lay_component(luma_place(square), items, 0, luma, block, samples);
+    lay_component(
+        chroma_place(square, 1),
+        items,
+        n * n,
+        chroma,
+        block,
+        samples,
+    );
+    lay_component(
+        chroma_place(square, 2),
+        items,
+        behind,
+        chroma,
+        block,
+        samples,
+    );
+}

@@ -1,0 +1,96 @@
+//! The residuals of a coded block.
+
+ghost use Rattle.std.specs.Prelude.{◌≡◌, ℕ, ◌*◌, ◌^◌, ◌<◌, ◌≤◌, ◌-◌, false, length};
+ghost use Rattle.std.specs.List.{All};
+ghost use Rattle.spec_reconstruction.specs.Parameters.{depth_of};
+ghost use Rattle.spec_reconstruction.specs.Residuals.{has_sines, residuals, scaled_block};
+ghost use Rattle.spec_transforms.specs.Scaling.{Is16, IsParameter};
+ghost use Rattle.spec_transforms.specs.Transforms.{IsResidual, block_in, skipped, transformed};
+ghost use Rattle.ctu_build.specs.Sound.{IsCoded, IsFormat};
+
+use crate::parameters::{depth_of, factors_of};
+use ctu_records::CodedBlock;
+use residual_transform::{inverse, scale, skip};
+use spec_reconstruction::UnitFormat;
+
+/// The scaled coefficients of a block's levels.
+fn scale_levels(format: &UnitFormat, block: CodedBlock, qp: u32, levels: &[i32], scaled: &mut [i32])
+    requires format { IsFormat format.now }
+    requires block { IsCoded block }
+    requires qp { IsParameter (depth_of format.now block.component) qp }
+    requires levels { All Is16 levels.now }
+    requires count { length levels.now ≡ 2 ^ block.log2_size * 2 ^ block.log2_size }
+    requires room { length scaled.old ≡ length levels.now }
+    ensures value { (x y : ℕ) → x < 2 ^ block.log2_size → y < 2 ^ block.log2_size → block_in (2 ^ block.log2_size) scaled.new x y ≡ scaled_block format.now block.component block.log2_size qp levels.now x y }
+    ensures small { All Is16 scaled.new }
+    ensures count { length scaled.new ≡ length levels.now }
+{
+    let log2 = u32::from(block.log2_size);
+    let depth = depth_of(format, block.component);
+    let factors = factors_of(format, log2, block.component);
+    scale(levels, log2, qp, factors, depth, scaled);
+}
+
+/// Whether a block has the transform of sines.
+fn has_sines(block: CodedBlock) -> bool
+    ensures { result ≡ has_sines block.component block.log2_size }
+{
+    block.component == 0 && block.log2_size == 2
+}
+
+/// The residuals of scaled coefficients by the block's transform.
+fn transform(format: &UnitFormat, block: CodedBlock, scaled: &[i32], out: &mut [i32])
+    requires format { IsFormat format.now }
+    requires block { IsCoded block }
+    requires scaled { All Is16 scaled.now }
+    requires count { length scaled.now ≡ 2 ^ block.log2_size * 2 ^ block.log2_size }
+    requires room { length out.old ≡ length scaled.now }
+    ensures value { (x y : ℕ) → x < 2 ^ block.log2_size → y < 2 ^ block.log2_size → block_in (2 ^ block.log2_size) out.new x y ≡ transformed (depth_of format.now block.component) (has_sines block.component block.log2_size) (2 ^ block.log2_size) (block_in (2 ^ block.log2_size) scaled.now) x y }
+    ensures small { All IsResidual out.new }
+{
+    let depth = depth_of(format, block.component);
+    let log2 = u32::from(block.log2_size);
+    inverse(scaled, log2, has_sines(block), depth, out);
+}
+
+/// The residuals of scaled coefficients whose transform is skipped.
+#[tactic(auto, using(crate::proofs::Squares::below_square))]
+fn skip_transform(format: &UnitFormat, block: CodedBlock, scaled: &[i32], out: &mut [i32])
+    requires format { IsFormat format.now }
+    requires block { IsCoded block }
+    requires scaled { All Is16 scaled.now }
+    requires count { length scaled.now ≡ 2 ^ block.log2_size * 2 ^ block.log2_size }
+    requires room { length out.old ≡ length scaled.now }
+    ensures value { (x y : ℕ) → x < 2 ^ block.log2_size → y < 2 ^ block.log2_size → block_in (2 ^ block.log2_size) out.new x y ≡ skipped (depth_of format.now block.component) (block_in (2 ^ block.log2_size) scaled.now x y) }
+    ensures small { All IsResidual out.new }
+{
+    let depth = depth_of(format, block.component);
+    skip(scaled, u32::from(block.log2_size), depth, out);
+}
+
+/// The residuals of a block's levels, where cu_transquant_bypass_flag is 0.
+pub(crate) fn residuals_of(
+    format: &UnitFormat,
+    block: CodedBlock,
+    qp: u32,
+    levels: &[i32],
+    scaled: &mut [i32],
+    out: &mut [i32],
+)
+    requires format { IsFormat format.now }
+    requires block { IsCoded block }
+    requires qp { IsParameter (depth_of format.now block.component) qp }
+    requires levels { All Is16 levels.now }
+    requires count { length levels.now ≡ 2 ^ block.log2_size * 2 ^ block.log2_size }
+    requires scaled { length scaled.old ≡ length levels.now }
+    requires room { length out.old ≡ length levels.now }
+    ensures value { (x y : ℕ) → x < 2 ^ block.log2_size → y < 2 ^ block.log2_size → block_in (2 ^ block.log2_size) out.new x y ≡ residuals format.now false block qp levels.now x y }
+    ensures small { All IsResidual out.new }
+{
+    scale_levels(format, block, qp, levels, scaled);
+    if block.transform_skip {
+        skip_transform(format, block, scaled, out);
+    } else {
+        transform(format, block, scaled, out);
+    }
+}

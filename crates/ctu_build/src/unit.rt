@@ -1,0 +1,135 @@
+//! The samples of a coding tree unit.
+
+ghost use Rattle.std.specs.Prelude.{◌≡◌, ◌+◌, ◌<◌, ◌≤◌};
+ghost use Rattle.ctu_build.specs.Building.{building};
+ghost use Rattle.ctu_build.specs.Held.{held};
+ghost use Rattle.ctu_build.specs.Sound.{AreSound, IsCoded, IsFormat, IsSound, IsSquare};
+ghost use Rattle.ctu_records.specs.Tree.{luma_mode_at, qp_at};
+ghost use Rattle.std.specs.List.{All};
+ghost use Rattle.spec_reconstruction.specs.Unit.{before_unit, item_built, items_built, unit_built};
+
+use crate::blocks::{InUnit, construct};
+use crate::pulses::lay_pulses;
+use crate::scratch::Scratch;
+use crate::transform_units::{Modes, predict_unit};
+use crate::unit_samples::UnitSamples;
+use ctu_records::{CodedBlock, Item, Records, Square};
+use spec_reconstruction::UnitFormat;
+
+/// What is known of the coding unit that is built.
+#[derive(Clone, Copy, Debug, PartialEq, Eq)]
+pub(crate) struct Coding {
+    /// cu_transquant_bypass_flag.
+    pub(crate) transquant_bypass: bool,
+    /// IntraPredModeC.
+    pub(crate) chroma_mode: u8,
+}
+
+/// Builds the samples of a unit from what was read of it and what is known beside it.
+#[tactic(auto, unfolding(spec_reconstruction::specs::Unit::unit_built))]
+pub fn build_ctu(
+    records: &Records,
+    format: &UnitFormat,
+    scratch: &mut Scratch,
+    samples: &mut UnitSamples,
+)
+    requires format { IsFormat format.now }
+    requires items { AreSound format.now records.now.items }
+    ensures value { held samples.new ≡ unit_built format.now records.now.items (held samples.old) }
+{
+    build_items(records, format, records.items(), scratch, samples);
+}
+
+/// Builds what items tell, one after the other.
+fn build_items(
+    records: &Records,
+    format: &UnitFormat,
+    items: &[Item],
+    scratch: &mut Scratch,
+    samples: &mut UnitSamples,
+)
+    requires format { IsFormat format.now }
+    requires records { AreSound format.now records.now.items }
+    requires items { All (IsSound format.now) items.now }
+    ensures { (items_built format.now records.now.items items.now (before_unit (held samples.old))).known ≡ held samples.new }
+{
+    let mut coding = Coding {
+        transquant_bypass: false,
+        chroma_mode: 0,
+    };
+    for k in 0..items.len() {
+        let behind = &items[k + 1..];
+        coding = build_item(records, format, coding, items[k], behind, scratch, samples);
+    }
+}
+
+/// Builds what an item tells, with the items behind it.
+fn build_item(
+    records: &Records,
+    format: &UnitFormat,
+    coding: Coding,
+    item: Item,
+    behind: &[Item],
+    scratch: &mut Scratch,
+    samples: &mut UnitSamples,
+) -> Coding
+    requires format { IsFormat format.now }
+    requires items { AreSound format.now records.now.items }
+    requires item { IsSound format.now item }
+    requires behind { All (IsSound format.now) behind.now }
+    requires mode { coding.chroma_mode ≤ 34 }
+    ensures value { building result (held samples.new) ≡ item_built format.now records.now.items (building coding (held samples.old)) item behind.now }
+    ensures mode { result.chroma_mode ≤ 34 }
+{
+    match item {
+        Item::Unit(unit) => Coding {
+            transquant_bypass: unit.transquant_bypass,
+            chroma_mode: coding.chroma_mode,
+        },
+        Item::Chroma(mode) => Coding {
+            transquant_bypass: coding.transquant_bypass,
+            chroma_mode: mode,
+        },
+        Item::Pcm(square) => {
+            lay_pulses(format, square, behind, &mut scratch.samples, samples);
+            coding
+        }
+        Item::Transform(unit) => {
+            let modes = modes_of(records, coding, unit.square);
+            predict_unit(format, modes, unit.square, scratch, samples);
+            coding
+        }
+        Item::Block(block) => {
+            let coded = in_unit(records, coding, block);
+            construct(format, coded, behind, scratch, samples);
+            coding
+        }
+        Item::Luma(_) | Item::Sample(_) | Item::Delta(_) | Item::Level(_, _) => coding,
+    }
+}
+
+/// The modes of a transform unit's blocks.
+fn modes_of(records: &Records, coding: Coding, square: Square) -> Modes
+    requires { IsSquare square }
+    ensures luma { result.luma ≡ luma_mode_at records.now.items square.x square.y }
+    ensures chroma { result.chroma ≡ coding.chroma_mode }
+{
+    Modes {
+        luma: records.luma_mode(usize::from(square.x), usize::from(square.y)),
+        chroma: coding.chroma_mode,
+    }
+}
+
+/// A block in its coding unit.
+fn in_unit(records: &Records, coding: Coding, block: CodedBlock) -> InUnit
+    requires { IsCoded block }
+    ensures block { result.block ≡ block }
+    ensures bypass { result.transquant_bypass ≡ coding.transquant_bypass }
+    ensures qp { result.qp ≡ qp_at records.now.items block.x block.y }
+{
+    InUnit {
+        block,
+        transquant_bypass: coding.transquant_bypass,
+        qp: records.qp(usize::from(block.x), usize::from(block.y)),
+    }
+}
