@@ -20,12 +20,21 @@ unfoldable pub z_scan_order : SliceArea → ℕ → ℕ → ℕ
 z_scan_order area x y =
     256 * unit_of_place area x y + (spread (x % 2 ^ area.size) + 2 * spread (y % 2 ^ area.size))
 
--- a place that the picture has, in the same slice, and not decoded after another place
+-- the first column, or row, of the block of so many places on a side that has a place
+abbrev pub block_start : ℕ → ℕ → ℕ
+block_start log2 x = x - x % 2 ^ log2
+
+-- where the minimum transform block of a place stands in that order, told by the block's first place (MinTbAddrZs)
+abbrev pub min_transform_order : SliceArea → ℕ → ℕ → ℕ
+min_transform_order area x y = z_scan_order area (block_start area.min_transform x) (block_start area.min_transform y)
+
+-- a place that the picture has, in the same slice, and in a minimum transform block that isn't decoded after that of
+-- another place
 abbrev pub is_usable : SliceArea → ℕ → ℕ → ℕ → ℕ → Bool
 is_usable area x y neighbour_x neighbour_y =
     (nat_lt neighbour_x area.across && nat_lt neighbour_y area.down)
     && (nat_le area.first_unit (unit_of_place area neighbour_x neighbour_y)
-    && nat_le (z_scan_order area neighbour_x neighbour_y) (z_scan_order area x y))
+    && nat_le (min_transform_order area neighbour_x neighbour_y) (min_transform_order area x y))
 
 -- availableN: places left of the picture and above it have a coordinate below 0
 unfoldable pub available : SliceArea → ℕ → ℕ → ℤ → ℤ → Bool

@@ -1,7 +1,7 @@
 //! Which places may be used by another (6.4.1). A place is a block of 4x4 luma samples.
 
 ghost use Rattle.std.specs.Prelude.{◌≡◌, ◌+◌, ◌*◌, ◌^◌, ◌<◌, ◌≤◌};
-ghost use Rattle.block_geometry.specs.Availability.{available, is_usable, spread, unit_of_place, z_scan_order};
+ghost use Rattle.block_geometry.specs.Availability.{available, block_start, is_usable, min_transform_order, spread, unit_of_place, z_scan_order};
 
 /// The picture of a slice, in places.
 #[derive(Clone, Copy, Debug, PartialEq, Eq)]
@@ -12,17 +12,20 @@ pub struct SliceArea {
     pub down: u32,
     /// The binary logarithm of a coding tree unit's side in places, at most 4.
     pub size: u32,
+    /// The binary logarithm of a minimum transform block's side in places, at most 3.
+    pub min_transform: u32,
     /// SliceAddrRs: the address of the slice's first coding tree unit.
     pub first_unit: u32,
 }
 
 /// Whether the place at (`neighbour_x`, `neighbour_y`) is available for the one at (`x`, `y`) of the slice: the picture
-/// has it, it is in the same slice, and it isn't decoded after that one.
+/// has it, it is in the same slice, and its minimum transform block isn't decoded after the one of that place.
 #[tactic(auto, unfolding(crate::specs::Availability::available))]
 pub fn available(area: &SliceArea, x: u32, y: u32, neighbour_x: i32, neighbour_y: i32) -> bool
     requires across { area.now.across ≤ 2048 }
     requires down { area.now.down ≤ 2048 }
     requires size { area.now.size ≤ 4 }
+    requires block { area.now.min_transform ≤ 3 }
     requires x { x < area.now.across }
     requires y { y < area.now.down }
     ensures { result ≡ available area.now x y neighbour_x neighbour_y }
@@ -38,6 +41,7 @@ fn is_usable(area: &SliceArea, x: u32, y: u32, neighbour_x: u32, neighbour_y: u3
     requires across { area.now.across ≤ 2048 }
     requires down { area.now.down ≤ 2048 }
     requires size { area.now.size ≤ 4 }
+    requires block { area.now.min_transform ≤ 3 }
     requires x { x < area.now.across }
     requires y { y < area.now.down }
     ensures { result ≡ is_usable area.now x y neighbour_x neighbour_y }
@@ -46,7 +50,29 @@ fn is_usable(area: &SliceArea, x: u32, y: u32, neighbour_x: u32, neighbour_y: u3
         return false;
     }
     area.first_unit <= unit_of_place(area, neighbour_x, neighbour_y)
-        && z_scan_order(area, neighbour_x, neighbour_y) <= z_scan_order(area, x, y)
+        && min_transform_order(area, neighbour_x, neighbour_y) <= min_transform_order(area, x, y)
+}
+
+/// Where the minimum transform block of a place stands in z-scan order.
+fn min_transform_order(area: &SliceArea, x: u32, y: u32) -> u32
+    requires across { area.now.across ≤ 2048 }
+    requires size { area.now.size ≤ 4 }
+    requires block { area.now.min_transform ≤ 3 }
+    requires x { x < 2048 }
+    requires y { y < 2048 }
+    ensures { result ≡ min_transform_order area.now x y }
+{
+    let log2 = area.min_transform;
+    z_scan_order(area, block_start(log2, x), block_start(log2, y))
+}
+
+/// The first column, or row, of the block of so many places on a side that has a place.
+fn block_start(log2: u32, x: u32) -> u32
+    requires { log2 ≤ 4 }
+    ensures value { result ≡ block_start log2 x }
+    ensures before { result ≤ x }
+{
+    x.saturating_sub(x % side_of(log2))
 }
 
 /// The address of the coding tree unit that has a place.
@@ -77,7 +103,7 @@ fn z_scan_order(area: &SliceArea, x: u32, y: u32) -> u32
     256 * unit_of_place(area, x, y) + (spread(x % side) + 2 * spread(y % side))
 }
 
-/// A coding tree unit's side in places.
+/// A side in places.
 fn side_of(size: u32) -> u32
     requires { size ≤ 4 }
     ensures value { result ≡ 2 ^ size }
