@@ -7,7 +7,7 @@ use Rattle.ctu_records.specs.declared.item.Item.{Item}
 use Rattle.ctu_records.specs.declared.item.Item.TheVariants.{Unit, Luma, Chroma, Pcm, Sample, Transform, Delta, Block, Level}
 use Rattle.spec_reconstruction.specs.declared.format.UnitFormat.{UnitFormat}
 use Rattle.spec_reconstruction.specs.Pulses.{sample_of}
-use Rattle.ctu_build.specs.Sound.{IsPulse, IsSound}
+use Rattle.spec_reconstruction.specs.Sound.{IsPulse, IsSound}
 
 none_small : (format : UnitFormat) → IsPulse format 0
 none_small format = record { luma = omega arith; chroma = omega arith }

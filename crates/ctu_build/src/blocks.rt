@@ -3,7 +3,7 @@
 ghost use Rattle.std.specs.Prelude.{◌≡◌, ◌+◌, ◌*◌, ◌^◌, ◌<◌, ◌≤◌, Bool, true, false, length};
 ghost use Rattle.std.specs.List.{All};
 ghost use Rattle.ctu_build.specs.Held.{held, IsInside};
-ghost use Rattle.ctu_build.specs.Sound.{IsCoded, IsFormat};
+ghost use Rattle.spec_reconstruction.specs.Sound.{IsCoded, IsFormat};
 ghost use Rattle.spec_reconstruction.specs.Known.{constructed};
 ghost use Rattle.spec_reconstruction.specs.Parameters.{depth_of};
 ghost use Rattle.spec_reconstruction.specs.Residuals.{residuals_behind, levels_behind};

@@ -5,7 +5,7 @@ ghost use Rattle.spec_reconstruction.specs.Factors.{factor, first_factor};
 ghost use Rattle.spec_reconstruction.specs.Parameters.{depth_of, depth_offset, chroma_offset, chroma_parameter, offset_parameter, parameter_of};
 ghost use Rattle.spec_slice_data.specs.Quantization.{chroma_qp_of_index};
 ghost use Rattle.spec_transforms.specs.Scaling.{IsDepth, IsParameter};
-ghost use Rattle.ctu_build.specs.Sound.{IsFormat};
+ghost use Rattle.spec_reconstruction.specs.Sound.{IsFormat};
 
 use spec_reconstruction::UnitFormat;
 

@@ -2,7 +2,7 @@
 
 ghost use Rattle.std.specs.Prelude.{◌≡◌, ◌<◌, ◌≤◌, ◌+◌, ◌*◌, ◌^◌};
 ghost use Rattle.ctu_build.specs.Held.{IsInside, chroma_place, luma_place, place_of};
-ghost use Rattle.ctu_build.specs.Sound.{IsCoded, IsSquare};
+ghost use Rattle.spec_reconstruction.specs.Sound.{IsCoded, IsSquare};
 
 use ctu_records::{CodedBlock, Square};
 

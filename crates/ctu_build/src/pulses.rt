@@ -4,7 +4,7 @@ ghost use Rattle.std.specs.Prelude.{◌≡◌, ℕ, ◌+◌, ◌-◌, ◌*◌, �
 ghost use Rattle.std.specs.List.{All};
 ghost use Rattle.ctu_records.specs.declared.item.Item.TheVariants.{Sample};
 ghost use Rattle.ctu_build.specs.Held.{held, IsInside};
-ghost use Rattle.ctu_build.specs.Sound.{IsFormat, IsSquare, IsSound};
+ghost use Rattle.spec_reconstruction.specs.Sound.{IsFormat, IsSquare, IsSound};
 ghost use Rattle.spec_reconstruction.specs.Known.{laid};
 ghost use Rattle.spec_reconstruction.specs.Pulses.{sample_of, shifted, pulses_laid};
 

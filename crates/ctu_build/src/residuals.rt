@@ -6,7 +6,7 @@ ghost use Rattle.spec_reconstruction.specs.Parameters.{depth_of};
 ghost use Rattle.spec_reconstruction.specs.Residuals.{has_sines, residuals, scaled_block};
 ghost use Rattle.spec_transforms.specs.Scaling.{Is16, IsParameter};
 ghost use Rattle.spec_transforms.specs.Transforms.{IsResidual, block_in, skipped, transformed};
-ghost use Rattle.ctu_build.specs.Sound.{IsCoded, IsFormat};
+ghost use Rattle.spec_reconstruction.specs.Sound.{IsCoded, IsFormat};
 
 use crate::parameters::{depth_of, factors_of};
 use ctu_records::CodedBlock;

@@ -2,7 +2,7 @@
 
 ghost use Rattle.std.specs.Prelude.{◌≡◌, ◌+◌, ◌*◌, ◌^◌, ◌<◌, ◌≤◌};
 ghost use Rattle.ctu_build.specs.Held.{held, IsInside};
-ghost use Rattle.ctu_build.specs.Sound.{IsFormat, IsSquare};
+ghost use Rattle.spec_reconstruction.specs.Sound.{IsFormat, IsSquare};
 ghost use Rattle.spec_reconstruction.specs.Prediction.{block_predicted, chroma_predicted, chroma_of_unit_predicted, unit_predicted, is_fourth};
 ghost use Rattle.spec_slice_data.specs.Transform.{whole_of_fourth};
 

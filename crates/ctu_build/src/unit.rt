@@ -3,7 +3,7 @@
 ghost use Rattle.std.specs.Prelude.{◌≡◌, ◌+◌, ◌<◌, ◌≤◌};
 ghost use Rattle.ctu_build.specs.Building.{building};
 ghost use Rattle.ctu_build.specs.Held.{held};
-ghost use Rattle.ctu_build.specs.Sound.{AreSound, IsCoded, IsFormat, IsSound, IsSquare};
+ghost use Rattle.spec_reconstruction.specs.Sound.{AreSound, IsCoded, IsFormat, IsSound, IsSquare};
 ghost use Rattle.ctu_records.specs.Tree.{luma_mode_at, qp_at};
 ghost use Rattle.std.specs.List.{All};
 ghost use Rattle.spec_reconstruction.specs.Unit.{before_unit, item_built, items_built, unit_built};

@@ -1,5 +1,6 @@
 -- The scaling factors of transform blocks (7.4.5, 8.6.3).
-use Rattle.std.specs.Prelude.{ℕ, ◌+◌, ◌-◌, ◌*◌, ◌/◌, ◌%◌, ◌^◌, ◌==◌, ◌&&◌, nat_lt, Option, Some, None, List, [], slice_index_or, if◌then◌else◌}
+use Rattle.std.specs.Prelude.{ℕ, ◌+◌, ◌-◌, ◌*◌, ◌/◌, ◌%◌, ◌^◌, ◌==◌, ◌&&◌, nat_lt, Option, Some, None, List, [], ◌++◌, map, slice_index_or, if◌then◌else◌}
+use Rattle.std.specs.List.{range_with_len}
 use Rattle.block_geometry.specs.declared.kind.Scan.TheVariants.{Diagonal}
 use Rattle.block_geometry.specs.Scans.{scan_index}
 use Rattle.header_types.specs.declared.scaling.ScalingList.{ScalingList}
@@ -36,3 +37,14 @@ listed_factor list log2 x y =
 unfoldable pub scaling_factor : Option ScalingLists → ℕ → ℕ → ℕ → ℕ → ℕ
 scaling_factor None log2 c x y = 16
 scaling_factor (Some lists) log2 c x y = listed_factor (list_of lists log2 c) log2 x y
+
+-- those of the blocks of a component and a size, row after row
+abbrev pub factors_in_rows : Option ScalingLists → ℕ → ℕ → List ℕ
+factors_in_rows lists log2 c = map (λ k. scaling_factor lists log2 c (k % 2 ^ log2) (k / 2 ^ log2)) (range_with_len 0 (2 ^ log2 * 2 ^ log2))
+
+abbrev pub factors_of_size : Option ScalingLists → ℕ → List ℕ
+factors_of_size lists log2 = factors_in_rows lists log2 0 ++ (factors_in_rows lists log2 1 ++ factors_in_rows lists log2 2)
+
+-- those of all blocks of intra coding units
+unfoldable pub scaling_factors : Option ScalingLists → ScalingFactors
+scaling_factors lists = record { by_place = factors_of_size lists 2 ++ (factors_of_size lists 3 ++ (factors_of_size lists 4 ++ factors_in_rows lists 5 0)) }

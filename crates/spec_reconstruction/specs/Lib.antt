@@ -5,3 +5,4 @@ pub mod Residuals
 pub mod Prediction
 pub mod Pulses
 pub mod Unit
+pub mod Sound

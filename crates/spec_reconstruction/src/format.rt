@@ -19,9 +19,9 @@ pub struct UnitFormat {
     /// PcmBitDepthC.
     pub pcm_chroma_bits: u8,
     /// The sum of pps_cb_qp_offset and slice_cb_qp_offset.
-    pub cb_qp_offset: i8,
+    pub cb_qp_offset: i64,
     /// The sum of pps_cr_qp_offset and slice_cr_qp_offset.
-    pub cr_qp_offset: i8,
+    pub cr_qp_offset: i64,
     /// strong_intra_smoothing_enabled_flag.
     pub strong_intra_smoothing: bool,
     pub factors: ScalingFactors,

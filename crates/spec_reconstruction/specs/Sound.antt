@@ -1,4 +1,5 @@
--- What is asked of a unit that is built: what its syntax and the sets that it belongs to give.
+-- The ranges of what is read of a unit, for which its samples are told: what its syntax and the sets that it belongs to
+-- give.
 use Rattle.std.specs.Prelude.{◌≡◌, ℕ, ◌+◌, ◌-◌, ◌*◌, ◌^◌, ◌<◌, ◌≤◌, List, ⊤}
 use Rattle.std.specs.List.{All}
 use Rattle.ctu_records.specs.declared.item.Item.{Item}

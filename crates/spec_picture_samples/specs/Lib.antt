@@ -1,0 +1,4 @@
+pub mod Border
+pub mod Format
+pub mod Built
+pub mod Output
