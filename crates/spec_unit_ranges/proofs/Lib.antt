@@ -1,0 +1,9 @@
+pub mod Formats
+pub mod Items
+pub mod Modes
+pub mod Quantization
+pub mod Squares
+pub mod Transforms
+pub mod Quadtree
+pub mod Units
+pub mod Pictures

@@ -1,0 +1,139 @@
+-- A coding tree unit that is read is kept.
+use Rattle.std.proofs.Common.{◌≡◌, ℕ, zero, suc, ◌+◌, ◌-◌, ◌*◌, ◌^◌, ◌<◌, ◌≤◌, Bool, true, false, refl, sym, subst, arith}
+use Rattle.std.specs.Prelude.{◌&&◌, not, nat_le, nat_lt}
+use Rattle.std.proofs.Math.Nat.{pow-le-pow_right, mul-le-mul_left}
+use Rattle.std.proofs.lemmas.Bool.{and_parts, leb-true}
+use Rattle.ctu_records.specs.declared.item.Item.TheVariants.{Chroma, Pcm, Sample}
+use Rattle.ctu_records.specs.declared.item.Square.{Square}
+use Rattle.ctu_records.specs.declared.offset.Sao.{Sao}
+use Rattle.ctu_records.specs.Tree.{Ctu, added, with_sao}
+use Rattle.spec_cabac.specs.Bins.{Tree}
+use Rattle.spec_reconstruction.specs.declared.format.UnitFormat.{UnitFormat}
+use Rattle.spec_reconstruction.specs.Sound.{IsSquare, IsPulse}
+use Rattle.spec_slice_data.specs.declared.syntax.CtuSyntax.{CtuSyntax}
+use Rattle.spec_slice_data.specs.declared.syntax.End.{End}
+use Rattle.spec_slice_data.specs.Modes.{upper_left, upper_right, lower_left, lower_right}
+use Rattle.spec_slice_data.specs.Quantization.{grouped}
+use Rattle.spec_slice_data.specs.Tree.{pcm_sample, pcm_samples, pcm_unit, pcm_flag, begun_unit, unit_syntax, intra_unit, unit_body, coding_unit, split_or_unit, where_reached, coding_quadtree, whole_unit, coding_tree_unit, unit_and_end}
+use Rattle.spec_unit_ranges.proofs.Formats.{Gives, give_gives, then_gives, after_any, always, when_gives, times_gives, sample_gives}
+use Rattle.spec_unit_ranges.proofs.Items.{IsKept, added_kept, sao_kept}
+use Rattle.spec_unit_ranges.proofs.Modes.{luma_modes_kept, chroma_modes-gives}
+use Rattle.spec_unit_ranges.proofs.Quantization.{grouped_kept, begun_kept}
+use Rattle.spec_unit_ranges.proofs.Squares.{IsInside, whole_inside, upper_left_inside, upper_right_inside, lower_left_inside, lower_right_inside, square_inside}
+use Rattle.spec_unit_ranges.proofs.Transforms.{transform_tree_kept}
+
+-- samples of up to 8 bits, transform blocks of up to 32x32, and pulse code modulation of 8x8 to 32x32
+pub record Fits (format : UnitFormat) (syntax : CtuSyntax) : Type 0 where
+  pub luma : format.luma_depth ≤ 8
+  pub chroma : format.chroma_depth ≤ 8
+  pub transform : syntax.log2_max_transform ≤ 3
+  pub luma_bits : syntax.pcm.luma_bits ≤ 8
+  pub chroma_bits : syntax.pcm.chroma_bits ≤ 8
+  pub least : syntax.pcm.enabled ≡ true → 1 ≤ syntax.pcm.log2_least
+  pub greatest : syntax.pcm.log2_greatest ≤ 3
+
+shifted-small : (depth bits most value : ℕ) → depth ≤ 8 → most ≤ 8 → value < 2 ^ most → value * 2 ^ (depth - bits) < 65536
+shifted-small depth bits most value deep few below =
+    let sample : 2 ^ most ≤ 2 ^ 8 = pow-le-pow_right {n = 2} (omega arith) few in
+    let less : depth - bits ≤ 8 = omega (arith, deep) in
+    let shift : 2 ^ (depth - bits) ≤ 2 ^ 8 = pow-le-pow_right {n = 2} (omega arith) less in
+    let product : value * 2 ^ (depth - bits) ≤ value * 2 ^ 8 = mul-le-mul_left value shift in
+    omega (arith, below, sample, product)
+
+-- the sizes of pulse code modulation
+abbrev IsPcmSize : ℕ → Bool → Type 0
+IsPcmSize n pcm = pcm ≡ true → (1 ≤ n) × (n ≤ 3)
+
+module _ (format : UnitFormat) (syntax : CtuSyntax) (fits : Fits format syntax) where
+  abbrev Kept : Ctu → Type 0
+  Kept = IsKept format (51 + syntax.qp_offset)
+
+  pulse : (most value : ℕ) → most ≤ 8 → value < 2 ^ most → IsPulse format value
+  pulse most value few below = record {
+    luma = shifted-small format.luma_depth format.pcm_luma_bits most value fits.luma few below;
+    chroma = shifted-small format.chroma_depth format.pcm_chroma_bits most value fits.chroma few below;
+  }
+
+  samples_kept : (bits count : ℕ) (ctu : Ctu) → bits ≤ 8 → Kept ctu → Gives Kept (pcm_samples bits count ctu)
+  samples_kept bits count ctu few kept =
+      times_gives (pcm_sample bits)
+      (λ i c c_kept. then_gives (sample_gives bits) (λ value below. give_gives (added c (Sample value)) (added_kept format (51 + syntax.qp_offset) c (Sample value) c_kept (pulse bits value few below) tt tt)))
+      0 count ctu kept
+
+  pcm_kept : (square : Square) (ctu : Ctu) → IsSquare square → 1 ≤ square.log2_size → Kept ctu → Gives Kept (pcm_unit syntax.pcm square ctu)
+  unfolding pcm_unit
+  pcm_kept square ctu inside some kept =
+      after_any (λ began.
+      then_gives (samples_kept syntax.pcm.luma_bits (16 * 4 ^ square.log2_size) (added ctu (Pcm square)) fits.luma_bits (added_kept format (51 + syntax.qp_offset) ctu (Pcm square) kept (inside, some) tt tt)) (λ luma luma_kept.
+      then_gives (samples_kept syntax.pcm.chroma_bits (8 * 4 ^ square.log2_size) luma fits.chroma_bits luma_kept) (λ chroma chroma_kept.
+      after_any (λ ended. give_gives chroma chroma_kept))))
+
+  pcm_flag-gives : (split : Bool) (n : ℕ) → Gives (IsPcmSize n) (pcm_flag syntax.pcm split n)
+  pcm_flag-gives split n =
+      let pcm = syntax.pcm in
+      when_gives ((pcm.enabled && not split) && (nat_le pcm.log2_least n && nat_le n pcm.log2_greatest))
+      (λ held. always _ (λ flag set.
+      let parts = and_parts (pcm.enabled && not split) _ held in
+      let sizes = and_parts (nat_le pcm.log2_least n) _ parts.1 in
+      let least = fits.least (and_parts pcm.enabled _ parts.0).0 in
+      let above = leb-true pcm.log2_least n sizes.0 in
+      let below = leb-true n pcm.log2_greatest sizes.1 in
+      (omega (arith, least, above), omega (arith, below, fits.greatest))))
+      (λ held. give_gives false (λ set. absurd cc))
+
+  intra_kept : (n : ℕ) (square : Square) (transquant_bypass split : Bool) (ctu : Ctu) → IsInside n square → Kept ctu → Gives Kept (intra_unit syntax square transquant_bypass split ctu)
+  unfolding intra_unit
+  intra_kept n square transquant_bypass split ctu inside kept =
+      then_gives (luma_modes_kept format (51 + syntax.qp_offset) split square ctu kept) (λ predicted predicted_kept.
+      then_gives (chroma_modes-gives format (51 + syntax.qp_offset) square.x square.y predicted predicted_kept) (λ mode small.
+      transform_tree_kept format syntax fits.transform (unit_syntax square transquant_bypass split mode) (record { cb = true; cr = true }) square.log2_size 0 square (added predicted (Chroma mode))
+      (record { size = refl; x = subst (λ k. square.x + 2 ^ k ≤ 16) (sym inside.size) inside.x; y = subst (λ k. square.y + 2 ^ k ≤ 16) (sym inside.size) inside.y })
+      (added_kept format (51 + syntax.qp_offset) predicted (Chroma mode) predicted_kept small tt tt)))
+
+  body_kept : (n : ℕ) (square : Square) (transquant_bypass : Bool) (ctu : Ctu) → IsInside n square → Kept ctu → Gives Kept (unit_body syntax square transquant_bypass ctu)
+  unfolding unit_body
+  body_kept n square transquant_bypass ctu inside kept =
+      after_any (λ split. then_gives (pcm_flag-gives split square.log2_size) (λ pcm sizes. when_gives pcm
+      (λ held. pcm_kept square ctu (square_inside n square inside (sizes held).1) (sizes held).0 kept)
+      (λ held. intra_kept n square transquant_bypass split ctu inside kept)))
+
+  unit_kept : (n depth : ℕ) (square : Square) (ctu : Ctu) → IsInside n square → Kept ctu → Gives Kept (coding_unit syntax depth square ctu)
+  unfolding coding_unit
+  unit_kept n depth square ctu inside kept =
+      after_any (λ transquant_bypass. body_kept n square transquant_bypass (begun_unit depth square transquant_bypass ctu) inside
+      (begun_kept format (51 + syntax.qp_offset) depth square transquant_bypass ctu kept))
+
+  split_kept : (n : ℕ) (quarter : Square → Ctu → Tree Ctu) → ((s : Square) (c : Ctu) → IsInside n s → Kept c → Gives Kept (quarter s c))
+      → (depth : ℕ) (square : Square) (ctu : Ctu) → IsInside (suc n) square → Kept ctu → Gives Kept (split_or_unit syntax quarter depth square ctu)
+  split_kept n quarter each depth square ctu inside kept =
+      after_any (λ split. when_gives split
+      (λ held.
+      then_gives (each (upper_left square) ctu (upper_left_inside n square inside) kept) (λ first first_kept.
+      then_gives (each (upper_right square) first (upper_right_inside n square inside) first_kept) (λ second second_kept.
+      then_gives (each (lower_left square) second (lower_left_inside n square inside) second_kept) (λ third third_kept.
+      each (lower_right square) third (lower_right_inside n square inside) third_kept))))
+      (λ held. unit_kept (suc n) depth square ctu inside kept))
+
+  reached_kept : (square : Square) (ctu : Ctu) (tree : Tree Ctu) → Kept ctu → Gives Kept tree → Gives Kept (where_reached syntax square ctu tree)
+  reached_kept square ctu tree kept gives = when_gives (nat_lt square.x syntax.right && nat_lt square.y syntax.lower) (λ held. gives) (λ held. give_gives ctu kept)
+
+  quadtree_kept : (n depth : ℕ) (square : Square) (ctu : Ctu) → IsInside n square → Kept ctu → Gives Kept (coding_quadtree syntax n depth square ctu)
+  unfolding coding_quadtree
+  quadtree_kept zero depth square ctu inside kept =
+      reached_kept square ctu _ kept (unit_kept zero depth square (grouped syntax square ctu) inside (grouped_kept format (51 + syntax.qp_offset) syntax square ctu kept))
+  quadtree_kept (suc n) depth square ctu inside kept =
+      reached_kept square ctu _ kept
+      (split_kept n (coding_quadtree syntax n (depth + 1)) (λ s c. quadtree_kept n (depth + 1) s c) depth square (grouped syntax square ctu) inside
+      (grouped_kept format (51 + syntax.qp_offset) syntax square ctu kept))
+
+  tree_unit_kept : (left above : Sao) (ctu : Ctu) → ctu.size ≤ 4 → Kept ctu → Gives Kept (coding_tree_unit syntax left above ctu)
+  unfolding coding_tree_unit
+  tree_unit_kept left above ctu small kept =
+      after_any (λ offsets. quadtree_kept ctu.size 0 (whole_unit ctu.size) (with_sao ctu offsets) (whole_inside ctu.size small) (sao_kept format (51 + syntax.qp_offset) ctu offsets kept))
+
+  -- a unit and what follows it
+  pub unit_and_end_kept : (left above : Sao) (is_last ends_subset : Bool) (ctu : Ctu) → ctu.size ≤ 4 → IsKept format (51 + syntax.qp_offset) ctu
+      → Gives (λ (read : Ctu × End). IsKept format (51 + syntax.qp_offset) read.0) (unit_and_end syntax left above is_last ends_subset ctu)
+  unfolding unit_and_end
+  unit_and_end_kept left above is_last ends_subset ctu small kept =
+      then_gives (tree_unit_kept left above ctu small kept) (λ read read_kept. after_any (λ follows. give_gives (read, follows) read_kept))
