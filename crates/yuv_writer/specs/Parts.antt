@@ -1,0 +1,18 @@
+-- Parts of a window.
+use Rattle.std.specs.Prelude.{ℕ, ◌+◌, ◌≤◌}
+use Rattle.spec_picture_samples.specs.Output.{Window}
+
+-- its first rows
+abbrev pub upper : Window → ℕ → Window
+upper w rows = record { left = w.left; top = w.top; width = w.width; height = rows }
+
+-- rows of it from one on
+abbrev pub below : Window → ℕ → ℕ → Window
+below w first rows = record { left = w.left; top = w.top + first; width = w.width; height = rows }
+
+-- a window of a plane of these sides, which are up to 8192
+pub record LiesIn (w : Window) (width height : ℕ) : Type 0 where
+  pub columns : w.left + w.width ≤ width
+  pub rows : w.top + w.height ≤ height
+  pub few_columns : w.left + w.width ≤ 8192
+  pub few_rows : w.top + w.height ≤ 8192

@@ -1,0 +1,9 @@
+//! Pictures as they are put out: I420 inside the conformance window, a byte a sample (H.265 7.4.3.2, C.4).
+#![tactic(auto)]
+
+mod gathering;
+mod pieces;
+mod window;
+mod writing;
+
+pub use writing::write_picture;

@@ -1,0 +1,68 @@
+//! The part of a plane that goes out.
+
+ghost use Rattle.std.specs.Prelude.{◌≡◌, ℕ, ◌+◌, ◌/◌, ◌<◌, ◌≤◌};
+ghost use Rattle.header_types.specs.SequenceParameterSets.{IsPictureFormat};
+ghost use Rattle.spec_picture_samples.specs.Output.{window_of, luma_samples};
+ghost use Rattle.yuv_writer.specs.Parts.{below, LiesIn};
+
+use header_types::PictureFormat;
+use std::marker::Model;
+
+/// A part of a plane, in samples of its component.
+#[derive(Drop)]
+pub(crate) struct PlaneWindow {
+    pub left: u32,
+    pub top: u32,
+    pub width: u32,
+    pub height: u32,
+}
+
+impl Model for PlaneWindow {
+    ghost use Rattle.spec_picture_samples.specs.Output.{Window};
+
+    ghost Value = { Window };
+
+    ghost view = { λ w. record { left = w.left; top = w.top; width = w.width; height = w.height } };
+}
+
+impl PlaneWindow {
+    /// So many of its rows, from one on.
+    pub(crate) fn below(&self, first: u32, rows: u32) -> PlaneWindow
+        requires { self.now.top + first < 65536 }
+        ensures { result ≡ below self.now first rows }
+    {
+        PlaneWindow {
+            left: self.left,
+            top: self.top + first,
+            width: self.width,
+            height: rows,
+        }
+    }
+}
+
+/// The conformance window in samples of component `c`.
+#[tactic(auto, unfolding(spec_picture_samples::specs::Output::window_of))]
+pub(crate) fn window_of(format: &PictureFormat, c: usize) -> PlaneWindow
+    requires { IsPictureFormat format.now }
+    ensures value { result ≡ window_of format.now c }
+    ensures lies { LiesIn result (format.now.pic_width_in_luma_samples / luma_samples c) (format.now.pic_height_in_luma_samples / luma_samples c) }
+{
+    let width = format.pic_width_in_luma_samples;
+    let height = format.pic_height_in_luma_samples;
+    let luma_samples = if c == 0 { 1 } else { 2 };
+    match format.conformance_window {
+        None => PlaneWindow {
+            left: 0,
+            top: 0,
+            width: width / luma_samples,
+            height: height / luma_samples,
+        },
+        Some(w) => PlaneWindow {
+            left: 2 * w.conf_win_left_offset / luma_samples,
+            top: 2 * w.conf_win_top_offset / luma_samples,
+            width: (width - 2 * (w.conf_win_left_offset + w.conf_win_right_offset)) / luma_samples,
+            height: (height - 2 * (w.conf_win_top_offset + w.conf_win_bottom_offset))
+                / luma_samples,
+        },
+    }
+}
