@@ -1,9 +1,10 @@
 pub mod Squares
+pub mod Cells
 pub mod Changes
 pub mod Fits
 pub mod LevelItems
-pub mod Nothing
 pub mod SampleItems
 pub mod Transforming
 pub mod Sizes
 pub mod Steps
+pub mod Indices

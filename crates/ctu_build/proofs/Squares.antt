@@ -1,5 +1,5 @@
 -- Samples and residuals of a block by place.
-use Rattle.std.proofs.Common.{◌≡◌, ℕ, ◌+◌, ◌*◌, ◌^◌, ◌<◌, ◌≤◌, Bool, true, false, ℤ, Option, Some, List, get_or, ap, ◌∙◌, ◌-◌, refl, arith}
+use Rattle.std.proofs.Common.{◌≡◌, ℕ, ◌+◌, ◌*◌, ◌%◌, ◌^◌, ◌<◌, ◌≤◌, Bool, true, false, ℤ, Option, Some, List, get_or, ap, ◌∙◌, ◌-◌, refl, arith}
 use Rattle.std.specs.List.{All}
 use Rattle.std.proofs.lemmas.Int.{ints}
 use Rattle.ctu_records.specs.declared.item.CodedBlock.{CodedBlock}
@@ -20,7 +20,7 @@ use Rattle.spec_intra_prediction.specs.Prediction.{predicted}
 use Rattle.spec_intra_prediction.specs.Substitution.{substituted}
 use Rattle.spec_reconstruction.specs.Prediction.{block_predicted}
 use Rattle.spec_reconstruction.specs.Pulses.{sample_of, shifted, pulses_laid}
-use Rattle.std.proofs.Math.Nat.{mul-le-mul_left}
+use Rattle.std.proofs.Math.Nat.{mod-eq_of_lt, mul-le-mul_left}
 use Rattle.spec_reconstruction.specs.Known.{Known, laid, constructed, with_residual}
 use Rattle.ctu_build.proofs.Changes.{changed_same}
 
@@ -84,14 +84,15 @@ predicted_laid format place mode depth edge samples before after told each gathe
 -- samples by pulse code modulation
 pub pulses_component : (place : Place) (first places count : ℕ) (items : List Item) (block : List ℕ) (before after : Known)
     → after ≡ laid place.c place.x place.y (2 ^ place.log2) (block_of (2 ^ place.log2) block) before
-    → ((k : ℕ) → k < count → get_or block k 0 ≡ sample_of (get_or items (first + k) (Sample 0)) * 2 ^ places) → count ≡ 2 ^ place.log2 * 2 ^ place.log2
+    → ((k : ℕ) → k < count → get_or block k 0 ≡ sample_of (get_or items (first + k) (Sample 0)) * 2 ^ places % 65536) → count ≡ 2 ^ place.log2 * 2 ^ place.log2
+    → ((k : ℕ) → sample_of (get_or items k (Sample 0)) * 2 ^ places < 65536)
     → after ≡ laid place.c place.x place.y (2 ^ place.log2) (shifted places first items (2 ^ place.log2)) before
-pulses_component place first places count items block before after told each counts =
+pulses_component place first places count items block before after told each counts small =
     told ∙ laid_same _ _ _ _ _ _ before (λ i j hi hj.
     let n : ℕ = 2 ^ place.log2 in
     let lt : n * j + i < count = rw counts (below_square n i j hi hj) in
     let e : first + (n * j + i) ≡ first + n * j + i = omega arith in
-    each (n * j + i) lt ∙ ap (λ (k : ℕ). sample_of (get_or items k (Sample 0)) * 2 ^ places) e)
+    each (n * j + i) lt ∙ mod-eq_of_lt (small (first + (n * j + i))) ∙ ap (λ (k : ℕ). sample_of (get_or items k (Sample 0)) * 2 ^ places) e)
 
 -- those of a coding unit
 pub pulses_unit : (format : UnitFormat) (square : Square) (items : List Item) (p q r : Place) (n half luma chroma : ℕ) (before first second after : Known)

@@ -1,6 +1,8 @@
 -- Items one after the other.
 use Rattle.std.proofs.Common.{◌≡◌, ℕ, ◌+◌, ◌-◌, ◌*◌, ◌^◌, ◌<◌, ◌≤◌, List, [], ◌∷◌, length, get_or, take, drop, sym, ap, ◌∙◌, refl, arith}
 use Rattle.std.proofs.lemmas.List.{drop_more, drop_all, length-drop, take_all}
+use Rattle.std.specs.List.{All}
+use Rattle.std.proofs.lemmas.List.Elements.{All-take, All-drop}
 use Rattle.ctu_records.specs.declared.item.CodedBlock.{CodedBlock}
 use Rattle.ctu_records.specs.declared.item.Item.{Item}
 use Rattle.ctu_records.specs.declared.item.Item.TheVariants.{Block}
@@ -13,6 +15,7 @@ use Rattle.spec_reconstruction.specs.Parameters.{depth_of}
 use Rattle.spec_reconstruction.specs.Residuals.{residuals_behind}
 use Rattle.spec_slice_data.specs.Residual.{samples_of_place}
 use Rattle.spec_reconstruction.specs.declared.format.UnitFormat.{UnitFormat}
+use Rattle.spec_reconstruction.specs.Sound.{IsSound}
 use Rattle.spec_reconstruction.specs.Unit.{Building, block_constructed, item_built, items_built}
 
 -- the items from one on, as a part of all
@@ -45,3 +48,7 @@ pub block_built : (format : UnitFormat) (all : List Item) (coding : Coding) (cod
     → building coding after ≡ item_built format all (building coding before) item behind
 unfolding block_constructed
 block_built format all coding coded block item behind before after told eb et eq is = rw (told, eb, et, eq, is) refl
+
+-- the items behind one
+pub sound_behind : (format : UnitFormat) (items : List Item) (k : ℕ) → All (IsSound format) items → All (IsSound format) (take (length items - (k + 1)) (drop (k + 1) items))
+sound_behind format items k all = All-take (IsSound format) (length items - (k + 1)) (drop (k + 1) items) (All-drop (IsSound format) (k + 1) items all)

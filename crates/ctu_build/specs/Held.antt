@@ -1,9 +1,9 @@
 -- The samples that the cells of a unit have.
-use Rattle.std.specs.Prelude.{◌≡◌, ℕ, ◌+◌, ◌*◌, ◌^◌, ◌<◌, ◌≤◌, ◌&&◌, nat_lt, ◌==◌, Bool, Option, None, List, length, slice_index_or, if◌then◌else◌}
+use Rattle.std.specs.Prelude.{◌≡◌, ℕ, ◌+◌, ◌*◌, ◌^◌, ◌<◌, ◌≤◌, ◌&&◌, nat_lt, ◌==◌, Bool, true, false, ℤ, pos, ◌+ℤ◌, Option, Some, None, List, length, slice_index_or, if◌then◌else◌}
 use Rattle.ctu_records.specs.declared.item.CodedBlock.{CodedBlock}
 use Rattle.ctu_records.specs.declared.item.Square.{Square}
 use Rattle.ctu_records.specs.Places.{inside}
-use Rattle.spec_reconstruction.specs.Known.{Known}
+use Rattle.spec_reconstruction.specs.Known.{Known, clipped}
 use Rattle.spec_slice_data.specs.Residual.{samples_of_place}
 use Rattle.ctu_build.specs.declared.place.Place.{Place}
 
@@ -11,9 +11,28 @@ use Rattle.ctu_build.specs.declared.place.Place.{Place}
 abbrev pub cell : ℕ → ℕ → ℕ → ℕ
 cell c column line = 8385 * c + 129 * line + column
 
-unfoldable pub held : List (Option ℕ) → Known
+-- what cells have, and in which of them a sample is known
+pub record Cells : Type 0 where
+  pub values : List ℕ
+  pub known : List Bool
+
+-- what is known in a cell
+abbrev pub in_cell : Cells → ℕ → Option ℕ
+in_cell cells k = if slice_index_or cells.known k false then Some (slice_index_or cells.values k 0) else None
+
+unfoldable pub held : Cells → Known
 held cells c column line =
-    if nat_lt c 3 && (nat_lt column 129 && nat_lt line 65) then slice_index_or cells (cell c column line) None else None
+    if nat_lt c 3 && (nat_lt column 129 && nat_lt line 65) then in_cell cells (cell c column line) else None
+
+-- cells that have 0 where no sample is known, as in all lines from one on
+pub record AreCells (values : List ℕ) (known : List Bool) (lines : ℕ) : Type 0 where
+  pub few : lines ≤ 65
+  pub zeros : (c i j : ℕ) → c < 3 → i < 129 → j < 65 → slice_index_or known (cell c i j) false ≡ false → slice_index_or values (cell c i j) 0 ≡ 0
+  pub unused : (c i j : ℕ) → c < 3 → i < 129 → j < 65 → lines ≤ j → slice_index_or known (cell c i j) false ≡ false
+
+-- a sample and a residual, where the sample is known
+unfoldable pub added : ℕ → Bool → ℤ → ℕ → ℕ
+added depth known residual sample = if known then clipped depth (pos sample +ℤ residual) else sample
 
 -- samples in rows of a block
 abbrev pub block_of : ℕ → List ℕ → ℕ → ℕ → ℕ

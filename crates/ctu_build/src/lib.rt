@@ -9,6 +9,7 @@ mod place;
 mod pulses;
 mod residuals;
 mod scratch;
+mod soundness;
 mod transform_units;
 mod unit;
 mod unit_samples;

@@ -1,8 +1,8 @@
 //! Lines of samples.
 
-ghost use Rattle.ctu_build.specs.Held.{cell, inside_of, IsInside};
-ghost use Rattle.std.specs.Prelude.{◌≡◌, ℕ, ◌+◌, ◌-◌, ◌*◌, ◌<◌, ◌≤◌, ◌^◌, ◌&&◌, ◌+ℤ◌, pos, negsuc, ◌≤ℤ◌, cond, nat_le, nat_lt, length, slice_index_or, Some, None};
-ghost use Rattle.spec_reconstruction.specs.Known.{clipped, with_residual};
+ghost use Rattle.ctu_build.specs.Held.{added, cell, inside_of, IsInside};
+ghost use Rattle.std.specs.Prelude.{◌≡◌, ℕ, ◌+◌, ◌-◌, ◌*◌, ◌<◌, ◌≤◌, ◌^◌, ◌&&◌, pos, negsuc, ◌≤ℤ◌, cond, true, false, nat_le, nat_lt, length, slice_index_or};
+ghost use Rattle.spec_reconstruction.specs.Known.{clipped};
 ghost use Rattle.std.specs.List.{All};
 ghost use Rattle.spec_transforms.specs.Matrices.{at};
 ghost use Rattle.spec_transforms.specs.Scaling.{IsDepth};
@@ -10,12 +10,23 @@ ghost use Rattle.spec_transforms.specs.Transforms.{IsResidual};
 
 use crate::place::Place;
 
-/// No sample in any cell.
-pub(crate) fn clear(cells: &mut [Option<u16>])
-    ensures { (q : ℕ) → slice_index_or cells.new q None ≡ None }
+/// One value in so many cells from one on.
+pub(crate) fn fill<T: Copy>(cells: &mut [T], first: usize, count: usize, value: T)
+    requires { first + count ≤ length cells.old }
+    ensures { (q : ℕ) (d : T) → slice_index_or cells.new q d ≡ cond (nat_le first q && nat_lt q (first + count)) value (slice_index_or cells.old q d) }
 {
-    for k in 0..cells.len() {
-        cells[k] = None;
+    for k in first..first + count {
+        cells[k] = value;
+    }
+}
+
+/// Samples over the cells from one on.
+pub(crate) fn copy(cells: &mut [u16], first: usize, samples: &[u16])
+    requires { first + length samples.now ≤ length cells.old }
+    ensures { (q : ℕ) → slice_index_or cells.new q 0 ≡ cond (nat_le first q && nat_lt q (first + length samples.now)) (slice_index_or samples.now (q - first) 0) (slice_index_or cells.old q 0) }
+{
+    for k in 0..samples.len() {
+        cells[first + k] = samples[k];
     }
 }
 
@@ -31,73 +42,102 @@ fn first_of(place: Place, line: usize) -> usize
 }
 
 /// Samples over a square.
-pub(crate) fn lay_lines(cells: &mut [Option<u16>], place: Place, block: &[u16])
+pub(crate) fn lay_lines(values: &mut [u16], place: Place, block: &[u16])
     requires place { IsInside place }
-    requires room { length cells.old ≡ 25155 }
+    requires room { length values.old ≡ 25155 }
     requires block { 2 ^ place.log2 * 2 ^ place.log2 ≤ length block.now }
-    ensures { (c i j : ℕ) → c < 3 → i < 129 → j < 65 → slice_index_or cells.new (cell c i j) None ≡ cond (inside_of place (2 ^ place.log2) c i j) (Some (slice_index_or block.now (2 ^ place.log2 * (j - (place.y + 1)) + (i - (place.x + 1))) 0)) (slice_index_or cells.old (cell c i j) None) }
+    ensures { (c i j : ℕ) → c < 3 → i < 129 → j < 65 → slice_index_or values.new (cell c i j) 0 ≡ cond (inside_of place (2 ^ place.log2) c i j) (slice_index_or block.now (2 ^ place.log2 * (j - (place.y + 1)) + (i - (place.x + 1))) 0) (slice_index_or values.old (cell c i j) 0) }
 {
     let n = place.side();
     for line in 0..n {
-        lay_line(cells, first_of(place, line), block, n * line, n);
+        lay_line(values, first_of(place, line), block, n * line, n);
     }
 }
 
-/// Residuals added to a square.
-pub(crate) fn add_lines(cells: &mut [Option<u16>], place: Place, residuals: &[i32], depth: u32)
+/// The samples of a square are known.
+pub(crate) fn mark_lines(known: &mut [bool], place: Place)
     requires place { IsInside place }
-    requires room { length cells.old ≡ 25155 }
-    requires block { 2 ^ place.log2 * 2 ^ place.log2 ≤ length residuals.now }
-    requires depth { IsDepth depth }
-    requires residuals { All IsResidual residuals.now }
-    ensures { (c i j : ℕ) → c < 3 → i < 129 → j < 65 → slice_index_or cells.new (cell c i j) None ≡ cond (inside_of place (2 ^ place.log2) c i j) (with_residual depth (at residuals.now (2 ^ place.log2 * (j - (place.y + 1)) + (i - (place.x + 1)))) (slice_index_or cells.old (cell c i j) None)) (slice_index_or cells.old (cell c i j) None) }
+    requires room { length known.old ≡ 25155 }
+    ensures { (c i j : ℕ) → c < 3 → i < 129 → j < 65 → slice_index_or known.new (cell c i j) false ≡ cond (inside_of place (2 ^ place.log2) c i j) true (slice_index_or known.old (cell c i j) false) }
 {
     let n = place.side();
     for line in 0..n {
-        add_line(cells, first_of(place, line), residuals, n * line, n, depth);
+        fill(known, first_of(place, line), n, true);
+    }
+}
+
+/// Residuals added to the samples of a square that are known.
+pub(crate) fn add_lines(
+    values: &mut [u16],
+    known: &[bool],
+    place: Place,
+    residuals: &[i32],
+    depth: u32,
+)
+    requires place { IsInside place }
+    requires room { length values.old ≡ 25155 }
+    requires known { length known.now ≡ 25155 }
+    requires block { 2 ^ place.log2 * 2 ^ place.log2 ≤ length residuals.now }
+    requires depth { IsDepth depth }
+    requires residuals { All IsResidual residuals.now }
+    ensures { (c i j : ℕ) → c < 3 → i < 129 → j < 65 → slice_index_or values.new (cell c i j) 0 ≡ cond (inside_of place (2 ^ place.log2) c i j) (added depth (slice_index_or known.now (cell c i j) false) (at residuals.now (2 ^ place.log2 * (j - (place.y + 1)) + (i - (place.x + 1)))) (slice_index_or values.old (cell c i j) 0)) (slice_index_or values.old (cell c i j) 0) }
+{
+    let n = place.side();
+    for line in 0..n {
+        let line = Line {
+            first: first_of(place, line),
+            from: n * line,
+            n,
+        };
+        add_line(values, known, line, residuals, depth);
     }
 }
 
 /// Samples over a line from a place on.
-fn lay_line(cells: &mut [Option<u16>], first: usize, block: &[u16], from: usize, n: usize)
-    requires room { first + n ≤ length cells.old }
+fn lay_line(values: &mut [u16], first: usize, block: &[u16], from: usize, n: usize)
+    requires room { first + n ≤ length values.old }
     requires enough { from + n ≤ length block.now }
-    ensures { (q : ℕ) → slice_index_or cells.new q None ≡ cond (nat_le first q && nat_lt q (first + n)) (Some (slice_index_or block.now (from + (q - first)) 0)) (slice_index_or cells.old q None) }
+    ensures { (q : ℕ) → slice_index_or values.new q 0 ≡ cond (nat_le first q && nat_lt q (first + n)) (slice_index_or block.now (from + (q - first)) 0) (slice_index_or values.old q 0) }
 {
     for k in 0..n {
-        cells[first + k] = Some(block[from + k]);
+        values[first + k] = block[from + k];
     }
 }
 
-/// Residuals added to a line from a place on.
-fn add_line(
-    cells: &mut [Option<u16>],
+/// A line of a block: the cell of its first sample, the number of that sample in the block, and how many it has.
+#[derive(Clone, Copy)]
+struct Line {
     first: usize,
-    residuals: &[i32],
     from: usize,
     n: usize,
-    depth: u32,
-)
-    requires room { first + n ≤ length cells.old }
-    requires enough { from + n ≤ length residuals.now }
+}
+
+/// Residuals added to the samples of a line that are known.
+fn add_line(values: &mut [u16], known: &[bool], line: Line, residuals: &[i32], depth: u32)
+    requires room { line.first + line.n ≤ length values.old }
+    requires known { line.first + line.n ≤ length known.now }
+    requires enough { line.from + line.n ≤ length residuals.now }
     requires depth { IsDepth depth }
     requires residuals { All IsResidual residuals.now }
-    ensures { (q : ℕ) → slice_index_or cells.new q None ≡ cond (nat_le first q && nat_lt q (first + n)) (with_residual depth (at residuals.now (from + (q - first))) (slice_index_or cells.old q None)) (slice_index_or cells.old q None) }
+    ensures { (q : ℕ) → slice_index_or values.new q 0 ≡ cond (nat_le line.first q && nat_lt q (line.first + line.n)) (added depth (slice_index_or known.now q false) (at residuals.now (line.from + (q - line.first))) (slice_index_or values.old q 0)) (slice_index_or values.old q 0) }
 {
-    for k in 0..n {
-        cells[first + k] = with_residual(cells[first + k], residuals[from + k], depth);
+    for k in 0..line.n {
+        let place = line.first + k;
+        values[place] = added(values[place], known[place], residuals[line.from + k], depth);
     }
 }
 
-/// A sample and a residual.
-fn with_residual(sample: Option<u16>, residual: i32, depth: u32) -> Option<u16>
+/// A sample and a residual, where the sample is known.
+#[tactic(auto, unfolding(crate::specs::Held::added))]
+fn added(sample: u16, known: bool, residual: i32, depth: u32) -> u16
     requires depth { IsDepth depth }
     requires residual { IsResidual residual }
-    ensures { result ≡ with_residual depth residual sample }
+    ensures { result ≡ added depth known residual sample }
 {
-    match sample {
-        None => None,
-        Some(sample) => Some(clipped(i32::from(sample) + residual, depth)),
+    if known {
+        clipped(i32::from(sample) + residual, depth)
+    } else {
+        sample
     }
 }
 

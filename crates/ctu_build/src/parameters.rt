@@ -1,6 +1,7 @@
 //! Bit depths, quantization parameters and scaling factors of blocks.
 
 ghost use Rattle.std.specs.Prelude.{◌≡◌, ℕ, ◌+◌, ◌-◌, ◌*◌, ◌^◌, ◌<◌, ◌≤◌, pos, negsuc, ◌-ℤ◌, ◌+ℤ◌, ◌≤ℤ◌, length, slice_index};
+ghost use Rattle.ctu_build.specs.Offsets.{near_offset};
 ghost use Rattle.spec_reconstruction.specs.Factors.{factor, first_factor};
 ghost use Rattle.spec_reconstruction.specs.Parameters.{depth_of, depth_offset, chroma_offset, chroma_parameter, offset_parameter, parameter_of};
 ghost use Rattle.spec_slice_data.specs.Quantization.{chroma_qp_of_index};
@@ -31,19 +32,33 @@ pub(crate) fn parameter_of(format: &UnitFormat, c: u8, qp: u8) -> u32
     ensures range { IsParameter (depth_of format.now c) result }
 {
     if c == 0 {
-        return u32::from(qp);
+        u32::from(qp)
+    } else {
+        let index = chroma_index(
+            qp,
+            depth_offset(format.luma_depth),
+            chroma_offset(format, c),
+        );
+        chroma_parameter(depth_offset(format.chroma_depth), index)
     }
-    let offset = chroma_offset(format, c);
-    let index = chroma_index(qp, depth_offset(format.luma_depth), offset);
-    chroma_parameter(depth_offset(format.chroma_depth), index)
 }
 
 /// What qPi is held from, by Qp'Y, QpBdOffsetY and the offset of a component.
-fn chroma_index(qp: u8, luma: u32, offset: i8) -> i32
+fn chroma_index(qp: u8, luma: u32, offset: i64) -> i32
     requires { luma ≤ 36 }
-    ensures { result ≡ pos qp -ℤ pos luma +ℤ offset }
+    ensures { result ≡ pos qp -ℤ pos luma +ℤ near_offset offset }
 {
-    i32::from(qp) - luma as i32 + i32::from(offset)
+    i32::from(qp) - luma as i32 + near_offset(offset)
+}
+
+/// An offset, or where it is so far from 0 that qPi is held anyway, one that is far enough.
+#[tactic(auto, unfolding(crate::specs::Offsets::near_offset))]
+fn near_offset(offset: i64) -> i32
+    ensures value { result ≡ near_offset offset }
+    ensures least { negsuc 511 ≤ℤ result }
+    ensures greatest { result ≤ℤ pos 511 }
+{
+    offset.clamp(-512, 511) as i32
 }
 
 /// QpBdOffset.
@@ -56,7 +71,7 @@ fn depth_offset(depth: u8) -> u32
 }
 
 /// The offset of Cb or Cr.
-fn chroma_offset(format: &UnitFormat, c: u8) -> i8
+fn chroma_offset(format: &UnitFormat, c: u8) -> i64
     ensures { result ≡ chroma_offset format.now c }
 {
     if c == 1 {

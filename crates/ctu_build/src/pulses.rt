@@ -1,6 +1,6 @@
 //! Samples by pulse code modulation.
 
-ghost use Rattle.std.specs.Prelude.{◌≡◌, ℕ, ◌+◌, ◌-◌, ◌*◌, ◌^◌, ◌<◌, ◌≤◌, length, slice_index_or};
+ghost use Rattle.std.specs.Prelude.{◌≡◌, ℕ, ◌+◌, ◌-◌, ◌*◌, ◌%◌, ◌^◌, ◌<◌, ◌≤◌, length, slice_index_or};
 ghost use Rattle.std.specs.List.{All};
 ghost use Rattle.ctu_records.specs.declared.item.Item.TheVariants.{Sample};
 ghost use Rattle.ctu_build.specs.Held.{held, IsInside};
@@ -41,13 +41,12 @@ fn sample_at(items: &[Item], k: usize) -> u16
     }
 }
 
-/// Writes so many samples, shifted up by so many places: the items from a number on.
+/// Writes so many samples, shifted up by so many places and cut to 16 bits: the items from a number on.
 fn shift_samples(items: &[Item], first: usize, places: u32, count: usize, out: &mut [u16; 1024])
     requires places { places ≤ 14 }
     requires first { first ≤ 2048 }
     requires count { count ≤ 1024 }
-    requires small { (k : ℕ) → sample_of (slice_index_or items.now k (Sample 0)) * 2 ^ places < 65536 }
-    ensures { (k : ℕ) → k < count → slice_index_or out.new k 0 ≡ sample_of (slice_index_or items.now (first + k) (Sample 0)) * 2 ^ places }
+    ensures { (k : ℕ) → k < count → slice_index_or out.new k 0 ≡ sample_of (slice_index_or items.now (first + k) (Sample 0)) * 2 ^ places % 65536 }
 {
     for k in 0..count {
         out[k] = sample_at(items, first + k) << places;
@@ -66,8 +65,7 @@ fn lay_component(
     requires place { IsInside place }
     requires places { places ≤ 14 }
     requires first { first ≤ 2048 }
-    requires small { (k : ℕ) → sample_of (slice_index_or items.now k (Sample 0)) * 2 ^ places < 65536 }
-    ensures { held samples.new ≡ laid place.c place.x place.y (2 ^ place.log2) (shifted places first items.now (2 ^ place.log2)) (held samples.old) }
+    ensures { ((k : ℕ) → sample_of (slice_index_or items.now k (Sample 0)) * 2 ^ places < 65536) → held samples.new ≡ laid place.c place.x place.y (2 ^ place.log2) (shifted places first items.now (2 ^ place.log2)) (held samples.old) }
 {
     let n = place.side();
     shift_samples(items, first, places, n * n, block);
@@ -75,7 +73,6 @@ fn lay_component(
 }
 
 /// Lays the samples of a coding unit, which are the next items.
-#[tactic(auto, using(crate::proofs::SampleItems::luma_small, crate::proofs::SampleItems::chroma_small))]
 pub(crate) fn lay_pulses(
     format: &UnitFormat,
     square: Square,
@@ -86,8 +83,7 @@ pub(crate) fn lay_pulses(
     requires format { IsFormat format.now }
     requires square { IsSquare square }
     requires some { 1 ≤ square.log2_size }
-    requires items { All (IsSound format.now) items.now }
-    ensures { held samples.new ≡ pulses_laid format.now square items.now (held samples.old) }
+    ensures { All (IsSound format.now) items.now → held samples.new ≡ pulses_laid format.now square items.now (held samples.old) }
 {
     let luma = u32::from(format.luma_depth - format.pcm_luma_bits);
     let chroma = u32::from(format.chroma_depth - format.pcm_chroma_bits);

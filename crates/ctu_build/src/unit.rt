@@ -1,16 +1,18 @@
 //! The samples of a coding tree unit.
 
-ghost use Rattle.std.specs.Prelude.{◌≡◌, ◌+◌, ◌<◌, ◌≤◌};
+ghost use Rattle.std.specs.Prelude.{◌≡◌, ◌≤◌};
 ghost use Rattle.ctu_build.specs.Building.{building};
 ghost use Rattle.ctu_build.specs.Held.{held};
 ghost use Rattle.spec_reconstruction.specs.Sound.{AreSound, IsCoded, IsFormat, IsSound, IsSquare};
 ghost use Rattle.ctu_records.specs.Tree.{luma_mode_at, qp_at};
 ghost use Rattle.std.specs.List.{All};
+ghost use Rattle.spec_transforms.specs.Scaling.{IsParameter};
 ghost use Rattle.spec_reconstruction.specs.Unit.{before_unit, item_built, items_built, unit_built};
 
 use crate::blocks::{InUnit, construct};
 use crate::pulses::lay_pulses;
 use crate::scratch::Scratch;
+use crate::soundness::{is_coded, is_square};
 use crate::transform_units::{Modes, predict_unit};
 use crate::unit_samples::UnitSamples;
 use ctu_records::{CodedBlock, Item, Records, Square};
@@ -25,7 +27,8 @@ pub(crate) struct Coding {
     pub(crate) chroma_mode: u8,
 }
 
-/// Builds the samples of a unit from what was read of it and what is known beside it.
+/// Builds the samples of a unit from what was read of it and what is known beside it. Items that aren't sound are passed
+/// over.
 #[tactic(auto, unfolding(spec_reconstruction::specs::Unit::unit_built))]
 pub fn build_ctu(
     records: &Records,
@@ -34,8 +37,7 @@ pub fn build_ctu(
     samples: &mut UnitSamples,
 )
     requires format { IsFormat format.now }
-    requires items { AreSound format.now records.now.items }
-    ensures value { held samples.new ≡ unit_built format.now records.now.items (held samples.old) }
+    ensures value { AreSound format.now records.now.items → held samples.new ≡ unit_built format.now records.now.items (held samples.old) }
 {
     build_items(records, format, records.items(), scratch, samples);
 }
@@ -49,9 +51,7 @@ fn build_items(
     samples: &mut UnitSamples,
 )
     requires format { IsFormat format.now }
-    requires records { AreSound format.now records.now.items }
-    requires items { All (IsSound format.now) items.now }
-    ensures { (items_built format.now records.now.items items.now (before_unit (held samples.old))).known ≡ held samples.new }
+    ensures { AreSound format.now records.now.items → All (IsSound format.now) items.now → (items_built format.now records.now.items items.now (before_unit (held samples.old))).known ≡ held samples.new }
 {
     let mut coding = Coding {
         transquant_bypass: false,
@@ -74,11 +74,8 @@ fn build_item(
     samples: &mut UnitSamples,
 ) -> Coding
     requires format { IsFormat format.now }
-    requires items { AreSound format.now records.now.items }
-    requires item { IsSound format.now item }
-    requires behind { All (IsSound format.now) behind.now }
     requires mode { coding.chroma_mode ≤ 34 }
-    ensures value { building result (held samples.new) ≡ item_built format.now records.now.items (building coding (held samples.old)) item behind.now }
+    ensures value { AreSound format.now records.now.items → IsSound format.now item → All (IsSound format.now) behind.now → building result (held samples.new) ≡ item_built format.now records.now.items (building coding (held samples.old)) item behind.now }
     ensures mode { result.chroma_mode ≤ 34 }
 {
     match item {
@@ -88,20 +85,26 @@ fn build_item(
         },
         Item::Chroma(mode) => Coding {
             transquant_bypass: coding.transquant_bypass,
-            chroma_mode: mode,
+            chroma_mode: mode.min(34),
         },
         Item::Pcm(square) => {
-            lay_pulses(format, square, behind, &mut scratch.samples, samples);
+            if 1 <= square.log2_size && is_square(square) {
+                lay_pulses(format, square, behind, &mut scratch.samples, samples);
+            }
             coding
         }
         Item::Transform(unit) => {
-            let modes = modes_of(records, coding, unit.square);
-            predict_unit(format, modes, unit.square, scratch, samples);
+            if is_square(unit.square) {
+                let modes = modes_of(records, coding, unit.square);
+                predict_unit(format, modes, unit.square, scratch, samples);
+            }
             coding
         }
         Item::Block(block) => {
-            let coded = in_unit(records, coding, block);
-            construct(format, coded, behind, scratch, samples);
+            if is_coded(block) {
+                let coded = in_unit(records, format, coding, block);
+                construct(format, coded, behind, scratch, samples);
+            }
             coding
         }
         Item::Luma(_) | Item::Sample(_) | Item::Delta(_) | Item::Level(_, _) => coding,
@@ -111,25 +114,30 @@ fn build_item(
 /// The modes of a transform unit's blocks.
 fn modes_of(records: &Records, coding: Coding, square: Square) -> Modes
     requires { IsSquare square }
-    ensures luma { result.luma ≡ luma_mode_at records.now.items square.x square.y }
+    ensures luma { luma_mode_at records.now.items square.x square.y ≤ 34 → result.luma ≡ luma_mode_at records.now.items square.x square.y }
+    ensures range { result.luma ≤ 34 }
     ensures chroma { result.chroma ≡ coding.chroma_mode }
 {
+    let luma = records.luma_mode(usize::from(square.x), usize::from(square.y));
     Modes {
-        luma: records.luma_mode(usize::from(square.x), usize::from(square.y)),
+        luma: luma.min(34),
         chroma: coding.chroma_mode,
     }
 }
 
 /// A block in its coding unit.
-fn in_unit(records: &Records, coding: Coding, block: CodedBlock) -> InUnit
-    requires { IsCoded block }
+fn in_unit(records: &Records, format: &UnitFormat, coding: Coding, block: CodedBlock) -> InUnit
+    requires format { IsFormat format.now }
+    requires block { IsCoded block }
     ensures block { result.block ≡ block }
     ensures bypass { result.transquant_bypass ≡ coding.transquant_bypass }
-    ensures qp { result.qp ≡ qp_at records.now.items block.x block.y }
+    ensures qp { IsParameter format.now.luma_depth (qp_at records.now.items block.x block.y) → result.qp ≡ qp_at records.now.items block.x block.y }
+    ensures range { IsParameter format.now.luma_depth result.qp }
 {
+    let qp = records.qp(usize::from(block.x), usize::from(block.y));
     InUnit {
         block,
         transquant_bypass: coding.transquant_bypass,
-        qp: records.qp(usize::from(block.x), usize::from(block.y)),
+        qp: qp.min(51 + 6 * (format.luma_depth - 8)),
     }
 }

@@ -1,13 +1,13 @@
 //! The samples of a coding tree unit.
 
-ghost use Rattle.std.specs.Prelude.{◌≡◌, ℕ, ◌+◌, ◌*◌, ◌^◌, ◌<◌, ◌≤◌, ◌==◌, ◌&&◌, None, Some, Option, length, if◌then◌else◌};
-ghost use Rattle.ctu_build.specs.Held.{held, block_of, IsInside};
+ghost use Rattle.std.specs.Prelude.{◌≡◌, ℕ, ◌+◌, ◌-◌, ◌*◌, ◌^◌, ◌<◌, ◌≤◌, ◌==◌, ◌&&◌, None, Some, Option, length, nat_le, nat_lt, slice_index_or, if◌then◌else◌, unwrap_or};
+ghost use Rattle.ctu_build.specs.Held.{cell, held, block_of, IsInside};
 ghost use Rattle.spec_reconstruction.specs.Known.{laid, constructed};
 ghost use Rattle.spec_transforms.specs.Scaling.{IsDepth};
 ghost use Rattle.spec_transforms.specs.Transforms.{IsResidual, block_in};
 ghost use Rattle.std.specs.List.{All};
 
-use crate::lines::{add_lines, clear, lay_lines};
+use crate::lines::{add_lines, copy, fill, lay_lines, mark_lines};
 use crate::place::Place;
 use intra_pred::Border;
 use std::marker::Model;
@@ -18,15 +18,32 @@ const ROOM: usize = 8385;
 /// The samples that are known while a unit is built: its own, and those beside it.
 #[derive(Drop)]
 pub struct UnitSamples {
-    cells: [Option<u16>; 25155],
+    /// The samples, 0 where none is known.
+    values: [u16; 25155],
+    /// Where one is.
+    known: [bool; 25155],
+    /// From this line on none is known.
+    lines: usize,
 }
 
 impl Model for UnitSamples {
-    ghost use Rattle.std.specs.Prelude.{ℕ, List, Option};
+    ghost use Rattle.ctu_build.specs.Held.{Cells, AreCells};
 
-    ghost Value = { List (Option ℕ) };
+    ghost Value = { Cells };
 
-    ghost view = { λ s. s.cells };
+    ghost view = { λ s. record { values = s.values; known = s.known } };
+
+    ghost invariant = { λ s. AreCells s.values s.known s.lines };
+}
+
+/// The cell of a sample.
+fn cell(c: usize, column: usize, line: usize) -> usize
+    requires c { c < 3 }
+    requires column { column ≤ 129 }
+    requires line { line < 65 }
+    ensures { result ≡ cell c column line }
+{
+    ROOM * c + 129 * line + column
 }
 
 impl UnitSamples {
@@ -35,27 +52,58 @@ impl UnitSamples {
         ensures { (c column line : ℕ) → held result c column line ≡ None }
     {
         UnitSamples {
-            cells: [None; 25155],
+            values: [0; 25155],
+            known: [false; 25155],
+            lines: 0,
         }
     }
 
     /// A unit begins: nothing is known.
-    #[tactic(auto, unfolding(crate::specs::Held::held))]
     pub fn restart(&mut self)
         ensures { (c column line : ℕ) → held self.new c column line ≡ None }
     {
-        clear(&mut self.cells);
+        let count = 129 * self.lines;
+        fill(&mut self.values, 0, count, 0);
+        fill(&mut self.values, ROOM, count, 0);
+        fill(&mut self.values, 2 * ROOM, count, 0);
+        fill(&mut self.known, 0, count, false);
+        fill(&mut self.known, ROOM, count, false);
+        fill(&mut self.known, 2 * ROOM, count, false);
+        self.lines = 0;
     }
 
     /// A sample beside the unit.
-    #[tactic(auto, unfolding(crate::specs::Held::held))]
     pub fn put(&mut self, c: usize, column: usize, line: usize, value: u16)
         requires c { c < 3 }
         requires column { column < 129 }
         requires line { line < 65 }
         ensures { (i j k : ℕ) → held self.new i j k ≡ (if (i == c) && ((j == column) && (k == line)) then Some value else held self.old i j k) }
     {
-        self.cells[ROOM * c + 129 * line + column] = Some(value);
+        self.put_line(c, column, line, &[value]);
+    }
+
+    /// The samples of a line of a component from a column on become known.
+    pub fn put_line(&mut self, c: usize, column: usize, line: usize, values: &[u16])
+        requires c { c < 3 }
+        requires columns { column + length values.now ≤ 129 }
+        requires line { line < 65 }
+        ensures { (i j k : ℕ) → held self.new i j k ≡ (if (i == c) && ((k == line) && (nat_le column j && nat_lt j (column + length values.now))) then Some (slice_index_or values.now (j - column) 0) else held self.old i j k) }
+    {
+        let first = cell(c, column, line);
+        copy(&mut self.values, first, values);
+        fill(&mut self.known, first, values.len(), true);
+        self.lines = self.lines.max(line + 1);
+    }
+
+    /// A line of a component, columns 0 to 128: the samples, 0 where none is known.
+    pub fn line(&self, c: usize, line: usize) -> &[u16]
+        requires c { c < 3 }
+        requires line { line < 65 }
+        ensures count { length result.now ≡ 129 }
+        ensures value { (j : ℕ) → j < 129 → slice_index_or result.now j 0 ≡ unwrap_or (held self.now c j line) 0 }
+    {
+        let first = cell(c, 0, line);
+        &self.values[first..first + 129]
     }
 
     /// A square of samples over what was there.
@@ -64,7 +112,9 @@ impl UnitSamples {
         requires block { 2 ^ place.log2 * 2 ^ place.log2 ≤ length block.now }
         ensures { held self.new ≡ laid place.c place.x place.y (2 ^ place.log2) (block_of (2 ^ place.log2) block.now) (held self.old) }
     {
-        lay_lines(&mut self.cells, place, block);
+        lay_lines(&mut self.values, place, block);
+        mark_lines(&mut self.known, place);
+        self.lines = self.lines.max(place.y as usize + 1 + place.side());
     }
 
     /// Residuals added to a square.
@@ -75,7 +125,7 @@ impl UnitSamples {
         requires residuals { All IsResidual residuals.now }
         ensures { held self.new ≡ constructed depth place.c place.x place.y (2 ^ place.log2) (block_in (2 ^ place.log2) residuals.now) (held self.old) }
     {
-        add_lines(&mut self.cells, place, residuals, depth);
+        add_lines(&mut self.values, &self.known, place, residuals, depth);
     }
 }
 
@@ -85,7 +135,12 @@ impl Border for UnitSamples {
     #[tactic(auto, unfolding(crate::specs::Held::held))]
     fn sample(&self, c: u8, x: u32, y: u32) -> Option<u16> {
         if c < 3 && x < 129 && y < 65 {
-            self.cells[ROOM * usize::from(c) + 129 * y as usize + x as usize]
+            let place = cell(usize::from(c), x as usize, y as usize);
+            if self.known[place] {
+                Some(self.values[place])
+            } else {
+                None
+            }
         } else {
             None
         }

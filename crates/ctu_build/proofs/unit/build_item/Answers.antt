@@ -2,6 +2,7 @@ use Rattle.std.proofs.Common.{rules}
 use Rattle.ctu_build.proofs.Steps.{block_built}
 use Rattle.ctu_build.proofs.unit.build_item.Goals as goal
 
-pub returns-in-Block-clause-value : goal.returns-in-Block-clause-value
-returns-in-Block-clause-value c =
-    block_built c.args.format.now c.args.records.now.items c.args.coding _ c.in-Block.block c.args.item c.args.behind.now _ _ c.construct.ensures c.in_unit-coded.ensures.block c.in_unit-coded.ensures.bypass c.in_unit-coded.ensures.qp (search rules)
+pub returns-then-is_coded-clause-value : goal.returns-then-is_coded-clause-value
+returns-then-is_coded-clause-value c all sound each =
+    block_built c.args.format.now c.args.records.now.items c.args.coding _ c.in-Block.block c.args.item c.args.behind.now _ _
+    c.construct.ensures c.in_unit-coded.ensures.block c.in_unit-coded.ensures.bypass (c.in_unit-coded.ensures.qp (all.parameters _ _)) (search rules)

@@ -1,9 +1,16 @@
-use Rattle.std.proofs.Common.{rules, ℕ, Option, Some, ◌^◌}
-use Rattle.ctu_build.specs.Held.{block_of}
-use Rattle.ctu_build.proofs.Changes.{held_changed}
+use Rattle.std.proofs.Common.{rules, refl, ◌+◌, ◌-◌, ◌*◌, ◌^◌, get_or, arith}
+use Rattle.ctu_build.specs.Held.{inside_of}
+use Rattle.ctu_build.proofs.Cells.{are_laid, place_lines}
+use Rattle.ctu_build.proofs.Changes.{held_laid_square}
 use Rattle.ctu_build.proofs.unit_samples.UnitSamples.lay.Goals as goal
 
 pub returns : goal.returns
 returns c =
-    let change : ℕ → ℕ → Option ℕ → Option ℕ = λ i j before. Some (block_of (2 ^ c.args.place.log2) c.args.block.now i j) in
-    held_changed _ _ c.args.place (2 ^ c.args.place.log2) change c.requires.place.component c.requires.place.x c.requires.place.y (search rules)
+    held_laid_square _ _ c.self.inside.values _ c.self.inside.known _ c.args.place (2 ^ c.args.place.log2) c.args.block.now (search rules) (search rules) refl refl c.requires.place.component c.requires.place.x c.requires.place.y c.mark_lines.ensures c.lay_lines.ensures
+
+pub invariant_of-self : goal.invariant_of-self
+invariant_of-self c =
+    let p = c.args.place in
+    are_laid _ _ _ _ _ _ (inside_of p (2 ^ p.log2)) (λ d i j. get_or c.args.block.now (2 ^ p.log2 * (j - (p.y + 1)) + (i - (p.x + 1))) 0)
+    c.self.invariant (omega (arith, c.self.invariant.few, c.requires.place.y, c.side.ensures.value)) (omega arith) (place_lines p (2 ^ p.log2) _ (omega (arith, c.side.ensures.value)))
+    c.mark_lines.ensures c.lay_lines.ensures

@@ -1,6 +1,9 @@
 use Rattle.std.proofs.Common.{refl}
-use Rattle.ctu_build.proofs.Nothing.{nothing_held}
+use Rattle.ctu_build.proofs.Cells.{are_new, new_held}
 use Rattle.ctu_build.proofs.unit_samples.UnitSamples.new.Goals as goal
 
 pub returns : goal.returns
-returns c = nothing_held _ 25155 refl
+returns c = new_held 25155 _ refl
+
+pub invariant_of-result : goal.invariant_of-result
+invariant_of-result c = are_new 25155 _ _ refl refl
