@@ -13,7 +13,7 @@ ghost use Rattle.spec_transforms.specs.Scaling.{Is16, IsParameter};
 use crate::levels::read_levels;
 use crate::parameters::{depth_of, parameter_of};
 use crate::place::place_of;
-use crate::residuals::residuals_of;
+use crate::residuals::{Quantized, residuals_of};
 use crate::scratch::Scratch;
 use crate::unit_samples::UnitSamples;
 use ctu_records::{CodedBlock, Item};
@@ -40,17 +40,10 @@ pub(crate) fn construct(
     requires qp { IsParameter format.now.luma_depth coded.qp }
     ensures { held samples.new ≡ constructed (depth_of format.now coded.block.component) coded.block.component (samples_of_place coded.block.component * coded.block.x) (samples_of_place coded.block.component * coded.block.y) (2 ^ coded.block.log2_size) (residuals_behind format.now coded.transquant_bypass coded.block coded.qp items.now) (held samples.old) }
 {
-    let side = place_of(coded.block).side();
-    let levels = &mut scratch.levels[..];
-    let levels = &mut levels[..side * side];
     if coded.transquant_bypass {
-        add_levels(format, coded, items, levels, samples);
+        add_levels(format, coded, items, &mut scratch.levels, samples);
     } else {
-        let scaled = &mut scratch.scaled[..];
-        let residuals = &mut scratch.residuals[..];
-        let scaled = &mut scaled[..side * side];
-        let residuals = &mut residuals[..side * side];
-        add_residuals(format, coded, items, levels, scaled, residuals, samples);
+        add_residuals(format, coded, items, scratch, samples);
     }
 }
 
@@ -60,17 +53,18 @@ fn add_levels(
     format: &UnitFormat,
     coded: InUnit,
     items: &[Item],
-    levels: &mut [i32],
+    levels: &mut [i32; 1024],
     samples: &mut UnitSamples,
 )
     requires format { IsFormat format.now }
     requires block { IsCoded coded.block }
     requires bypass { coded.transquant_bypass ≡ true }
-    requires room { length levels.old ≡ 2 ^ coded.block.log2_size * 2 ^ coded.block.log2_size }
     ensures { held samples.new ≡ constructed (depth_of format.now coded.block.component) coded.block.component (samples_of_place coded.block.component * coded.block.x) (samples_of_place coded.block.component * coded.block.y) (2 ^ coded.block.log2_size) (residuals_behind format.now coded.transquant_bypass coded.block coded.qp items.now) (held samples.old) }
 {
     let place = place_of(coded.block);
+    let side = place.side();
     let depth = depth_of(format, coded.block.component);
+    let levels = &mut levels[..side * side];
     read_levels(items, levels);
     samples.add(place, levels, depth);
 }
@@ -80,24 +74,27 @@ fn add_residuals(
     format: &UnitFormat,
     coded: InUnit,
     items: &[Item],
-    levels: &mut [i32],
-    scaled: &mut [i32],
-    residuals: &mut [i32],
+    scratch: &mut Scratch,
     samples: &mut UnitSamples,
 )
     requires format { IsFormat format.now }
     requires block { IsCoded coded.block }
     requires qp { IsParameter format.now.luma_depth coded.qp }
     requires bypass { coded.transquant_bypass ≡ false }
-    requires levels { length levels.old ≡ 2 ^ coded.block.log2_size * 2 ^ coded.block.log2_size }
-    requires scaled { length scaled.old ≡ length levels.old }
-    requires residuals { length residuals.old ≡ length levels.old }
     ensures { held samples.new ≡ constructed (depth_of format.now coded.block.component) coded.block.component (samples_of_place coded.block.component * coded.block.x) (samples_of_place coded.block.component * coded.block.y) (2 ^ coded.block.log2_size) (residuals_behind format.now coded.transquant_bypass coded.block coded.qp items.now) (held samples.old) }
 {
-    let place = place_of(coded.block);
-    let depth = depth_of(format, coded.block.component);
-    let qp = parameter_of(format, coded.block.component, coded.qp);
+    let block = coded.block;
+    let place = place_of(block);
+    let side = place.side();
+    let depth = depth_of(format, block.component);
+    let qp = parameter_of(format, block.component, coded.qp);
+    let levels = &mut scratch.levels[..];
+    let scaled = &mut scratch.scaled[..];
+    let residuals = &mut scratch.residuals[..];
+    let levels = &mut levels[..side * side];
+    let scaled = &mut scaled[..side * side];
+    let residuals = &mut residuals[..side * side];
     read_levels(items, levels);
-    residuals_of(format, coded.block, qp, levels, scaled, residuals);
+    residuals_of(format, Quantized { block, qp }, levels, scaled, residuals);
     samples.add(place, residuals, depth);
 }

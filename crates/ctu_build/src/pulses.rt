@@ -41,34 +41,40 @@ fn sample_at(items: &[Item], k: usize) -> u16
     }
 }
 
-/// Writes so many samples, shifted up by so many places and cut to 16 bits: the items from a number on.
-fn shift_samples(items: &[Item], first: usize, places: u32, count: usize, out: &mut [u16; 1024])
-    requires places { places ≤ 14 }
-    requires first { first ≤ 2048 }
+/// Samples of a component: the items from a number on, shifted up by so many places.
+#[derive(Clone, Copy)]
+struct Pulses<'a> {
+    items: &'a [Item],
+    first: usize,
+    places: u32,
+}
+
+/// Writes so many samples, cut to 16 bits.
+fn shift_samples(pulses: &Pulses<'_>, count: usize, out: &mut [u16; 1024])
+    requires places { pulses.now.places ≤ 14 }
+    requires first { pulses.now.first ≤ 2048 }
     requires count { count ≤ 1024 }
-    ensures { (k : ℕ) → k < count → slice_index_or out.new k 0 ≡ sample_of (slice_index_or items.now (first + k) (Sample 0)) * 2 ^ places % 65536 }
+    ensures { (k : ℕ) → k < count → slice_index_or out.new k 0 ≡ sample_of (slice_index_or pulses.now.items.now (pulses.now.first + k) (Sample 0)) * 2 ^ pulses.now.places % 65536 }
 {
     for k in 0..count {
-        out[k] = sample_at(items, first + k) << places;
+        out[k] = sample_at(pulses.items, pulses.first + k) << pulses.places;
     }
 }
 
-/// Lays the samples of a component, which begin at an item with this number.
+/// Lays the samples of a component.
 fn lay_component(
     place: Place,
-    items: &[Item],
-    first: usize,
-    places: u32,
+    pulses: &Pulses<'_>,
     block: &mut [u16; 1024],
     samples: &mut UnitSamples,
 )
     requires place { IsInside place }
-    requires places { places ≤ 14 }
-    requires first { first ≤ 2048 }
-    ensures { ((k : ℕ) → sample_of (slice_index_or items.now k (Sample 0)) * 2 ^ places < 65536) → held samples.new ≡ laid place.c place.x place.y (2 ^ place.log2) (shifted places first items.now (2 ^ place.log2)) (held samples.old) }
+    requires places { pulses.now.places ≤ 14 }
+    requires first { pulses.now.first ≤ 2048 }
+    ensures { ((k : ℕ) → sample_of (slice_index_or pulses.now.items.now k (Sample 0)) * 2 ^ pulses.now.places < 65536) → held samples.new ≡ laid place.c place.x place.y (2 ^ place.log2) (shifted pulses.now.places pulses.now.first pulses.now.items.now (2 ^ place.log2)) (held samples.old) }
 {
     let n = place.side();
-    shift_samples(items, first, places, n * n, block);
+    shift_samples(pulses, n * n, block);
     samples.lay(place, block);
 }
 
@@ -89,22 +95,22 @@ pub(crate) fn lay_pulses(
     let chroma = u32::from(format.chroma_depth - format.pcm_chroma_bits);
     let n = luma_place(square).side();
     let half = chroma_place(square, 1).side();
-    let behind = n * n + half * half;
-    lay_component(luma_place(square), items, 0, luma, block, samples);
-    lay_component(
-        chroma_place(square, 1),
+    let y = Pulses {
         items,
-        n * n,
-        chroma,
-        block,
-        samples,
-    );
-    lay_component(
-        chroma_place(square, 2),
+        first: 0,
+        places: luma,
+    };
+    let cb = Pulses {
         items,
-        behind,
-        chroma,
-        block,
-        samples,
-    );
+        first: n * n,
+        places: chroma,
+    };
+    let cr = Pulses {
+        items,
+        first: n * n + half * half,
+        places: chroma,
+    };
+    lay_component(luma_place(square), &y, block, samples);
+    lay_component(chroma_place(square, 1), &cb, block, samples);
+    lay_component(chroma_place(square, 2), &cr, block, samples);
 }

@@ -68,26 +68,33 @@ fn skip_transform(format: &UnitFormat, block: CodedBlock, scaled: &[i32], out: &
     skip(scaled, u32::from(block.log2_size), depth, out);
 }
 
+/// A coded block and its qP.
+#[derive(Clone, Copy)]
+pub(crate) struct Quantized {
+    pub(crate) block: CodedBlock,
+    pub(crate) qp: u32,
+}
+
 /// The residuals of a block's levels, where cu_transquant_bypass_flag is 0.
 pub(crate) fn residuals_of(
     format: &UnitFormat,
-    block: CodedBlock,
-    qp: u32,
+    coded: Quantized,
     levels: &[i32],
     scaled: &mut [i32],
     out: &mut [i32],
 )
     requires format { IsFormat format.now }
-    requires block { IsCoded block }
-    requires qp { IsParameter (depth_of format.now block.component) qp }
+    requires block { IsCoded coded.block }
+    requires qp { IsParameter (depth_of format.now coded.block.component) coded.qp }
     requires levels { All Is16 levels.now }
-    requires count { length levels.now ≡ 2 ^ block.log2_size * 2 ^ block.log2_size }
+    requires count { length levels.now ≡ 2 ^ coded.block.log2_size * 2 ^ coded.block.log2_size }
     requires scaled { length scaled.old ≡ length levels.now }
     requires room { length out.old ≡ length levels.now }
-    ensures value { (x y : ℕ) → x < 2 ^ block.log2_size → y < 2 ^ block.log2_size → block_in (2 ^ block.log2_size) out.new x y ≡ residuals format.now false block qp levels.now x y }
+    ensures value { (x y : ℕ) → x < 2 ^ coded.block.log2_size → y < 2 ^ coded.block.log2_size → block_in (2 ^ coded.block.log2_size) out.new x y ≡ residuals format.now false coded.block coded.qp levels.now x y }
     ensures small { All IsResidual out.new }
 {
-    scale_levels(format, block, qp, levels, scaled);
+    let block = coded.block;
+    scale_levels(format, block, coded.qp, levels, scaled);
     if block.transform_skip {
         skip_transform(format, block, scaled, out);
     } else {

@@ -27,6 +27,20 @@ pub(crate) struct Coding {
     pub(crate) chroma_mode: u8,
 }
 
+/// What was read of a unit, and what its samples depend on apart from that.
+#[derive(Clone, Copy)]
+struct Unit<'a> {
+    records: &'a Records,
+    format: &'a UnitFormat,
+}
+
+/// An item, and the items behind it.
+#[derive(Clone, Copy)]
+struct Next<'a> {
+    item: Item,
+    behind: &'a [Item],
+}
+
 /// Builds the samples of a unit from what was read of it and what is known beside it. Items that aren't sound are passed
 /// over.
 #[tactic(auto, unfolding(spec_reconstruction::specs::Unit::unit_built))]
@@ -39,48 +53,43 @@ pub fn build_ctu(
     requires format { IsFormat format.now }
     ensures value { AreSound format.now records.now.items → held samples.new ≡ unit_built format.now records.now.items (held samples.old) }
 {
-    build_items(records, format, records.items(), scratch, samples);
+    build_items(&Unit { records, format }, records.items(), scratch, samples);
 }
 
 /// Builds what items tell, one after the other.
-fn build_items(
-    records: &Records,
-    format: &UnitFormat,
-    items: &[Item],
-    scratch: &mut Scratch,
-    samples: &mut UnitSamples,
-)
-    requires format { IsFormat format.now }
-    ensures { AreSound format.now records.now.items → All (IsSound format.now) items.now → (items_built format.now records.now.items items.now (before_unit (held samples.old))).known ≡ held samples.new }
+fn build_items(unit: &Unit<'_>, items: &[Item], scratch: &mut Scratch, samples: &mut UnitSamples)
+    requires format { IsFormat unit.now.format.now }
+    ensures { AreSound unit.now.format.now unit.now.records.now.items → All (IsSound unit.now.format.now) items.now → (items_built unit.now.format.now unit.now.records.now.items items.now (before_unit (held samples.old))).known ≡ held samples.new }
 {
     let mut coding = Coding {
         transquant_bypass: false,
         chroma_mode: 0,
     };
     for k in 0..items.len() {
-        let behind = &items[k + 1..];
-        coding = build_item(records, format, coding, items[k], behind, scratch, samples);
+        let next = Next {
+            item: items[k],
+            behind: &items[k + 1..],
+        };
+        coding = build_item(unit, coding, &next, scratch, samples);
     }
 }
 
 /// Builds what an item tells, with the items behind it.
 fn build_item(
-    records: &Records,
-    format: &UnitFormat,
+    unit: &Unit<'_>,
     coding: Coding,
-    item: Item,
-    behind: &[Item],
+    next: &Next<'_>,
     scratch: &mut Scratch,
     samples: &mut UnitSamples,
 ) -> Coding
-    requires format { IsFormat format.now }
+    requires format { IsFormat unit.now.format.now }
     requires mode { coding.chroma_mode ≤ 34 }
-    ensures value { AreSound format.now records.now.items → IsSound format.now item → All (IsSound format.now) behind.now → building result (held samples.new) ≡ item_built format.now records.now.items (building coding (held samples.old)) item behind.now }
+    ensures value { AreSound unit.now.format.now unit.now.records.now.items → IsSound unit.now.format.now next.now.item → All (IsSound unit.now.format.now) next.now.behind.now → building result (held samples.new) ≡ item_built unit.now.format.now unit.now.records.now.items (building coding (held samples.old)) next.now.item next.now.behind.now }
     ensures mode { result.chroma_mode ≤ 34 }
 {
-    match item {
-        Item::Unit(unit) => Coding {
-            transquant_bypass: unit.transquant_bypass,
+    match next.item {
+        Item::Unit(begun) => Coding {
+            transquant_bypass: begun.transquant_bypass,
             chroma_mode: coding.chroma_mode,
         },
         Item::Chroma(mode) => Coding {
@@ -89,21 +98,27 @@ fn build_item(
         },
         Item::Pcm(square) => {
             if 1 <= square.log2_size && is_square(square) {
-                lay_pulses(format, square, behind, &mut scratch.samples, samples);
+                lay_pulses(
+                    unit.format,
+                    square,
+                    next.behind,
+                    &mut scratch.samples,
+                    samples,
+                );
             }
             coding
         }
-        Item::Transform(unit) => {
-            if is_square(unit.square) {
-                let modes = modes_of(records, coding, unit.square);
-                predict_unit(format, modes, unit.square, scratch, samples);
+        Item::Transform(transform) => {
+            if is_square(transform.square) {
+                let modes = modes_of(unit.records, coding, transform.square);
+                predict_unit(unit.format, modes, transform.square, scratch, samples);
             }
             coding
         }
         Item::Block(block) => {
             if is_coded(block) {
-                let coded = in_unit(records, format, coding, block);
-                construct(format, coded, behind, scratch, samples);
+                let coded = in_unit(unit, coding, block);
+                construct(unit.format, coded, next.behind, scratch, samples);
             }
             coding
         }
@@ -126,18 +141,18 @@ fn modes_of(records: &Records, coding: Coding, square: Square) -> Modes
 }
 
 /// A block in its coding unit.
-fn in_unit(records: &Records, format: &UnitFormat, coding: Coding, block: CodedBlock) -> InUnit
-    requires format { IsFormat format.now }
+fn in_unit(unit: &Unit<'_>, coding: Coding, block: CodedBlock) -> InUnit
+    requires format { IsFormat unit.now.format.now }
     requires block { IsCoded block }
     ensures block { result.block ≡ block }
     ensures bypass { result.transquant_bypass ≡ coding.transquant_bypass }
-    ensures qp { IsParameter format.now.luma_depth (qp_at records.now.items block.x block.y) → result.qp ≡ qp_at records.now.items block.x block.y }
-    ensures range { IsParameter format.now.luma_depth result.qp }
+    ensures qp { IsParameter unit.now.format.now.luma_depth (qp_at unit.now.records.now.items block.x block.y) → result.qp ≡ qp_at unit.now.records.now.items block.x block.y }
+    ensures range { IsParameter unit.now.format.now.luma_depth result.qp }
 {
-    let qp = records.qp(usize::from(block.x), usize::from(block.y));
+    let qp = unit.records.qp(usize::from(block.x), usize::from(block.y));
     InUnit {
         block,
         transquant_bypass: coding.transquant_bypass,
-        qp: qp.min(51 + 6 * (format.luma_depth - 8)),
+        qp: qp.min(51 + 6 * (unit.format.luma_depth - 8)),
     }
 }

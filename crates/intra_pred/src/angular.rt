@@ -37,9 +37,24 @@ pub fn angular(main: &[u16], side: &[u16], direction: Direction, out: &mut [u16]
     let n = columns(direction.log2);
     let mut reference = [0; 98];
     fill(main, side, direction.mode, n, &mut reference);
+    let sides = Sides { main, side };
     for y in 0..n {
-        line(main, side, direction, &reference, n, y, out);
+        line(&sides, direction, &reference, LinePlace { n, y }, out);
     }
+}
+
+/// The main side and the other one, both from the corner on.
+#[derive(Clone, Copy)]
+struct Sides<'a> {
+    main: &'a [u16],
+    side: &'a [u16],
+}
+
+/// A line of a block of `n` columns.
+#[derive(Clone, Copy)]
+struct LinePlace {
+    n: usize,
+    y: usize,
 }
 
 /// Writes the reference samples of a direction, `n` places behind.
@@ -100,30 +115,30 @@ fn side_place(places: usize, inverse: usize) -> usize
 
 /// A line of the prediction.
 fn line(
-    main: &[u16],
-    side: &[u16],
+    sides: &Sides<'_>,
     direction: Direction,
     reference: &[u16; 98],
-    n: usize,
-    y: usize,
+    line: LinePlace,
     out: &mut [u16],
 )
-    requires n { n ≡ 2 ^ direction.log2 }
-    requires few { n ≤ 32 }
+    requires n { line.n ≡ 2 ^ direction.log2 }
+    requires few { line.n ≤ 32 }
     requires log2 { (2 ≤ direction.log2) × (direction.log2 ≤ 5) }
     requires mode { (2 ≤ direction.mode) × (direction.mode ≤ 34) }
     requires depth { (8 ≤ direction.depth) × (direction.depth ≤ 16) }
-    requires y { y < n }
-    requires main { length main.now ≡ 2 * n + 1 }
-    requires side { length side.now ≡ 2 * n + 1 }
-    requires reference { IsReference n direction.mode main.now side.now reference.now }
-    requires out { n * y + n ≤ length out.old }
-    ensures { (q : ℕ) → at out.new q ≡ cond (nat_le (n * y) q && nat_lt q (n * y + n)) (angular direction.edges direction.log2 direction.mode direction.depth main.now side.now (q - n * y) y) (at out.old q) }
+    requires y { line.y < line.n }
+    requires main { length sides.now.main.now ≡ 2 * line.n + 1 }
+    requires side { length sides.now.side.now ≡ 2 * line.n + 1 }
+    requires reference { IsReference line.n direction.mode sides.now.main.now sides.now.side.now reference.now }
+    requires out { line.n * line.y + line.n ≤ length out.old }
+    ensures { (q : ℕ) → at out.new q ≡ cond (nat_le (line.n * line.y) q && nat_lt q (line.n * line.y + line.n)) (angular direction.edges direction.log2 direction.mode direction.depth sides.now.main.now sides.now.side.now (q - line.n * line.y) line.y) (at out.old q) }
 {
-    let place = met(n, pred_angle(direction.mode), y);
-    met_line(reference, place, n, n * y, out);
+    let first = line.n * line.y;
+    let place = met(line.n, pred_angle(direction.mode), line.y);
+    met_line(reference, place, line.n, first, out);
     if has_edge(direction) {
-        out[n * y] = stepped(direction.depth, main[1], side[y + 1], main[0]);
+        let main = sides.main;
+        out[first] = stepped(direction.depth, main[1], sides.side[line.y + 1], main[0]);
     }
 }
 

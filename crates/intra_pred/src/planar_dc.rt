@@ -73,8 +73,15 @@ pub fn dc(edge: &[u16], edges: bool, log2: u32, out: &mut [u16])
     let n = columns(log2);
     let mean = mean_beside(edge, log2, n);
     for y in 0..n {
-        level_line(edge, edges, n, mean, y, out);
+        level_line(edge, Level { mean, edges }, n, y, out);
     }
+}
+
+/// The mean of a block's neighbours, and whether its first line and column are filtered.
+#[derive(Clone, Copy)]
+struct Level {
+    mean: u16,
+    edges: bool,
 }
 
 /// The mean of the samples on the left and above.
@@ -95,19 +102,19 @@ fn mean_beside(edge: &[u16], log2: u32, n: usize) -> u16
 }
 
 /// A line of the DC prediction.
-fn level_line(edge: &[u16], edges: bool, n: usize, mean: u16, y: usize, out: &mut [u16])
+fn level_line(edge: &[u16], level: Level, n: usize, y: usize, out: &mut [u16])
     requires n { (4 ≤ n) × (n ≤ 32) }
     requires y { y < n }
     requires edge { length edge.now ≡ 4 * n + 1 }
     requires out { n * y + n ≤ length out.old }
-    ensures { (q : ℕ) → at out.new q ≡ cond (nat_le (n * y) q && nat_lt q (n * y + n)) (levelled edges n edge.now mean (q - n * y) y) (at out.old q) }
+    ensures { (q : ℕ) → at out.new q ≡ cond (nat_le (n * y) q && nat_lt q (n * y + n)) (levelled level.edges n edge.now level.mean (q - n * y) y) (at out.old q) }
 {
-    if edges && y == 0 {
-        first_line(edge, n, mean, out);
+    if level.edges && y == 0 {
+        first_line(edge, n, level.mean, out);
     } else {
-        lay(out, n * y, n, mean);
-        if edges {
-            out[n * y] = closer(edge[2 * n - (y + 1)], mean);
+        lay(out, n * y, n, level.mean);
+        if level.edges {
+            out[n * y] = closer(edge[2 * n - (y + 1)], level.mean);
         }
     }
 }

@@ -23,37 +23,52 @@ pub fn predict(edge: &[u16], c: u8, log2: u32, mode: u8, strong: bool, depth: u3
     ensures value { (x y : ℕ) → x < 2 ^ log2 → y < 2 ^ log2 → at out.new (2 ^ log2 * y + x) ≡ predicted c log2 mode strong depth edge.now x y }
     ensures rest { (k : ℕ) → 2 ^ log2 * 2 ^ log2 ≤ k → at out.new k ≡ at out.old k }
 {
+    let predicted = Predicted {
+        c,
+        log2,
+        mode,
+        depth,
+    };
     if is_filtered(c, log2, mode) {
         let mut smooth = [0; 129];
         filter(edge, log2, strong, depth, &mut smooth);
-        predict_from(&smooth[..edge.len()], c, log2, mode, depth, out);
+        predict_from(&smooth[..edge.len()], predicted, out);
     } else {
-        predict_from(edge, c, log2, mode, depth, out);
+        predict_from(edge, predicted, out);
     }
+}
+
+/// A block of 2^`log2` columns of component `c`, its mode, and the bits of a sample.
+#[derive(Clone, Copy)]
+struct Predicted {
+    c: u8,
+    log2: u32,
+    mode: u8,
+    depth: u32,
 }
 
 /// The prediction of a block from neighbours that are filtered where they have to be.
 #[tactic(auto, unfolding(spec_intra_prediction::specs::Prediction::predicted_from))]
-fn predict_from(edge: &[u16], c: u8, log2: u32, mode: u8, depth: u32, out: &mut [u16])
-    requires log2 { (2 ≤ log2) × (log2 ≤ 5) }
-    requires mode { mode ≤ 34 }
-    requires depth { (8 ≤ depth) × (depth ≤ 16) }
-    requires edge { length edge.now ≡ 4 * 2 ^ log2 + 1 }
-    requires out { 2 ^ log2 * 2 ^ log2 ≤ length out.old }
-    ensures value { (x y : ℕ) → x < 2 ^ log2 → y < 2 ^ log2 → at out.new (2 ^ log2 * y + x) ≡ predicted_from c log2 mode depth edge.now x y }
-    ensures rest { (k : ℕ) → 2 ^ log2 * 2 ^ log2 ≤ k → at out.new k ≡ at out.old k }
+fn predict_from(edge: &[u16], block: Predicted, out: &mut [u16])
+    requires log2 { (2 ≤ block.log2) × (block.log2 ≤ 5) }
+    requires mode { block.mode ≤ 34 }
+    requires depth { (8 ≤ block.depth) × (block.depth ≤ 16) }
+    requires edge { length edge.now ≡ 4 * 2 ^ block.log2 + 1 }
+    requires out { 2 ^ block.log2 * 2 ^ block.log2 ≤ length out.old }
+    ensures value { (x y : ℕ) → x < 2 ^ block.log2 → y < 2 ^ block.log2 → at out.new (2 ^ block.log2 * y + x) ≡ predicted_from block.c block.log2 block.mode block.depth edge.now x y }
+    ensures rest { (k : ℕ) → 2 ^ block.log2 * 2 ^ block.log2 ≤ k → at out.new k ≡ at out.old k }
 {
-    let edges = has_filtered_edges(c, log2);
-    match mode {
-        0 => planar(edge, log2, out),
-        1 => dc(edge, edges, log2, out),
+    let edges = has_filtered_edges(block.c, block.log2);
+    match block.mode {
+        0 => planar(edge, block.log2, out),
+        1 => dc(edge, edges, block.log2, out),
         _ => directed(
             edge,
             Direction {
-                log2,
-                mode,
+                log2: block.log2,
+                mode: block.mode,
                 edges,
-                depth,
+                depth: block.depth,
             },
             out,
         ),

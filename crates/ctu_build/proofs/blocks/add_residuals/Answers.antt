@@ -1,3 +1,4 @@
+use Rattle.std.proofs.Common.{rules}
 use Rattle.ctu_build.proofs.Squares.{scaled_constructed}
 use Rattle.ctu_build.proofs.blocks.add_residuals.Goals as goal
 
@@ -5,4 +6,4 @@ pub returns : goal.returns
 returns c =
     let a = c.args in
     scaled_constructed a.format.now a.coded.transquant_bypass a.coded.block a.coded.qp _ a.items.now _ _ _ _ _ _ _
-    c.add.ensures c.place_of-place.ensures.value c.depth_of-depth.ensures.value c.requires.bypass c.read_levels.ensures.value c.requires.levels c.parameter_of-qp.ensures.value c.residuals_of.ensures.value
+    c.add.ensures c.place_of-place.ensures.value c.depth_of-depth.ensures.value c.requires.bypass c.read_levels.ensures.value (search rules) c.parameter_of-qp.ensures.value c.residuals_of.ensures.value

@@ -9,7 +9,7 @@ pub loop-k-preserved : goal.loop-k-preserved
 loop-k-preserved c = record {
   mode = c.build_item-coding.ensures.mode;
   told = λ all each. built_more _ _ c.args.items.now c.loop-k.k _ _ (building c.loop-k.coding (held c.loop-k.samples)) _ _ c.loop-k-test.true refl
-      (c.build_item-coding.ensures.value all (each c.loop-k.k _ c.loop-k-test.true) (sound_behind c.args.format.now c.args.items.now c.loop-k.k each)) (c.loop-k.invariant.told all each);
+      (c.build_item-coding.ensures.value all (each c.loop-k.k _ c.loop-k-test.true) (sound_behind c.args.unit.now.format.now c.args.items.now c.loop-k.k each)) (c.loop-k.invariant.told all each);
 }
 
 pub returns : goal.returns

@@ -9,5 +9,5 @@ use Rattle.ctu_build.proofs.unit.build_items.Given as goal
 abbrev pub invariant-loop-k : goal.invariant-loop-k
 invariant-loop-k l = record {
   mode : l.coding.chroma_mode ≤ 34;
-  told : AreSound l.format l.records.items → All (IsSound l.format) l.items → items_built l.format l.records.items (drop l.k l.items) (building l.coding (held l.samples)) ≡ items_built l.format l.records.items l.items (before_unit (held l.fn.samples));
+  told : AreSound l.unit.format.now l.unit.records.now.items → All (IsSound l.unit.format.now) l.items → items_built l.unit.format.now l.unit.records.now.items (drop l.k l.items) (building l.coding (held l.samples)) ≡ items_built l.unit.format.now l.unit.records.now.items l.items (before_unit (held l.fn.samples));
 }
