@@ -25,7 +25,7 @@ pub fn read_picture<T: Trees>(
     plan: &PicturePlan,
     trees: &mut T,
 ) -> Result<(), ReadError>
-    ensures value { (given : List TreeUnit) → T.tells trees.old given → ReadsPicture result (T.tells trees.new) (picture_read plan.now given) }
+    ensures value { (given : List TreeUnit) → T.tells trees.old plan.now given → ReadsPicture result (T.tells trees.new plan.now) (picture_read plan.now given) }
 {
     let Ok(mut reading) = Reading::new(alloc, &Layout::new(plan)) else {
         return Err(ReadError::Memory);

@@ -1,6 +1,7 @@
 //! Who is handed the coding tree units of a picture, and how reading ends.
 
 ghost use Rattle.std.specs.Prelude.{List, [], ◌∷◌, ◌++◌, OnOk};
+ghost use Rattle.plan_types.specs.declared.picture_plan.PicturePlan.{PicturePlan};
 ghost use Rattle.spec_picture_data.specs.Picture.{TreeUnit};
 ghost use Rattle.picture_trees.specs.Given.{tree_unit};
 
@@ -10,13 +11,13 @@ use std::alloc::AllocError;
 
 /// Is handed each coding tree unit of a picture once it is read.
 pub trait Trees {
-    /// Whether these may be the units that it was handed, in order. Who tells nothing of them takes any.
-    ghost tells: { Self → List TreeUnit → Type 0 };
+    /// Whether these may be the units of this picture that it was handed, in order. Who tells nothing of them takes any.
+    ghost tells: { Self → PicturePlan → List TreeUnit → Type 0 };
 
     /// Takes what was read of the coding tree unit at address `ctu`, in raster order, of the picture's slice segment with
     /// this number, from 0.
     fn unit(&mut self, segment: usize, ctu: u32, records: &Records) -> Result<(), AllocError>
-        ensures { (given : List TreeUnit) → Self.tells self.old given → OnOk result (Self.tells self.new (given ++ tree_unit segment ctu records.now ∷ [])) };
+        ensures { (p : PicturePlan) (given : List TreeUnit) → Self.tells self.old p given → OnOk result (Self.tells self.new p (given ++ tree_unit segment ctu records.now ∷ [])) };
 }
 
 /// Why the coding tree units of a picture weren't all read.

@@ -5,6 +5,7 @@ ghost use Rattle.ctu_records.specs.Tree.{Ctu};
 ghost use Rattle.spec_cabac.specs.Engine.{IsLive};
 ghost use Rattle.spec_slice_data.specs.Segment.{PictureShape, before_unit, begins_row, begins_substream, column_of, contexts_before, is_last, qp_before, read_unit, stored_behind, unit_step};
 ghost use Rattle.spec_slice_data.specs.declared.syntax.End.TheVariants as end;
+ghost use Rattle.plan_types.specs.declared.picture_plan.PicturePlan.{PicturePlan};
 ghost use Rattle.spec_picture_data.specs.Picture.{TreeUnit, before_picture, segment_read};
 ghost use Rattle.picture_trees.specs.Beside.{behind};
 ghost use Rattle.picture_trees.specs.Reading.{IsKept, MayGoOn, ReadsSegment, Steps, between_of, progress_of};
@@ -177,7 +178,7 @@ impl<'a> Reading<'a> {
         segment: &SegmentData<'a>,
         trees: &mut T,
     ) -> Result<(), ReadError>
-        ensures { (units : List Ctu) (given : List TreeUnit) → IsKept segment.now.picture segment.now.shape.first self.old.beside units → T.tells trees.old given → ReadsSegment result segment.now.picture (segment.now.shape.first + segment.now.shape.count) self.new (T.tells trees.new) (segment_read segment.now (progress_of self.old units given)) }
+        ensures { (p : PicturePlan) (units : List Ctu) (given : List TreeUnit) → IsKept segment.now.picture segment.now.shape.first self.old.beside units → T.tells trees.old p given → ReadsSegment result segment.now.picture (segment.now.shape.first + segment.now.shape.count) self.new (T.tells trees.new p) (segment_read segment.now (progress_of self.old units given)) }
     {
         for address in segment.first()..segment.behind() {
             if let Err(breach) = self.unit_step(segment, address) {

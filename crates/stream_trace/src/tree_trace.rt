@@ -161,7 +161,7 @@ impl<'a, W: Write> TreeLines<'a, W> {
 }
 
 impl<'a, W: Write> Trees for TreeLines<'a, W> {
-    ghost tells = { λ _ _. Unit {0} };
+    ghost tells = { λ _ _ _. Unit {0} };
 
     fn unit(&mut self, segment: usize, ctu: u32, records: &Records) -> Result<(), AllocError> {
         if self.result.is_ok() {

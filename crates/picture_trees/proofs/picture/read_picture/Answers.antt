@@ -24,8 +24,8 @@ returns-in-Err g c =
           let t = c.loop-number.invariant.told given tells in
           let w = t.2 in
           reached_end c.args.plan.now number c.loop-number.first (segment.result.shape.first + segment.result.shape.count) c.loop-number.reading c.read_segment.new.self
-          t.0 (g.T.Trees.tells c.read_segment.new.trees) _ s segment.result c.in-Err.error e lt w
-          (c.in-Err.ensures w.units t.0 (kept_for c.args.plan.now number c.loop-number.first c.loop-number.reading w.units s segment.result e segment.ensures.first w.kept) t.1);
+          t.0 (g.T.Trees.tells c.read_segment.new.trees c.args.plan.now) _ s segment.result c.in-Err.error e lt w
+          (c.in-Err.ensures c.args.plan.now w.units t.0 (kept_for c.args.plan.now number c.loop-number.first c.loop-number.reading w.units s segment.result e segment.ensures.first w.kept) t.1);
     }
 
 pub loop-number-preserved : goal.loop-number-preserved
@@ -40,7 +40,7 @@ loop-number-preserved g c =
       told = λ given tells.
           let t = c.loop-number.invariant.told given tells in
           let w = t.2 in
-          let got = c.in_default-read_segment.ensures w.units t.0 (kept_for c.args.plan.now number c.loop-number.first c.loop-number.reading w.units s segment.result e segment.ensures.first w.kept) t.1 in (
+          let got = c.in_default-read_segment.ensures c.args.plan.now w.units t.0 (kept_for c.args.plan.now number c.loop-number.first c.loop-number.reading w.units s segment.result e segment.ensures.first w.kept) t.1 in (
             got.0,
             got.1,
             (rw c.behind-first.ensures.value (reached_more c.args.plan.now number c.loop-number.first c.loop-number.reading c.read_segment.new.self

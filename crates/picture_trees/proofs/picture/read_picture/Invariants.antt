@@ -8,6 +8,6 @@ use Rattle.picture_trees.proofs.picture.read_picture.Given as goal
 abbrev pub invariant-loop-number : goal.invariant-loop-number
 invariant-loop-number g l = record {
   inside : l.first ≤ size_in_ctbs l.plan.sps;
-  told : (given : List TreeUnit) → g.T.Trees.tells l.fn.trees given
-      → Told (g.T.Trees.tells l.trees) (λ more. IsReached l.plan l.number l.first l.reading more (picture_read l.plan given));
+  told : (given : List TreeUnit) → g.T.Trees.tells l.fn.trees l.plan given
+      → Told (g.T.Trees.tells l.trees l.plan) (λ more. IsReached l.plan l.number l.first l.reading more (picture_read l.plan given));
 }

@@ -1,5 +1,6 @@
 use Rattle.std.proofs.Common.{◌≡◌, ℕ, ◌+◌, ◌<◌, ◌≤◌, List}
 use Rattle.ctu_records.specs.Tree.{Ctu}
+use Rattle.plan_types.specs.declared.picture_plan.PicturePlan.{PicturePlan}
 use Rattle.spec_picture_data.specs.Picture.{TreeUnit, segment_read}
 use Rattle.picture_trees.specs.Given.{Told}
 use Rattle.picture_trees.specs.Reading.{IsKept, IsWithin, MayGoOn, progress_of}
@@ -9,6 +10,6 @@ abbrev pub invariant-loop-address : goal.invariant-loop-address
 invariant-loop-address g l = record {
   high : l.address ≤ l.segment.shape.first + l.segment.shape.count;
   live : l.address < l.segment.shape.first + l.segment.shape.count → MayGoOn l.segment l.address l.self;
-  told : (units : List Ctu) (given : List TreeUnit) → IsKept l.segment.picture l.segment.shape.first l.fn.self.beside units → g.T.Trees.tells l.fn.trees given
-      → Told (g.T.Trees.tells l.trees) (λ more. IsWithin l.segment l.address l.self more (segment_read l.segment (progress_of l.fn.self units given)));
+  told : (p : PicturePlan) (units : List Ctu) (given : List TreeUnit) → IsKept l.segment.picture l.segment.shape.first l.fn.self.beside units → g.T.Trees.tells l.fn.trees p given
+      → Told (g.T.Trees.tells l.trees p) (λ more. IsWithin l.segment l.address l.self more (segment_read l.segment (progress_of l.fn.self units given)));
 }
