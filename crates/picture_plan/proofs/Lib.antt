@@ -3,7 +3,3 @@ pub mod KeptPictures
 pub mod Pictures
 pub mod Closings
 pub mod Taking
-pub mod Whole
-pub mod OneSet
-pub mod Calls
-pub mod Maximal

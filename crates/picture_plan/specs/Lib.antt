@@ -4,5 +4,3 @@ pub mod Changes
 pub mod Bounds
 pub mod States
 pub mod Taken
-pub mod Runs
-pub mod Calls

@@ -9,7 +9,6 @@ mod flight;
 mod former;
 mod gathering;
 mod headers;
-mod laws;
 mod opening;
 mod outputs;
 mod planner;
@@ -21,8 +20,4 @@ mod unit_kinds;
 mod units;
 
 pub use flight::{Flight, Flights};
-pub use laws::{
-    flights_are_maximal, flights_are_of_one_set, flights_are_the_pictures,
-    flights_so_far_are_the_pictures, halted_flights_are_the_pictures,
-};
 pub use planner::{Planned, Planner};

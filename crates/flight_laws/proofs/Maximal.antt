@@ -1,15 +1,14 @@
 -- No flight could have taken the next picture.
-use Rattle.std.proofs.Common.{◌≡◌, ◌≤◌, ◌⊎◌, inl, inr, ℕ, Bool, true, false, List, [], ◌∷◌, ◌++◌, length, nat_le, if◌then◌else◌, Result, Ok, Err, refl, sym, ap, subst, ◌∙◌, append_assoc, append-nil}
+use Rattle.std.proofs.Common.{◌≡◌, ◌≤◌, inl, inr, ℕ, Bool, true, false, List, [], ◌∷◌, ◌++◌, length, nat_le, if◌then◌else◌, Result, Ok, Err, refl, sym, ap, subst, ◌∙◌, append_assoc, append-nil}
 use Rattle.std.proofs.lemmas.Bool.{leb-true}
 use Rattle.hv_base.specs.declared.refusal.Stop.{Stop}
 use Rattle.plan_types.specs.declared.picture_plan.PicturePlan.{PicturePlan}
 use Rattle.plan_types.specs.declared.between.Between.{Between}
 use Rattle.spec_units.specs.Judged.{Told}
 use Rattle.spec_pictures.specs.Steps.{Stepped, close, step}
-use Rattle.picture_plan.specs.Flights.{Gathered, cut, cut_at_stop, cut_full, goes_on_with, joined_by, joined_with, waiting, with_picture, with_pictures}
+use Rattle.picture_plan.specs.Flights.{Gathered, cut, cut_at_stop, goes_on_with, joined_by, joined_with, waiting, with_picture, with_pictures}
 use Rattle.picture_plan.specs.Plans.{Given, Plans, at_end, behind_unit, halted}
-use Rattle.picture_plan.specs.Runs.{behind_flights}
-use Rattle.picture_plan.specs.Calls.{AreMaximal, IsShut, if_any, over, still, with_pending}
+use Rattle.flight_laws.specs.Calls.{AreMaximal, IsShut, if_any, over, still, with_pending}
 
 -- the pictures behind a flight: the next flight, or what is pending
 abbrev next_of : List (List PicturePlan) → List PicturePlan → List PicturePlan

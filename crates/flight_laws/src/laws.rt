@@ -1,12 +1,12 @@
-//! Laws of the definitions.
+//! Laws of what a planner gives over a stream of units.
 
 ghost use Rattle.std.specs.Prelude.{ℕ, ◌≤◌, true, false, List};
 ghost use Rattle.spec_units.specs.Judged.{Told};
 ghost use Rattle.spec_pictures.specs.Pictures.{beginning};
 ghost use Rattle.spec_pictures.specs.Planned.{planned_from};
-ghost use Rattle.picture_plan.specs.Calls.{AreAllGiven, AreGiven, AreMaximal, over, planned_behind, still, with_pending};
+ghost use Rattle.flight_laws.specs.Calls.{AreAllGiven, AreGiven, AreMaximal, over, planned_behind, still, with_pending};
 ghost use Rattle.picture_plan.specs.Plans.{Plans, at_end, halted};
-ghost use Rattle.picture_plan.specs.Runs.{AreFlights, ArePlanned, new_plans, run};
+ghost use Rattle.flight_laws.specs.Runs.{AreFlights, ArePlanned, new_plans, run};
 
 /// The flights over units that have come so far, and the pictures that then wait, hold the pictures that waited before and
 /// then those that are planned, in the same order; and the same stops the stream.

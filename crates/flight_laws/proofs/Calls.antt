@@ -5,13 +5,13 @@ use Rattle.plan_types.specs.declared.picture_plan.PicturePlan.{PicturePlan}
 use Rattle.plan_types.specs.declared.between.Between.{Between}
 use Rattle.spec_units.specs.Judged.{Told}
 use Rattle.spec_pictures.specs.Steps.{Stepped, close, step}
-use Rattle.spec_pictures.specs.Planned.{Planned, behind_closed, planned_from, planned_next}
-use Rattle.picture_plan.specs.Flights.{Gathered, cut, cut_at_stop, pictures_of, waiting, with_pictures}
-use Rattle.picture_plan.specs.Plans.{Given, Plans, after_step, at_end, behind_unit, going_on, halted, stop_of}
-use Rattle.picture_plan.specs.Runs.{behind_flights}
-use Rattle.picture_plan.specs.Calls.{AreAllGiven, AreGiven, over, planned_behind, still}
+use Rattle.spec_pictures.specs.Planned.{Planned, behind_closed}
+use Rattle.picture_plan.specs.Flights.{Gathered, cut_at_stop, pictures_of, waiting, with_pictures}
+use Rattle.picture_plan.specs.Plans.{Given, Plans, after_step, at_end, behind_unit, going_on, halted}
+use Rattle.flight_laws.specs.Runs.{behind_flights}
+use Rattle.flight_laws.specs.Calls.{AreAllGiven, AreGiven, over, planned_behind, still}
 use Rattle.picture_plan.proofs.Pictures.{cut-all, cut-none, pictures_of-append, step-all}
-use Rattle.picture_plan.proofs.Whole.{cut-pictures, end-goes, stopped-goes}
+use Rattle.flight_laws.proofs.Whole.{end-goes, stopped-goes}
 
 -- what a last call gives holds what waits and what is planned behind it
 abbrev EndGives : Bool → (Plans → Given) → Type 0

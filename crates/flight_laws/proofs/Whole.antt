@@ -10,7 +10,7 @@ use Rattle.spec_pictures.specs.Planned.{Planned, behind_closed, planned_next, pl
 use Rattle.spec_pictures.specs.Planned.{stop_of as planned_stop}
 use Rattle.picture_plan.specs.Flights.{Gathered, cut, waiting, with_pictures, cut_at_stop, pictures_of}
 use Rattle.picture_plan.specs.Plans.{Given, behind_unit, at_end, stop_of}
-use Rattle.picture_plan.specs.Runs.{new_plans, run, behind_flights, ArePlanned}
+use Rattle.flight_laws.specs.Runs.{new_plans, run, behind_flights, ArePlanned}
 use Rattle.picture_plan.proofs.Pictures.{pictures_of-append, cut-all, cut-none, step-all}
 
 -- the pictures and the stop of what a planner gives are those that are planned, behind what waited

@@ -12,7 +12,7 @@ use Rattle.spec_pictures.specs.Steps.{Stepped, close, step}
 use Rattle.picture_plan.specs.Flights.{Gathered, goes_on_with, ended, cut, joined_by, joined_with, with_picture, waiting, with_pictures, cut_at_stop}
 use Rattle.picture_plan.specs.Plans.{Given, behind_unit, at_end}
 use Rattle.picture_plan.proofs.Pictures.{cut-none}
-use Rattle.picture_plan.specs.Runs.{new_plans, run, IsFlight, AreFlights}
+use Rattle.flight_laws.specs.Runs.{new_plans, run, IsFlight, AreFlights}
 
 -- pictures that wait for their flight's end: fewer than `ahead`, of one sequence parameter set
 unfoldable Waits : ℕ → List PicturePlan → Type 0

@@ -7,7 +7,7 @@ use Rattle.spec_units.specs.Judged.{Told}
 use Rattle.spec_pictures.specs.Planned.{Planned, planned_from, planned_next}
 use Rattle.picture_plan.specs.Flights.{goes_on_with, pictures_of, waiting}
 use Rattle.picture_plan.specs.Plans.{Given, Plans, behind_unit, given_of, stop_of}
-use Rattle.picture_plan.specs.Runs.{behind_flights}
+use Rattle.flight_laws.specs.Runs.{behind_flights}
 
 -- a call for each of these units, and then a last one
 abbrev pub over : (Plans → Given) → Plans → List Told → Given

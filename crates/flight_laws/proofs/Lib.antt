@@ -1,0 +1,4 @@
+pub mod Whole
+pub mod OneSet
+pub mod Calls
+pub mod Maximal

@@ -1,5 +1,0 @@
-use Rattle.picture_plan.proofs.OneSet.{are_flights}
-use Rattle.picture_plan.proofs.laws.flights_are_of_one_set.Goals as goal
-
-pub returns : goal.returns
-returns c = are_flights
