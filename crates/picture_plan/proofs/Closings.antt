@@ -9,15 +9,22 @@ use Rattle.plan_types.specs.declared.between.Between.{Between}
 use Rattle.spec_formats.specs.Fields.{Parses}
 use Rattle.spec_units.specs.Judged.{NalUnit}
 use Rattle.spec_pictures.specs.Steps.{close, closing, continuing, joined, slice_judged, then_next}
-use Rattle.picture_plan.specs.Changes.{IsNextSegment, Stops, one_more}
+use Rattle.picture_plan.specs.declared.change.Change.{Change}
+use Rattle.picture_plan.specs.Changes.{IsNextSegment, Stops, applied, one_more}
+use Rattle.picture_plan.specs.States.{Held}
+use Rattle.picture_plan.specs.Taken.{changed_behind, taken}
 
-then_next-alone : (closed : List PicturePlan) (r : Result Between Stop) → then_next closed r (λ t. Ok t) ≡ record { closed = closed; next = r }
-then_next-alone closed (Err e) = refl
-then_next-alone closed (Ok s) = refl
+then-changed : (h : Held) (closed : List PicturePlan) (r : Result Between Stop) (change : Change) (f : Between → Result Between Stop)
+    → ((t : Between) → r ≡ Ok t → applied t change ≡ f t)
+    → changed_behind (taken h (record { closed = closed; next = r })) change ≡ taken h (then_next closed r f)
+then-changed h closed (Err e) change f same = refl
+then-changed h closed (Ok s) change f same = rw (same s refl) refl
 
--- where nothing follows
-pub closing-alone : (s : Between) → closing s (λ t. Ok t) ≡ close s
-closing-alone s = then_next-alone (close s).closed (close s).next
+-- where a change follows
+pub closing-changed : (h : Held) (change : Change) (f : Between → Result Between Stop)
+    → ((t : Between) → (close h.between).next ≡ Ok t → applied t change ≡ f t)
+    → changed_behind (taken h (close h.between)) change ≡ taken h (closing h.between f)
+closing-changed h change f same = then-changed h (close h.between).closed (close h.between).next change f same
 
 joined-ok : (s : Between) (u : NalUnit) (segment : SegmentPlan) (more o : Option PicturePlan) → (o ≡ None → ⊥)
     → IfSome o (λ p. Parses (one_more p) (Ok segment) (continuing s.sets s.former u p)) → ((p : PicturePlan) → o ≡ Some p → more ≡ Some (one_more p segment))

@@ -11,11 +11,13 @@ use Rattle.plan_types.specs.declared.segment_plan.SegmentPlan.{SegmentPlan}
 use Rattle.plan_types.specs.declared.between.Between.{Between}
 use Rattle.spec_formats.specs.Fields.{Parses}
 use Rattle.spec_units.specs.Judged.{NalUnit}
-use Rattle.spec_pictures.specs.Steps.{Stepped, begun, close, continuing, put_pps, put_sps, sequence_end, stop_at}
+use Rattle.header_types.specs.declared.slice.SliceHeaderFields.{SliceHeaderFields}
+use Rattle.spec_pictures.specs.Steps.{Stepped, begun, close, continuing, put_pps, put_sps, segment_of, sequence_end, stop_at}
 use Rattle.picture_plan.specs.declared.change.Change.{Change}
 use Rattle.picture_plan.specs.declared.change.Change.TheVariants as change
 use Rattle.picture_plan.specs.declared.change.Closing.{Closing}
 use Rattle.picture_plan.specs.declared.change.Closing.TheVariants as closing
+use Rattle.picture_plan.specs.declared.opening.Parts.{Parts}
 
 abbrev pub pictures_in : Option PicturePlan → List PicturePlan
 pictures_in None = []
@@ -48,6 +50,19 @@ abbrev pub Stops : ℕ → Refusal → Stop → Type 0
 Stops nal refusal.Memory e = ⊥
 Stops nal (refusal.Fault kind) e = e ≡ stop_at nal (breach.Fault kind)
 Stops nal (refusal.Limit kind) e = e ≡ stop_at nal (breach.Limit kind)
+
+-- the picture that has these parts, and this unit and header as its first slice segment
+abbrev pub begun_by : NalUnit → SliceHeaderFields → Parts → PicturePlan
+begun_by u header parts = record {
+  nal = u.index;
+  kind = header.kind;
+  sps = parts.sps;
+  pps = parts.pps;
+  poc = parts.poc;
+  rps = parts.rps;
+  outputs = parts.outputs;
+  segments = segment_of [] parts.rps u header ∷ [];
+}
 
 -- a picture with one more segment
 abbrev pub one_more : PicturePlan → SegmentPlan → PicturePlan

@@ -5,12 +5,12 @@ ghost use Rattle.std.specs.List.{count_by};
 ghost use Rattle.slice_headers.specs.Ranges.{AreReferences, IsInRange};
 ghost use Rattle.spec_formats.specs.Fields.{Parses};
 ghost use Rattle.plan_types.specs.declared.between.Between.{Between};
-ghost use Rattle.spec_pictures.specs.Steps.{opening, picture_of, segment_of, slice_judged, with_order, with_set};
+ghost use Rattle.spec_pictures.specs.Steps.{opening, picture_of, segment_of, slice_judged, with_order};
 ghost use Rattle.spec_reference_pictures.specs.PictureOrderCount.{pic_order_cnt_val};
 ghost use Rattle.spec_reference_pictures.specs.ReferencePictureSet.{GivesSet, is_reference, reference_picture_set};
-ghost use Rattle.spec_units.specs.Judged.{unit_of};
+ghost use Rattle.spec_units.specs.Judged.{NalUnit, unit_of};
 ghost use Rattle.picture_plan.specs.Bounds.{ChangesFew, HasLists, KeepsFew};
-ghost use Rattle.picture_plan.specs.Changes.{applied};
+ghost use Rattle.picture_plan.specs.Changes.{applied, begun_by};
 
 use crate::change::{Change, stop_at};
 use crate::headers::judge_header;
@@ -21,7 +21,7 @@ use header_types::{
     FieldList, Former, PictureKind, Pps, ReferenceFields, Rps, Sets, Shared, SliceHeader, Sps,
 };
 use hv_base::{FaultKind, Nal, Refusal};
-use plan_types::{PicturePlan, SegmentPlan};
+use plan_types::{Outputs, PicturePlan, SegmentPlan};
 use ref_picture_sets::{derive_rps, poc_of};
 use std::alloc::{AllocError, Global};
 
@@ -66,53 +66,55 @@ fn only_segment(
     Ok(segments)
 }
 
-/// The picture of a first slice segment, which has this order count and reference picture set.
-fn picture_with<'a>(
-    alloc: Global,
-    former: &Former,
-    named: Named<'a>,
-    nal: Nal,
-    header: SliceHeader,
-    poc: i32,
-    rps: Rps,
-) -> Result<PicturePlan, AllocError>
-    requires few { length former.now.dpb ≤ 128 }
-    requires kept { count_by is_reference rps.marks ≤ 112 }
-    requires lists { HasLists header }
-    ensures value { IfOk result (λ p. Ok p ≡ with_set former.now.dpb (unit_of nal) header (record { pps = named.entry.pps.now; sps = named.entry.sps.now }) poc (Ok rps)) }
-    ensures few { IfOk result KeepsFew }
+/// What a picture has beside its first slice segment's unit and header.
+#[derive(Drop)]
+pub(crate) struct Parts {
+    pub sps: Shared<Sps>,
+    pub pps: Shared<Pps>,
+    pub poc: i32,
+    pub rps: Rps,
+    pub outputs: Outputs,
+}
+
+/// One more owner of each of these sets.
+fn owned<'a>(named: Named<'a>) -> Result<(Shared<Sps>, Shared<Pps>), AllocError>
+    ensures { IfOk result (λ sets. sets ≡ (named.entry.sps.now, named.entry.pps.now)) }
 {
-    let outputs = outputs_at(alloc, former, &header, named.sps, poc, &rps)?;
     let sps = named.sps.clone()?;
     let pps = named.pps.clone()?;
-    let index = nal.index;
-    let kind = header.fields().kind;
-    let segments = only_segment(alloc, &rps, nal, header)?;
-    Ok(PicturePlan {
-        nal: index,
-        kind,
+    Ok((sps, pps))
+}
+
+/// The parts of a picture that has this order count, reference picture set and outputs.
+fn parts_with<'a>(
+    named: Named<'a>,
+    poc: i32,
+    rps: Rps,
+    outputs: Outputs,
+) -> Result<Parts, AllocError>
+    ensures { IfOk result (λ parts. parts ≡ record { sps = named.entry.sps.now; pps = named.entry.pps.now; poc = poc; rps = rps; outputs = outputs }) }
+{
+    let (sps, pps) = owned(named)?;
+    Ok(Parts {
         sps,
         pps,
         poc,
         rps,
         outputs,
-        segments,
     })
 }
 
-/// The picture of a first slice segment, under the parameter sets that it names.
-fn picture_under<'a>(
+/// The parts of a picture under the parameter sets that its first slice segment names.
+fn parts_under<'a>(
     alloc: Global,
     former: &Former,
     named: Named<'a>,
-    nal: Nal,
-    header: SliceHeader,
-) -> Result<PicturePlan, Refusal>
+    header: &SliceHeader,
+) -> Result<Parts, Refusal>
     requires few { length former.now.dpb ≤ 128 }
-    requires in_range { IsInRange header }
-    requires lists { HasLists header }
-    ensures value { Parses (λ x. x) result (with_order former.now (unit_of nal) header (record { pps = named.entry.pps.now; sps = named.entry.sps.now }) (pic_order_cnt_val header.kind header.slice.references.slice_pic_order_cnt_lsb former.now.prev_tid0_pic_order_cnt)) }
-    ensures few { IfOk result KeepsFew }
+    requires in_range { IsInRange header.now }
+    ensures value { (u : NalUnit) → Parses (begun_by u header.now) result (with_order former.now u header.now (record { pps = named.entry.pps.now; sps = named.entry.sps.now }) (pic_order_cnt_val header.now.kind header.now.slice.references.slice_pic_order_cnt_lsb former.now.prev_tid0_pic_order_cnt)) }
+    ensures few { IfOk result (λ parts. length parts.outputs.dpb ≤ 128) }
 {
     let fields = header.fields();
     let references = &fields.slice.references;
@@ -121,11 +123,72 @@ fn picture_under<'a>(
         Err(rule) => return Err(Refusal::Fault(rule)),
     };
     let rps = reference_set(alloc, former, fields.kind, references, poc)?;
-    Ok(picture_with(alloc, former, named, nal, header, poc, rps)?)
+    let outputs = outputs_at(alloc, former, header, named.sps, poc, &rps)?;
+    Ok(parts_with(named, poc, rps, outputs)?)
+}
+
+/// The parts of the picture that a first slice segment of this header opens.
+#[tactic(auto, unfolding(spec_pictures::specs::Steps::picture_of))]
+fn parts_of(
+    alloc: Global,
+    sets: &Sets,
+    former: &Former,
+    header: &SliceHeader,
+) -> Result<Parts, Refusal>
+    requires few { length former.now.dpb ≤ 128 }
+    requires in_range { IsInRange header.now }
+    ensures value { (u : NalUnit) → Parses (begun_by u header.now) result (picture_of sets.now former.now u header.now) }
+    ensures few { IfOk result (λ parts. length parts.outputs.dpb ≤ 128) }
+{
+    let Some(pps) = sets.pps(header.fields().segment.slice_pic_parameter_set_id) else {
+        return Err(Refusal::Fault(FaultKind::MissingSet));
+    };
+    let Some(sps) = sets.sps(pps.fields().pps_seq_parameter_set_id) else {
+        return Err(Refusal::Fault(FaultKind::MissingSet));
+    };
+    parts_under(alloc, former, Named { sps, pps }, header)
+}
+
+impl Parts {
+    /// The picture of these parts and segments.
+    fn into_picture(
+        self,
+        nal: u32,
+        kind: PictureKind,
+        segments: FieldList<SegmentPlan>,
+    ) -> PicturePlan
+        ensures { result ≡ record { nal = nal; kind = kind; sps = self.sps; pps = self.pps; poc = self.poc; rps = self.rps; outputs = self.outputs; segments = segments } }
+    {
+        PicturePlan {
+            nal,
+            kind,
+            sps: self.sps,
+            pps: self.pps,
+            poc: self.poc,
+            rps: self.rps,
+            outputs: self.outputs,
+            segments,
+        }
+    }
+}
+
+/// The picture that has these parts, and this unit and header as its first slice segment.
+fn picture_with(
+    alloc: Global,
+    nal: Nal,
+    header: SliceHeader,
+    parts: Parts,
+) -> Result<PicturePlan, AllocError>
+    requires { HasLists header }
+    ensures { IfOk result (λ p. p ≡ begun_by (unit_of nal) header parts) }
+{
+    let index = nal.index;
+    let kind = header.fields().kind;
+    let segments = only_segment(alloc, &parts.rps, nal, header)?;
+    Ok(parts.into_picture(index, kind, segments))
 }
 
 /// The picture of a first slice segment.
-#[tactic(auto, unfolding(spec_pictures::specs::Steps::picture_of))]
 fn picture_of(
     alloc: Global,
     sets: &Sets,
@@ -139,13 +202,8 @@ fn picture_of(
     ensures value { Parses (λ x. x) result (picture_of sets.now former.now (unit_of nal) header) }
     ensures few { IfOk result KeepsFew }
 {
-    let Some(pps) = sets.pps(header.fields().segment.slice_pic_parameter_set_id) else {
-        return Err(Refusal::Fault(FaultKind::MissingSet));
-    };
-    let Some(sps) = sets.sps(pps.fields().pps_seq_parameter_set_id) else {
-        return Err(Refusal::Fault(FaultKind::MissingSet));
-    };
-    picture_under(alloc, former, Named { sps, pps }, nal, header)
+    let parts = parts_of(alloc, sets, former, &header)?;
+    Ok(picture_with(alloc, nal, header, parts)?)
 }
 
 /// The picture that a slice segment opens while none is open.

@@ -5,6 +5,7 @@ ghost use Rattle.spec_units.specs.Judged.{unit_of};
 ghost use Rattle.spec_parameter_sets.specs.PictureParameterSet.{picture_parameter_set_of};
 ghost use Rattle.spec_parameter_sets.specs.SequenceParameterSet.{sequence_parameter_set_of};
 ghost use Rattle.plan_types.specs.declared.between.Between.{Between};
+ghost use Rattle.spec_pictures.specs.declared.unit_kind.UnitKind.TheVariants as unit;
 ghost use Rattle.spec_pictures.specs.Steps.{behind_read, kind_step, put_pps, put_sps, unit_step};
 ghost use Rattle.nal_stream.specs.Answers.{told_by};
 ghost use Rattle.picture_plan.specs.Bounds.{ChangesFew};
@@ -59,18 +60,30 @@ impl State {
     {
         match kind {
             UnitKind::Slice => self.plan_slice(nal),
-            UnitKind::SequenceSet => {
-                let change = judge_sps(self.alloc, &nal)?;
-                self.close_then(change)
-            }
-            UnitKind::PictureSet => {
-                let change = judge_pps(self.alloc, &nal)?;
-                self.close_then(change)
-            }
+            UnitKind::SequenceSet => self.plan_sps(&nal),
+            UnitKind::PictureSet => self.plan_pps(&nal),
             UnitKind::SequenceEnd => self.close_then(Change::SequenceEnd),
             UnitKind::Border => self.close(),
             UnitKind::Other => Ok(Step::only(None)),
         }
+    }
+
+    /// Plans a sequence parameter set.
+    fn plan_sps(&mut self, nal: &Nal) -> Result<Step, AllocError>
+        ensures value { IfOk result (λ step. left_by step self.new ≡ taken self.old (kind_step self.old.between (unit_of nal.now) unit.SequenceSet)) }
+        ensures err { OnErr result (self.new ≡ self.old) }
+    {
+        let change = judge_sps(self.alloc, nal)?;
+        self.close_then(change)
+    }
+
+    /// Plans a picture parameter set.
+    fn plan_pps(&mut self, nal: &Nal) -> Result<Step, AllocError>
+        ensures value { IfOk result (λ step. left_by step self.new ≡ taken self.old (kind_step self.old.between (unit_of nal.now) unit.PictureSet)) }
+        ensures err { OnErr result (self.new ≡ self.old) }
+    {
+        let change = judge_pps(self.alloc, nal)?;
+        self.close_then(change)
     }
 }
 

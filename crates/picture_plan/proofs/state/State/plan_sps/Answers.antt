@@ -1,0 +1,7 @@
+use Rattle.spec_parameter_sets.specs.SequenceParameterSet.{sequence_parameter_set_of}
+use Rattle.spec_pictures.specs.Steps.{behind_read, put_sps}
+use Rattle.picture_plan.proofs.state.State.plan_sps.Goals as goal
+
+pub returns-clause-value : goal.returns-clause-value
+returns-clause-value c =
+    c.close_then.ensures.value (λ t. behind_read c.args.nal.now.index (sequence_parameter_set_of c.args.nal.now.rbsp) (put_sps t)) (λ t e. c.in_ok-change.ensures.value t)
