@@ -3,6 +3,24 @@
 use crate::trace_error::TraceError;
 use std::io::Write;
 
+/// These fields of a structure, each as its name and its value, a flag's as 0 or 1.
+macro_rules! values {
+    ($of:expr; $($name:ident),+ $(,)?) => {
+        [$((stringify!($name), i64::from($of.$name))),+]
+    };
+}
+
+pub(crate) use values;
+
+/// Fields on a line each.
+pub(crate) fn fields<W: Write>(out: &mut W, fields: &[(&str, i64)]) -> Result<(), TraceError> {
+    for field in fields {
+        let (name, value) = *field;
+        writeln!(out, "{name}={value}")?;
+    }
+    Ok(())
+}
+
 /// A field's value on a line of its own.
 pub(crate) fn number<W: Write>(out: &mut W, name: &str, value: u32) -> Result<(), TraceError> {
     writeln!(out, "{name}={value}")?;

@@ -73,10 +73,25 @@ fn trace_input(rt: &HostRuntime, word: &str) -> Result<ExitCode, TraceError> {
 
 /// Prints what is asked for of the stream on standard input, and answers how it ended.
 fn trace_standard(rt: &HostRuntime, trace: &mut Trace) -> Result<ExitCode, TraceError> {
-    let mut out = BufWriter::new(rt.alloc(), io::writer(rt))?;
-    trace_stream(rt, trace, rt.reader(), &mut out)?;
-    out.flush()?;
+    print_standard(rt, trace)?;
     tell_stop(rt, trace)
+}
+
+/// Prints what is asked for of the stream on standard input.
+fn print_standard(rt: &HostRuntime, trace: &mut Trace) -> Result<(), TraceError> {
+    let mut out = BufWriter::new(rt.alloc(), io::writer(rt))?;
+    print_whole(rt, trace, &mut out)
+}
+
+/// Prints what is asked for of the stream on standard input, and flushes it.
+fn print_whole<W: Write>(
+    rt: &HostRuntime,
+    trace: &mut Trace,
+    out: &mut W,
+) -> Result<(), TraceError> {
+    trace_stream(rt, trace, rt.reader(), out)?;
+    out.flush()?;
+    Ok(())
 }
 
 /// Prints what words ask for of the streams in files, in turn.
@@ -87,15 +102,40 @@ fn trace_files(
     mut args: env::Args,
 ) -> Result<ExitCode, TraceError> {
     let mut out = BufWriter::new(rt.alloc(), io::writer(rt))?;
-    trace_named(rt, word, path, &mut out)?;
+    trace_all(rt, word, path, &mut args, &mut out)
+}
+
+/// Prints what words ask for of the streams in files, the first and those that are still to be named.
+fn trace_all<W: Write>(
+    rt: &HostRuntime,
+    word: &str,
+    path: &str,
+    args: &mut env::Args,
+    out: &mut W,
+) -> Result<ExitCode, TraceError> {
+    trace_named(rt, word, path, out)?;
     for _ in 0..u64::MAX {
-        let (Some(word), Some(path)) = (args.next(), args.next()) else {
+        if !trace_next(rt, args, out)? {
             break;
-        };
-        trace_named(rt, word.as_str(), path.as_str(), &mut out)?;
+        }
     }
     out.flush()?;
     Ok(ExitCode::SUCCESS)
+}
+
+/// Prints what the next word asks for of the stream in the file behind it. Says whether there was one.
+fn trace_next<W: Write>(
+    rt: &HostRuntime,
+    args: &mut env::Args,
+    out: &mut W,
+) -> Result<bool, TraceError> {
+    match (args.next(), args.next()) {
+        (Some(word), Some(path)) => {
+            trace_named(rt, word.as_str(), path.as_str(), out)?;
+            Ok(true)
+        }
+        _ => Ok(false),
+    }
 }
 
 /// What a word on the command line asks for.
@@ -146,14 +186,37 @@ fn trace_stream<R: Read + Drop, W: Write>(
     input: R,
     out: &mut W,
 ) -> Result<(), TraceError> {
-    let mut framer = Framer::new(rt.alloc())?;
     let buffer = vec![in rt.alloc(); 0; 65_536]?;
-    if read_all(trace, input, buffer, &mut framer, out)? {
-        framer.finish();
-        let _ = print_units(trace, &mut framer, out)?;
-        print_end(trace, out)?;
+    let mut framer = Framer::new(rt.alloc())?;
+    frame_stream(trace, input, buffer, &mut framer, out)
+}
+
+/// Prints what is asked for of a stream, whose pieces come by way of a buffer.
+fn frame_stream<R: Read + Drop, W: Write>(
+    trace: &mut Trace,
+    mut input: R,
+    mut buffer: Vec<u8>,
+    framer: &mut Framer,
+    out: &mut W,
+) -> Result<(), TraceError>
+    requires { framer.old.finished ≡ false }
+{
+    match read_all(trace, &mut input, &mut buffer, framer, out) {
+        Ok(true) => print_rest(trace, framer, out),
+        Ok(false) => Ok(()),
+        Err(error) => Err(error),
     }
-    Ok(())
+}
+
+/// Prints what is known of a stream only where its input ends.
+fn print_rest<W: Write>(
+    trace: &mut Trace,
+    framer: &mut Framer,
+    out: &mut W,
+) -> Result<(), TraceError> {
+    framer.finish();
+    let _ = print_units(trace, framer, out)?;
+    print_end(trace, out)
 }
 
 /// The planned pictures, as these lines.
@@ -162,17 +225,17 @@ fn plan(rt: &HostRuntime, lines: PlanLines) -> Result<Trace, TraceError> {
 }
 
 /// Feeds the input and prints its units as they get whole. Says whether none was refused.
-fn read_all<R: Read + Drop, W: Write>(
+fn read_all<R: Read, W: Write>(
     trace: &mut Trace,
-    mut input: R,
-    mut buffer: Vec<u8>,
+    input: &mut R,
+    buffer: &mut [u8],
     framer: &mut Framer,
     out: &mut W,
 ) -> Result<bool, TraceError>
     requires { framer.old.finished ≡ false }
 {
     for _ in 0..u64::MAX {
-        let count = input.read(&mut buffer)?;
+        let count = input.read(buffer)?;
         if count == 0 {
             break;
         }
@@ -231,10 +294,7 @@ fn print_answer<W: Write>(
 ) -> Result<bool, TraceError> {
     match next {
         Next::Unit(nal) => {
-            print_unit(&nal, out)?;
-            if let Some(alloc) = sets {
-                print_set(alloc, &nal, out)?;
-            }
+            print_nal(sets, &nal, out)?;
             Ok(true)
         }
         Next::Fault(fault) => {
@@ -246,6 +306,15 @@ fn print_answer<W: Write>(
             Ok(false)
         }
         Next::More | Next::End => Ok(true),
+    }
+}
+
+/// A unit's line, and the fields of a parameter set where memory to read them is given.
+fn print_nal<W: Write>(sets: Option<Global>, nal: &Nal, out: &mut W) -> Result<(), TraceError> {
+    print_unit(nal, out)?;
+    match sets {
+        Some(alloc) => print_set(alloc, nal, out),
+        None => Ok(()),
     }
 }
 

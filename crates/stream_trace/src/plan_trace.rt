@@ -6,7 +6,7 @@ use crate::trace_error::TraceError;
 use crate::tree_trace::TreeTrace;
 use hv_base::Stop;
 use nal_stream::Next;
-use picture_plan::{Flight, Planned, Planner};
+use picture_plan::{Flight, Flights, Planned, Planner};
 use plan_types::PicturePlan;
 use std::alloc::Global;
 use std::io::Write;
@@ -77,15 +77,39 @@ impl PlanTrace {
             stop,
         } = planned;
         self.stop = stop;
+        self.print_all(&mut flights, last.as_slice(), out)
+    }
+
+    /// Prints the pictures of flights, and those that go out at the end.
+    fn print_all<W: Write>(
+        &mut self,
+        flights: &mut Flights,
+        last: &[u32],
+        out: &mut W,
+    ) -> Result<(), TraceError> {
         for _ in 0..u64::MAX {
-            match flights.next() {
-                Some(flight) => self.print_flight(&flight, out)?,
-                None => break,
+            if !self.print_next_flight(flights, out)? {
+                break;
             }
         }
         match &mut self.lines {
             PlanLines::Pictures | PlanLines::Slices | PlanLines::Trees(_) => Ok(()),
-            PlanLines::Outputs(outputs) => outputs.print_places(last.as_slice(), out),
+            PlanLines::Outputs(outputs) => outputs.print_places(last, out),
+        }
+    }
+
+    /// Prints the pictures of the next flight. Says whether there was one.
+    fn print_next_flight<W: Write>(
+        &mut self,
+        flights: &mut Flights,
+        out: &mut W,
+    ) -> Result<bool, TraceError> {
+        match flights.next() {
+            Some(flight) => {
+                self.print_flight(&flight, out)?;
+                Ok(true)
+            }
+            None => Ok(false),
         }
     }
 

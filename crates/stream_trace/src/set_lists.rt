@@ -1,11 +1,25 @@
 //! The lists of parameter sets as lines: scaling lists and short-term reference picture sets, as they are derived.
 
+use crate::lines::flag;
 use crate::trace_error::TraceError;
 use header_types::{ScalingList, ScalingLists, ShortTermRef, StRps};
 use std::io::Write;
 
+/// The flag of this name, which says whether lists are coded, and the lists.
+pub(crate) fn coded_scaling_lists<W: Write>(
+    out: &mut W,
+    name: &str,
+    lists: &Option<ScalingLists>,
+) -> Result<(), TraceError> {
+    flag(out, name, lists.is_some())?;
+    match lists {
+        Some(lists) => scaling_lists(out, lists),
+        None => Ok(()),
+    }
+}
+
 /// The factors of each list and its DC factor, by sizeId and matrixId (7.3.4).
-pub(crate) fn scaling_lists<W: Write>(out: &mut W, lists: &ScalingLists) -> Result<(), TraceError> {
+fn scaling_lists<W: Write>(out: &mut W, lists: &ScalingLists) -> Result<(), TraceError> {
     for (i, list) in lists.lists.as_slice().iter().enumerate() {
         let (size, matrix) = (i / 6, i % 6);
         write!(out, "scaling_list[{size}][{matrix}]=")?;

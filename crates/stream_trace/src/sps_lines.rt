@@ -1,106 +1,76 @@
 //! The fields of a sequence parameter set as lines (7.3.2.2).
 
-use crate::lines::{flag, item, number};
-use crate::set_lists::{scaling_lists, short_term_sets};
+use crate::lines::{fields, flag, item, number, values};
+use crate::set_lists::{coded_scaling_lists, short_term_sets};
 use crate::trace_error::TraceError;
 use header_types::{
-    BlockSizes, ConformanceWindow, LongTermCandidate, PcmFormat, PictureFormat, Profile,
-    ProfileTierLevel, SpsFields, SubLayerOrdering, SubLayerProfile,
+    BlockSizes, ConformanceWindow, FieldList, LongTermCandidate, PcmFormat, PictureFormat, Profile,
+    ProfileTierLevel, SpsFields, StRps, SubLayerOrdering, SubLayerProfile,
 };
 use std::io::Write;
 
 /// The fields in the order of the grammar.
 pub(crate) fn sps_lines<W: Write>(out: &mut W, sps: &SpsFields) -> Result<(), TraceError> {
-    number(
-        out,
-        "sps_video_parameter_set_id",
-        sps.sps_video_parameter_set_id,
-    )?;
-    number(
-        out,
-        "sps_max_sub_layers_minus1",
-        sps.sps_max_sub_layers_minus1,
-    )?;
-    flag(
-        out,
-        "sps_temporal_id_nesting_flag",
-        sps.sps_temporal_id_nesting_flag,
-    )?;
-    profile_tier_level(out, &sps.profile_tier_level)?;
-    number(
-        out,
-        "sps_seq_parameter_set_id",
-        sps.sps_seq_parameter_set_id,
-    )?;
+    set_start(out, sps)?;
     format(out, &sps.format)?;
-    number(
-        out,
-        "log2_max_pic_order_cnt_lsb_minus4",
-        sps.log2_max_pic_order_cnt_lsb_minus4,
-    )?;
-    flag(
-        out,
-        "sps_sub_layer_ordering_info_present_flag",
-        sps.sps_sub_layer_ordering_info_present_flag,
-    )?;
-    orderings(out, sps.sub_layer_ordering.as_slice())?;
+    sub_layer_orderings(out, sps)?;
     blocks(out, &sps.blocks)?;
     tools(out, sps)?;
     references(out, sps)
 }
 
+fn set_start<W: Write>(out: &mut W, sps: &SpsFields) -> Result<(), TraceError> {
+    fields(
+        out,
+        &values![
+            sps;
+            sps_video_parameter_set_id,
+            sps_max_sub_layers_minus1,
+            sps_temporal_id_nesting_flag,
+        ],
+    )?;
+    profile_tier_level(out, &sps.profile_tier_level)?;
+    fields(out, &values![sps; sps_seq_parameter_set_id])
+}
+
 fn profile_tier_level<W: Write>(out: &mut W, levels: &ProfileTierLevel) -> Result<(), TraceError> {
     writeln!(out, "general:")?;
-    profile(out, &levels.general)?;
+    profile(out, levels.general)?;
     number(out, "level_idc", u32::from(levels.general_level_idc))?;
     number(out, "reserved_zero_2bits", levels.reserved_zero_2bits)?;
     for sub_layer in levels.sub_layers.as_slice() {
-        sub_layer_profile(out, sub_layer)?;
+        sub_layer_profile(out, *sub_layer)?;
     }
     Ok(())
 }
 
-fn sub_layer_profile<W: Write>(out: &mut W, sub_layer: &SubLayerProfile) -> Result<(), TraceError> {
+fn sub_layer_profile<W: Write>(out: &mut W, sub_layer: SubLayerProfile) -> Result<(), TraceError> {
     writeln!(out, "sub_layer:")?;
     flag(out, "profile_present_flag", sub_layer.profile.is_some())?;
     flag(out, "level_present_flag", sub_layer.level_idc.is_some())?;
-    if let Some(fields) = &sub_layer.profile {
+    if let Some(fields) = sub_layer.profile {
         profile(out, fields)?;
     }
-    if let Some(level_idc) = sub_layer.level_idc {
-        number(out, "level_idc", u32::from(level_idc))?;
+    match sub_layer.level_idc {
+        Some(level_idc) => number(out, "level_idc", u32::from(level_idc)),
+        None => Ok(()),
     }
-    Ok(())
 }
 
-fn profile<W: Write>(out: &mut W, profile: &Profile) -> Result<(), TraceError> {
-    number(out, "profile_space", u32::from(profile.profile_space))?;
-    flag(out, "tier_flag", profile.tier_flag)?;
-    number(out, "profile_idc", u32::from(profile.profile_idc))?;
-    number(
+fn profile<W: Write>(out: &mut W, profile: Profile) -> Result<(), TraceError> {
+    fields(
         out,
-        "profile_compatibility_flags",
-        profile.profile_compatibility_flags,
-    )?;
-    flag(
-        out,
-        "progressive_source_flag",
-        profile.progressive_source_flag,
-    )?;
-    flag(
-        out,
-        "interlaced_source_flag",
-        profile.interlaced_source_flag,
-    )?;
-    flag(
-        out,
-        "non_packed_constraint_flag",
-        profile.non_packed_constraint_flag,
-    )?;
-    flag(
-        out,
-        "frame_only_constraint_flag",
-        profile.frame_only_constraint_flag,
+        &values![
+            profile;
+            profile_space,
+            tier_flag,
+            profile_idc,
+            profile_compatibility_flags,
+            progressive_source_flag,
+            interlaced_source_flag,
+            non_packed_constraint_flag,
+            frame_only_constraint_flag,
+        ],
     )?;
     let reserved = profile.reserved_zero_44bits;
     writeln!(out, "reserved_zero_44bits={reserved}")?;
@@ -108,182 +78,168 @@ fn profile<W: Write>(out: &mut W, profile: &Profile) -> Result<(), TraceError> {
 }
 
 fn format<W: Write>(out: &mut W, format: &PictureFormat) -> Result<(), TraceError> {
-    number(out, "chroma_format_idc", format.chroma_format_idc)?;
-    number(
+    fields(
         out,
-        "pic_width_in_luma_samples",
-        format.pic_width_in_luma_samples,
+        &values![
+            format;
+            chroma_format_idc,
+            pic_width_in_luma_samples,
+            pic_height_in_luma_samples,
+        ],
     )?;
-    number(
+    conformance_window(out, format.conformance_window)?;
+    fields(
         out,
-        "pic_height_in_luma_samples",
-        format.pic_height_in_luma_samples,
-    )?;
-    flag(
-        out,
-        "conformance_window_flag",
-        format.conformance_window.is_some(),
-    )?;
-    if let Some(window) = &format.conformance_window {
-        conformance_window(out, window)?;
-    }
-    number(out, "bit_depth_luma_minus8", format.bit_depth_luma_minus8)?;
-    number(
-        out,
-        "bit_depth_chroma_minus8",
-        format.bit_depth_chroma_minus8,
+        &values![format; bit_depth_luma_minus8, bit_depth_chroma_minus8],
     )
 }
 
-fn conformance_window<W: Write>(out: &mut W, window: &ConformanceWindow) -> Result<(), TraceError> {
-    number(out, "conf_win_left_offset", window.conf_win_left_offset)?;
-    number(out, "conf_win_right_offset", window.conf_win_right_offset)?;
-    number(out, "conf_win_top_offset", window.conf_win_top_offset)?;
-    number(out, "conf_win_bottom_offset", window.conf_win_bottom_offset)
-}
-
-fn orderings<W: Write>(out: &mut W, orderings: &[SubLayerOrdering]) -> Result<(), TraceError> {
-    for (i, ordering) in orderings.iter().enumerate() {
-        item(
-            out,
-            "sps_max_dec_pic_buffering_minus1",
-            i,
-            ordering.max_dec_pic_buffering_minus1,
-        )?;
-        item(
-            out,
-            "sps_max_num_reorder_pics",
-            i,
-            ordering.max_num_reorder_pics,
-        )?;
-        item(
-            out,
-            "sps_max_latency_increase_plus1",
-            i,
-            ordering.max_latency_increase_plus1,
-        )?;
-    }
-    Ok(())
-}
-
-fn blocks<W: Write>(out: &mut W, blocks: &BlockSizes) -> Result<(), TraceError> {
-    number(
-        out,
-        "log2_min_luma_coding_block_size_minus3",
-        blocks.log2_min_luma_coding_block_size_minus3,
-    )?;
-    number(
-        out,
-        "log2_diff_max_min_luma_coding_block_size",
-        blocks.log2_diff_max_min_luma_coding_block_size,
-    )?;
-    number(
-        out,
-        "log2_min_luma_transform_block_size_minus2",
-        blocks.log2_min_luma_transform_block_size_minus2,
-    )?;
-    number(
-        out,
-        "log2_diff_max_min_luma_transform_block_size",
-        blocks.log2_diff_max_min_luma_transform_block_size,
-    )?;
-    number(
-        out,
-        "max_transform_hierarchy_depth_inter",
-        blocks.max_transform_hierarchy_depth_inter,
-    )?;
-    number(
-        out,
-        "max_transform_hierarchy_depth_intra",
-        blocks.max_transform_hierarchy_depth_intra,
-    )
-}
-
-fn tools<W: Write>(out: &mut W, sps: &SpsFields) -> Result<(), TraceError> {
-    flag(
-        out,
-        "scaling_list_enabled_flag",
-        sps.scaling_list_enabled_flag,
-    )?;
-    if sps.scaling_list_enabled_flag {
-        flag(
-            out,
-            "sps_scaling_list_data_present_flag",
-            sps.scaling_lists.is_some(),
-        )?;
-    }
-    if let Some(lists) = &sps.scaling_lists {
-        scaling_lists(out, lists)?;
-    }
-    flag(out, "amp_enabled_flag", sps.amp_enabled_flag)?;
-    flag(
-        out,
-        "sample_adaptive_offset_enabled_flag",
-        sps.sample_adaptive_offset_enabled_flag,
-    )?;
-    flag(out, "pcm_enabled_flag", sps.pcm.is_some())?;
-    match &sps.pcm {
-        Some(pcm) => pcm_format(out, pcm),
+fn conformance_window<W: Write>(
+    out: &mut W,
+    window: Option<ConformanceWindow>,
+) -> Result<(), TraceError> {
+    flag(out, "conformance_window_flag", window.is_some())?;
+    match window {
+        Some(window) => window_offsets(out, window),
         None => Ok(()),
     }
 }
 
-fn pcm_format<W: Write>(out: &mut W, pcm: &PcmFormat) -> Result<(), TraceError> {
-    number(
+fn window_offsets<W: Write>(out: &mut W, window: ConformanceWindow) -> Result<(), TraceError> {
+    fields(
         out,
-        "pcm_sample_bit_depth_luma_minus1",
-        pcm.pcm_sample_bit_depth_luma_minus1,
+        &values![
+            window;
+            conf_win_left_offset,
+            conf_win_right_offset,
+            conf_win_top_offset,
+            conf_win_bottom_offset,
+        ],
+    )
+}
+
+fn sub_layer_orderings<W: Write>(out: &mut W, sps: &SpsFields) -> Result<(), TraceError> {
+    fields(
+        out,
+        &values![
+            sps;
+            log2_max_pic_order_cnt_lsb_minus4,
+            sps_sub_layer_ordering_info_present_flag,
+        ],
     )?;
-    number(
+    for (i, ordering) in sps.sub_layer_ordering.as_slice().iter().enumerate() {
+        sub_layer_ordering(out, i, *ordering)?;
+    }
+    Ok(())
+}
+
+fn sub_layer_ordering<W: Write>(
+    out: &mut W,
+    index: usize,
+    ordering: SubLayerOrdering,
+) -> Result<(), TraceError> {
+    item(
         out,
-        "pcm_sample_bit_depth_chroma_minus1",
-        pcm.pcm_sample_bit_depth_chroma_minus1,
+        "sps_max_dec_pic_buffering_minus1",
+        index,
+        ordering.max_dec_pic_buffering_minus1,
     )?;
-    number(
+    item(
         out,
-        "log2_min_pcm_luma_coding_block_size_minus3",
-        pcm.log2_min_pcm_luma_coding_block_size_minus3,
+        "sps_max_num_reorder_pics",
+        index,
+        ordering.max_num_reorder_pics,
     )?;
-    number(
+    item(
         out,
-        "log2_diff_max_min_pcm_luma_coding_block_size",
-        pcm.log2_diff_max_min_pcm_luma_coding_block_size,
+        "sps_max_latency_increase_plus1",
+        index,
+        ordering.max_latency_increase_plus1,
+    )
+}
+
+fn blocks<W: Write>(out: &mut W, blocks: &BlockSizes) -> Result<(), TraceError> {
+    fields(
+        out,
+        &values![
+            blocks;
+            log2_min_luma_coding_block_size_minus3,
+            log2_diff_max_min_luma_coding_block_size,
+            log2_min_luma_transform_block_size_minus2,
+            log2_diff_max_min_luma_transform_block_size,
+            max_transform_hierarchy_depth_inter,
+            max_transform_hierarchy_depth_intra,
+        ],
+    )
+}
+
+fn tools<W: Write>(out: &mut W, sps: &SpsFields) -> Result<(), TraceError> {
+    fields(out, &values![sps; scaling_list_enabled_flag])?;
+    if sps.scaling_list_enabled_flag {
+        coded_scaling_lists(
+            out,
+            "sps_scaling_list_data_present_flag",
+            &sps.scaling_lists,
+        )?;
+    }
+    fields(
+        out,
+        &values![sps; amp_enabled_flag, sample_adaptive_offset_enabled_flag],
     )?;
-    flag(
+    pcm(out, sps.pcm)
+}
+
+fn pcm<W: Write>(out: &mut W, format: Option<PcmFormat>) -> Result<(), TraceError> {
+    flag(out, "pcm_enabled_flag", format.is_some())?;
+    match format {
+        Some(format) => pcm_format(out, format),
+        None => Ok(()),
+    }
+}
+
+fn pcm_format<W: Write>(out: &mut W, pcm: PcmFormat) -> Result<(), TraceError> {
+    fields(
         out,
-        "pcm_loop_filter_disabled_flag",
-        pcm.pcm_loop_filter_disabled_flag,
+        &values![
+            pcm;
+            pcm_sample_bit_depth_luma_minus1,
+            pcm_sample_bit_depth_chroma_minus1,
+            log2_min_pcm_luma_coding_block_size_minus3,
+            log2_diff_max_min_pcm_luma_coding_block_size,
+            pcm_loop_filter_disabled_flag,
+        ],
     )
 }
 
 fn references<W: Write>(out: &mut W, sps: &SpsFields) -> Result<(), TraceError> {
-    let sets = sps.short_term_ref_pic_sets.as_slice();
+    short_term(out, sps.short_term_ref_pic_sets.as_slice())?;
+    long_term(out, &sps.long_term_ref_pics)?;
+    fields(
+        out,
+        &values![
+            sps;
+            sps_temporal_mvp_enabled_flag,
+            strong_intra_smoothing_enabled_flag,
+            vui_parameters_present_flag,
+        ],
+    )
+}
+
+fn short_term<W: Write>(out: &mut W, sets: &[StRps]) -> Result<(), TraceError> {
     let count = sets.len();
     writeln!(out, "num_short_term_ref_pic_sets={count}")?;
-    short_term_sets(out, sets)?;
-    flag(
-        out,
-        "long_term_ref_pics_present_flag",
-        sps.long_term_ref_pics.is_some(),
-    )?;
-    if let Some(candidates) = &sps.long_term_ref_pics {
-        long_term_candidates(out, candidates.as_slice())?;
+    short_term_sets(out, sets)
+}
+
+fn long_term<W: Write>(
+    out: &mut W,
+    candidates: &Option<FieldList<LongTermCandidate>>,
+) -> Result<(), TraceError> {
+    flag(out, "long_term_ref_pics_present_flag", candidates.is_some())?;
+    match candidates {
+        Some(candidates) => long_term_candidates(out, candidates.as_slice()),
+        None => Ok(()),
     }
-    flag(
-        out,
-        "sps_temporal_mvp_enabled_flag",
-        sps.sps_temporal_mvp_enabled_flag,
-    )?;
-    flag(
-        out,
-        "strong_intra_smoothing_enabled_flag",
-        sps.strong_intra_smoothing_enabled_flag,
-    )?;
-    flag(
-        out,
-        "vui_parameters_present_flag",
-        sps.vui_parameters_present_flag,
-    )
 }
 
 fn long_term_candidates<W: Write>(
@@ -293,18 +249,14 @@ fn long_term_candidates<W: Write>(
     let count = candidates.len();
     writeln!(out, "num_long_term_ref_pics_sps={count}")?;
     for (i, candidate) in candidates.iter().enumerate() {
+        let is_used = u32::from(candidate.used_by_curr_pic_lt_sps_flag);
         item(
             out,
             "lt_ref_pic_poc_lsb_sps",
             i,
             candidate.lt_ref_pic_poc_lsb_sps,
         )?;
-        item(
-            out,
-            "used_by_curr_pic_lt_sps_flag",
-            i,
-            u32::from(candidate.used_by_curr_pic_lt_sps_flag),
-        )?;
+        item(out, "used_by_curr_pic_lt_sps_flag", i, is_used)?;
     }
     Ok(())
 }
