@@ -1,0 +1,7 @@
+//! The scaling factors of intra transform blocks (H.265 7.4.5).
+#![tactic(auto)]
+
+mod block;
+mod table;
+
+pub use table::{flat_factors, listed_factors};
