@@ -1,0 +1,10 @@
+pub mod Powers
+pub mod Places
+pub mod Tests
+pub mod Units
+pub mod Sizes
+pub mod Planes
+pub mod Known
+pub mod Laid
+pub mod Rows
+pub mod Built

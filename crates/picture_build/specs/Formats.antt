@@ -1,0 +1,24 @@
+-- What the samples of the coding tree units of a picture's slices depend on (7.4.7.1).
+use Rattle.std.specs.Prelude.{◌≡◌, ◌+ℤ◌}
+use Rattle.header_types.specs.declared.pps.PpsFields.{PpsFields}
+use Rattle.header_types.specs.declared.slice.SliceFields.{SliceFields}
+use Rattle.header_types.specs.declared.sps.SpsFields.{SpsFields}
+use Rattle.spec_picture_samples.specs.Format.{unit_format}
+use Rattle.spec_reconstruction.specs.declared.format.UnitFormat.{UnitFormat}
+
+-- with the offsets of a slice
+abbrev pub of_slice : PpsFields → SliceFields → UnitFormat → UnitFormat
+of_slice pps slice format = record {
+  luma_depth = format.luma_depth;
+  chroma_depth = format.chroma_depth;
+  pcm_luma_bits = format.pcm_luma_bits;
+  pcm_chroma_bits = format.pcm_chroma_bits;
+  cb_qp_offset = pps.pps_cb_qp_offset +ℤ slice.slice_cb_qp_offset;
+  cr_qp_offset = pps.pps_cr_qp_offset +ℤ slice.slice_cr_qp_offset;
+  strong_intra_smoothing = format.strong_intra_smoothing;
+  factors = format.factors;
+}
+
+-- the format of each slice of a picture but for its offsets
+abbrev pub IsCommon : SpsFields → PpsFields → UnitFormat → Type 0
+IsCommon sps pps format = (slice : SliceFields) → of_slice pps slice format ≡ unit_format sps pps slice
