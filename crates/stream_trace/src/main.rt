@@ -6,7 +6,8 @@
 //! With the word `pictures` it prints a line for each planned picture instead, in decoding order: its number, its picture
 //! order count, its `nal_unit_type`, its width and its height inside the conformance window; with the word `slices` the
 //! fields of the picture's slice segment headers follow, and with the word `outputs` the pictures come in output order.
-//! With the word `trees` the coding trees of pictures of I slices come, a line each for what was read.
+//! With the word `trees` the coding trees of pictures of I slices come, a line each for what was read; with the word `rows`
+//! their samples before loop filters, a line each with the MD5 of a row of coding tree blocks.
 //! What stops the stream is told on the error stream then, and by the exit status: 2 where it breaks a rule, 3 where it
 //! meets a limit.
 //!
@@ -22,6 +23,7 @@ mod output_trace;
 mod plan_trace;
 mod pps_lines;
 mod reference_lines;
+mod row_trace;
 mod set_lists;
 mod set_trace;
 mod slice_lines;
@@ -33,6 +35,7 @@ mod weight_lines;
 
 use crate::output_trace::OutputTrace;
 use crate::plan_trace::{PlanLines, PlanTrace};
+use crate::row_trace::RowTrace;
 use crate::set_trace::print_set;
 use crate::trace_error::TraceError;
 use crate::tree_trace::TreeTrace;
@@ -147,6 +150,7 @@ fn asked_for(rt: &HostRuntime, word: &str) -> Result<Trace, TraceError> {
         "slices" => plan(rt, PlanLines::Slices),
         "outputs" => plan(rt, PlanLines::Outputs(OutputTrace::new(rt.alloc()))),
         "trees" => plan(rt, PlanLines::Trees(TreeTrace::new(rt.alloc()))),
+        "rows" => plan(rt, PlanLines::Rows(RowTrace::new(rt.alloc()))),
         _ => Err(TraceError::Usage),
     }
 }

@@ -44,7 +44,7 @@ impl TreeTrace {
 }
 
 /// Whether the slices of a picture are all I.
-fn is_intra(picture: &PicturePlan) -> bool {
+pub(crate) fn is_intra(picture: &PicturePlan) -> bool {
     picture.segments.as_slice().iter().all(is_i)
 }
 
@@ -53,7 +53,7 @@ fn is_i(segment: &SegmentPlan) -> bool {
 }
 
 /// A picture's line: its number in decoding order, the number of its first unit, its size, and the types of its slices.
-fn picture_start<W: Write>(
+pub(crate) fn picture_start<W: Write>(
     out: &mut W,
     number: u64,
     picture: &PicturePlan,
@@ -99,7 +99,7 @@ fn print_units<W: Write>(
 }
 
 /// What the data of a unit break, with its place.
-fn stop_at(breach: Breach, nal: u32, ctu: u32) -> Stop {
+pub(crate) fn stop_at(breach: Breach, nal: u32, ctu: u32) -> Stop {
     match breach {
         Breach::Fault(kind) => Stop::Fault(Fault {
             kind,
