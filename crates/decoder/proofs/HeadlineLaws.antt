@@ -11,7 +11,7 @@ use Rattle.hv_io.proofs.StreamLemmas.{GainsPrefix-front}
 use Rattle.spec_decoder.specs.Decoder.{Decoded, Continues, IsDecided, decoded, bytes_of}
 use Rattle.spec_decoder.proofs.Continuing.{of_continues}
 use Rattle.spec_decoder.proofs.Deciding.{of_decided}
-use Rattle.decoder.specs.Headline.{Change, Failed, IsQuiet, GainsAll, GainsWhole, GainsCut, IsResult, IsDecoded, IsWhole, IsOpen, Headline, IsComplete}
+use Rattle.decoder.specs.Headline.{Change, Failed, IsQuiet, GainsAll, GainsWhole, GainsCut, IsResult, IsDecoded, IsWhole, Headline, IsComplete}
 use Rattle.decoder.specs.Writing.{IsAnswered}
 
 if_some : (o : Option (List ℕ)) (P Q : List ℕ → Type 0) → IfSome o P → ((b : List ℕ) → P b → Q b) → IfSome o Q

@@ -1,4 +1,5 @@
-pub mod FixedLength
+pub mod Buffers
+pub mod Building
 pub mod HeadlineLaws
 pub mod Plannings
 pub mod Takings

@@ -5,20 +5,20 @@ use Rattle.hv_base.specs.declared.refusal.Stop.TheVariants as stop
 use Rattle.hv_base.specs.declared.fault.Fault.{Fault}
 use Rattle.hv_base.specs.declared.limit.Limit.{Limit}
 use Rattle.plan_types.specs.declared.picture_plan.PicturePlan.{PicturePlan}
-use Rattle.spec_units.specs.Judged.{Told, Whole, Broken, Met, told_of}
+use Rattle.spec_units.specs.Judged.{Told, Broken, Met, told_of}
 use Rattle.plan_types.specs.declared.between.Between.{Between}
 use Rattle.spec_pictures.specs.Pictures.{beginning}
 use Rattle.spec_pictures.specs.Steps.{Stepped, step, close, closing, then_next}
 use Rattle.spec_pictures.specs.Planned as plan
 use Rattle.spec_pictures.specs.Planned.{Planned, behind_closed, planned_next, planned_from, planned_of, planned_end}
 use Rattle.picture_plan.specs.Flights.{Gathered, waiting, cut, with_pictures, cut_at_stop, pictures_of}
-use Rattle.picture_plan.specs.Plans.{Plans, Given, given_of, going_on, after_step, behind_unit, all_cut, at_end, halted, stop_of}
+use Rattle.picture_plan.specs.Plans.{Plans, Given, going_on, after_step, behind_unit, all_cut, at_end, halted, last_behind, stop_of}
 use Rattle.picture_plan.proofs.Pictures.{step-all, cut-all, cut-none}
-use Rattle.spec_decoder.specs.Decoder.{Decoded, decoded, decoded_plan, decoded_from}
-use Rattle.decoder.specs.Owed.{planned_behind, owed_behind}
+use Rattle.spec_decoder.specs.Decoder.{DecodedPicture, decoded, decoded_from, finished}
+use Rattle.decoder.specs.Owed.{planned_behind, decoded_behind, owed_behind}
 
 -- before the first unit all is owed
-pub owed-first : (ended : Bool) (bytes : List ℕ) (ahead : ℕ) → decoded ended bytes ≡ owed_behind ended (record { ahead = ahead; pending = []; next = Ok beginning }) (told_of ended bytes)
+pub owed-first : (ended : Bool) (bytes : List ℕ) (ahead : ℕ) → decoded ended bytes ≡ owed_behind ended (record { ahead = ahead; pending = []; next = Ok beginning }) [] (told_of ended bytes)
 unfolding decoded planned_of owed_behind planned_behind
 owed-first ended bytes ahead = refl
 
@@ -51,15 +51,24 @@ unfolding planned_behind behind_unit
 planned-unit ended p t later = unit-next ended p p.next t later
 
 -- a unit's flights come first, and then what is owed behind them
-pub owed-unit : (ended : Bool) (p : Plans) (t : Told) (later : List Told)
-    → (d : Planned) × (owed_behind ended p (t ∷ later) ≡ decoded_from d.stop (pictures_of (behind_unit p (t ∷ [])).flights ++ d.pictures))
-    × (owed_behind ended (behind_unit p (t ∷ [])).left later ≡ decoded_from d.stop d.pictures)
+pub owed-unit : (ended : Bool) (p : Plans) (old : List DecodedPicture) (t : Told) (later : List Told)
+    → (d : Planned) × (owed_behind ended p old (t ∷ later) ≡ decoded_from (finished d.last d.stop) (pictures_of (behind_unit p (t ∷ [])).flights ++ d.pictures) old)
+    × ((new : List DecodedPicture) → owed_behind ended (behind_unit p (t ∷ [])).left new later ≡ decoded_from (finished d.last d.stop) d.pictures new)
 unfolding owed_behind
-owed-unit ended p t later = (
+owed-unit ended p old t later = (
   planned_behind ended (behind_unit p (t ∷ [])).left later,
-  ap decoded_plan (planned-unit ended p t later),
-  refl,
+  ap (decoded_behind old) (planned-unit ended p t later),
+  λ new. refl,
 )
+
+-- nothing goes out at the input's end behind a unit
+next-last : (p : Plans) (next : Result Between Stop) (t : Told) → (going_on p next (λ s. after_step p (step s t))).last ≡ []
+next-last p (Ok s) t = refl
+next-last p (Err e) t = refl
+
+pub unit-last : (p : Plans) (t : Told) → (behind_unit p (t ∷ [])).last ≡ []
+unfolding behind_unit
+unit-last p t = next-last p p.next t
 
 -- nothing waits behind a stop
 stopped-pending : (p : Plans) (u : Stepped) (e : Stop) → u.next ≡ Err e → (after_step p u).left.pending ≡ []
@@ -84,15 +93,15 @@ stopped-owed ended p later e none is =
     ∙ ap (λ (next : Result Between Stop). behind_closed [] (planned_next next (λ s. planned_from ended s later))) is
 
 -- where a unit stops the stream, its flights are the last
-pub owed-stopped : (ended : Bool) (p : Plans) (t : Told) (later : List Told) (e : Stop) → stop_of p.next ≡ None → stop_of (behind_unit p (t ∷ [])).left.next ≡ Some e
-    → owed_behind ended p (t ∷ later) ≡ decoded_from (Some e) (pictures_of (behind_unit p (t ∷ [])).flights)
+pub owed-stopped : (ended : Bool) (p : Plans) (buffer : List DecodedPicture) (t : Told) (later : List Told) (e : Stop) → stop_of p.next ≡ None → stop_of (behind_unit p (t ∷ [])).left.next ≡ Some e
+    → owed_behind ended p buffer (t ∷ later) ≡ decoded_from (finished [] (Some e)) (pictures_of (behind_unit p (t ∷ [])).flights) buffer
 unfolding owed_behind behind_unit
-owed-stopped ended p t later e going is =
+owed-stopped ended p buffer t later e going is =
     let g : Given = behind_unit p (t ∷ []) in
     let next : g.left.next ≡ Err e = stop-is g.left.next e is in
-    ap decoded_plan (planned-unit ended p t later)
-    ∙ ap (λ (d : Planned). decoded_plan (behind_closed (pictures_of g.flights) d)) (stopped-owed ended g.left later e (unit-stopped p p.next t e going next) next)
-    ∙ ap (decoded_from (Some e)) (append-nil (pictures_of g.flights))
+    ap (decoded_behind buffer) (planned-unit ended p t later)
+    ∙ ap (λ (d : Planned). decoded_behind buffer (behind_closed (pictures_of g.flights) d)) (stopped-owed ended g.left later e (unit-stopped p p.next t e going next) next)
+    ∙ ap (λ (ps : List PicturePlan). decoded_from (finished [] (Some e)) ps buffer) (append-nil (pictures_of g.flights))
 
 same_stop : (next : Result Between Stop) → plan.stop_of next ≡ stop_of next
 same_stop (Ok s) = refl
@@ -102,44 +111,55 @@ same_stop (Err e) = refl
 cut-flights : (g : Gathered) → pictures_of (cut g).flights ≡ pictures_of g.flights ++ g.pending
 cut-flights g = sym (append-nil (pictures_of (cut g).flights)) ∙ ap (λ (ps : List PicturePlan). pictures_of (cut g).flights ++ ps) (sym (cut-none g)) ∙ cut-all g
 
-last-of : (x : Planned) (ps : List PicturePlan) (next : Result Between Stop) → x.pictures ≡ ps → x.stop ≡ stop_of next → decoded_plan x ≡ decoded_from (stop_of next) ps
-last-of x ps next a b = ap (λ (end : Option Stop). decoded_from end x.pictures) b ∙ ap (decoded_from (stop_of next)) a
+last-of : (x : Planned) (buffer : List DecodedPicture) (ps : List PicturePlan) (last : List ℕ) (next : Result Between Stop) → x.pictures ≡ ps → x.last ≡ last → x.stop ≡ stop_of next
+    → decoded_behind buffer x ≡ decoded_from (finished last (stop_of next)) ps buffer
+last-of x buffer ps last next a b c =
+    ap (λ (end : Option Stop). decoded_from (finished x.last end) x.pictures buffer) c
+    ∙ ap (λ (places : List ℕ). decoded_from (finished places (stop_of next)) x.pictures buffer) b
+    ∙ ap (λ (qs : List PicturePlan). decoded_from (finished last (stop_of next)) qs buffer) a
 
-end-next : (p : Plans) (next : Result Between Stop)
-    → decoded_plan (behind_closed p.pending (planned_next next (λ s. planned_end true s)))
-    ≡ decoded_from (stop_of (all_cut (going_on p next (λ s. after_step p (close s)))).left.next) (pictures_of (all_cut (going_on p next (λ s. after_step p (close s)))).flights)
-end-next p (Ok s) =
+end-next : (p : Plans) (buffer : List DecodedPicture) (next : Result Between Stop)
+    → decoded_behind buffer (behind_closed p.pending (planned_next next (λ s. planned_end true s)))
+    ≡ decoded_from (finished (last_behind next) (stop_of (all_cut (going_on p next (λ s. after_step p (close s)))).left.next))
+    (pictures_of (all_cut (going_on p next (λ s. after_step p (close s)))).flights) buffer
+end-next p buffer (Ok s) =
     let u : Stepped = close s in
     let g : Given = after_step p u in
-    last-of (behind_closed p.pending (planned_end true s)) (pictures_of (all_cut g).flights) u.next
+    last-of (behind_closed p.pending (planned_end true s)) buffer (pictures_of (all_cut g).flights) (last_behind (Ok s)) u.next
     (sym (step-all p.ahead p.pending u.closed u.next) ∙ sym (cut-flights (record { flights = g.flights; pending = g.left.pending })))
+    refl
     (same_stop u.next)
-end-next p (Err e) =
-    last-of (behind_closed p.pending (record { pictures = []; last = []; stop = Some e })) (pictures_of (cut (waiting p.pending)).flights) (Err e)
+end-next p buffer (Err e) =
+    last-of (behind_closed p.pending (record { pictures = []; last = []; stop = Some e })) buffer (pictures_of (cut (waiting p.pending)).flights) [] (Err e)
     (append-nil p.pending ∙ sym (cut-flights (waiting p.pending)))
+    refl
     refl
 
 -- the input's end
-pub owed-end : (p : Plans) → owed_behind true p [] ≡ decoded_from (stop_of (at_end p).left.next) (pictures_of (at_end p).flights)
+pub owed-end : (p : Plans) (buffer : List DecodedPicture)
+    → owed_behind true p buffer [] ≡ decoded_from (finished (at_end p).last (stop_of (at_end p).left.next)) (pictures_of (at_end p).flights) buffer
 unfolding owed_behind planned_behind at_end
-owed-end p = end-next p p.next
+owed-end p buffer = end-next p buffer p.next
 
-halt-next : (p : Plans) (next : Result Between Stop)
-    → decoded_plan (behind_closed p.pending (planned_next next (λ s. planned_end false s)))
-    ≡ decoded_from (stop_of next) (pictures_of (cut (waiting p.pending)).flights)
-halt-next p (Ok s) =
-    last-of (behind_closed p.pending (planned_end false s)) (pictures_of (cut (waiting p.pending)).flights) (Ok s)
+halt-next : (p : Plans) (buffer : List DecodedPicture) (next : Result Between Stop)
+    → decoded_behind buffer (behind_closed p.pending (planned_next next (λ s. planned_end false s)))
+    ≡ decoded_from (finished [] (stop_of next)) (pictures_of (cut (waiting p.pending)).flights) buffer
+halt-next p buffer (Ok s) =
+    last-of (behind_closed p.pending (planned_end false s)) buffer (pictures_of (cut (waiting p.pending)).flights) [] (Ok s)
     (append-nil p.pending ∙ sym (cut-flights (waiting p.pending)))
     refl
-halt-next p (Err e) =
-    last-of (behind_closed p.pending (record { pictures = []; last = []; stop = Some e })) (pictures_of (cut (waiting p.pending)).flights) (Err e)
+    refl
+halt-next p buffer (Err e) =
+    last-of (behind_closed p.pending (record { pictures = []; last = []; stop = Some e })) buffer (pictures_of (cut (waiting p.pending)).flights) [] (Err e)
     (append-nil p.pending ∙ sym (cut-flights (waiting p.pending)))
+    refl
     refl
 
 -- no more units, though the input hasn't ended
-pub owed-halt : (p : Plans) → owed_behind false p [] ≡ decoded_from (stop_of (halted p).left.next) (pictures_of (halted p).flights)
+pub owed-halt : (p : Plans) (buffer : List DecodedPicture)
+    → owed_behind false p buffer [] ≡ decoded_from (finished (halted p).last (stop_of (halted p).left.next)) (pictures_of (halted p).flights) buffer
 unfolding owed_behind planned_behind halted
-owed-halt p = halt-next p p.next
+owed-halt p buffer = halt-next p buffer p.next
 
 then-stops : (closed : List PicturePlan) (next : Result Between Stop) (e : Stop) → stop_of (then_next closed next (λ t. Err e)).next ≡ None → ⊥
 then-stops closed (Ok s) e is = absurd cc

@@ -1,24 +1,25 @@
 -- What several writes of pictures do, one after the other.
-use Rattle.std.proofs.Common.{◌≡◌, ℕ, suc, ◌+◌, ◌<◌, get_or, drop, drop-cons, add-one, List, [], ◌∷◌, ◌++◌, length, take, Option, Some, None, Result, Ok, Err, refl, sym, ap, subst, ◌∙◌, append_assoc, append-nil}
-use Rattle.std.specs.Prelude.{IsErrAnd}
+use Rattle.std.proofs.Common.{◌≡◌, ◌⊎◌, inl, inr, ℕ, suc, ◌+◌, ◌<◌, ◌≤◌, get_or, drop, drop-cons, add-one, List, [], ◌∷◌, ◌++◌, length, take, Option, Some, None, Result, Err, refl, sym, ap, subst, ◌∙◌, append_assoc, append-nil}
+use Rattle.std.specs.Prelude.{IsErrAnd, IfErr, slice_get}
 use Rattle.std.proofs.lemmas.Result.{err_from_is_err_and}
 use Rattle.std.specs.List.{concat}
 use Rattle.std.proofs.lemmas.List.Folds.{concat-append}
 use Rattle.std.proofs.Math.Seq.{take-append-add}
+use Rattle.std.proofs.lemmas.List.{drop_all}
 use Rattle.hv_base.specs.declared.outcome.Outcome.{Outcome}
 use Rattle.hv_base.specs.declared.outcome.Outcome.TheVariants as outcome
 use Rattle.hv_base.specs.declared.refusal.Stop.{Stop}
-use Rattle.hv_base.specs.declared.refusal.Stop.TheVariants as stop
 use Rattle.hv_io.specs.Streams.{Gains, GainsPrefix, Rose}
 use Rattle.hv_io.proofs.StreamLemmas.{Gains-nil, Gains-append, GainsPrefix-append, GainsPrefix-front}
 use Rattle.plan_types.specs.declared.picture_plan.PicturePlan.{PicturePlan}
 use Rattle.picture_plan.specs.Flights.{pictures_of}
-use Rattle.spec_decoder.specs.Decoder.{Decoded, IsDecided, decoded_picture, put_out, ending, decoded_from, bytes_of}
-use Rattle.spec_decoder.proofs.Deciding.{picture_decided}
+use Rattle.spec_decoder.specs.Decoder.{Decoded, DecodedPicture, IsDecided, decoded_picture, next_out, out_at, kept_from, put_out, ended, ending, entered, behind_picture, with_picture, decoded_from, finished, bytes_of}
+use Rattle.spec_decoder.proofs.Deciding.{ending_decided, picture_decided}
 use Rattle.decoder.specs.Headline.{Change, IsQuiet, change_of}
-use Rattle.decoder.specs.Writing.{then_owed, Wrote, IsAnswered, WritesFirst, Passes, Ends}
+use Rattle.decoder.specs.Pictures.{EntersBuffer}
+use Rattle.decoder.specs.Writing.{Wrote, IsAnswered, Leaves, Passes, Ends}
 
-wrote-both : (d : Decoded) (ps qs : List (List ℕ)) → then_owed ps (then_owed qs d) ≡ then_owed (ps ++ qs) d
+wrote-both : (d : Decoded) (ps qs : List (List ℕ)) → put_out ps (put_out qs d) ≡ put_out (ps ++ qs) d
 wrote-both d ps qs = ap (λ (rs : List (List ℕ)). let e : Decoded = record { pictures = rs; outcome = d.outcome } in e) (sym (append_assoc ps qs d.pictures))
 
 gains-behind : (a b c : Option (List ℕ)) (ps qs : List (List ℕ)) → Gains a b (concat ps) → Gains b c (concat qs) → Gains a c (concat (ps ++ qs))
@@ -31,23 +32,35 @@ whole-behind : (a b c : Option (List ℕ)) (ps qs : List (List ℕ)) → Gains a
 whole-behind a b c ps qs p q =
     (length ps + q.0, subst (λ (rs : List (List ℕ)). Gains a c (concat rs)) (sym (take-append-add ps qs q.0)) (gains-behind a b c ps (take q.0 qs) p q.1))
 
-drop-next : (pictures : List PicturePlan) (i : ℕ) (x : PicturePlan) → i < length pictures → x ≡ get_or pictures i x → drop i pictures ≡ (x ∷ []) ++ drop (i + 1) pictures
-drop-next pictures i x lt is =
-    drop-cons pictures i x lt
-    ∙ ap (λ (y : PicturePlan). y ∷ drop (suc i) pictures) (sym is)
-    ∙ ap (λ (n : ℕ). x ∷ drop n pictures) (sym (add-one i))
+drop-next : {A : Type 0} → (items : List A) (i : ℕ) (x d : A) → i < length items → x ≡ get_or items i d → drop i items ≡ x ∷ drop (i + 1) items
+drop-next items i x d lt is =
+    drop-cons items i d lt
+    ∙ ap (λ y. y ∷ drop (suc i) items) (sym is)
+    ∙ ap (λ (n : ℕ). x ∷ drop n items) (sym (add-one i))
 
 refused_decided : (p : PicturePlan) (o : Outcome) → decoded_picture p ≡ Err o → IsDecided o
-refused_decided p o e =
-    let later : Decoded = record { pictures = []; outcome = outcome.Ok } in
-    let h : IsDecided (put_out (decoded_picture p) later).outcome = picture_decided p later tt in
-    subst (λ (r : Result (List ℕ) Outcome). IsDecided (put_out r later).outcome) e h
+refused_decided p o e = subst (λ (r : Result DecodedPicture Outcome). IfErr r IsDecided) e (picture_decided p)
 
 -- the exit of a call that answers how decoding ended
-pub exits : (out : Change) (pictures : List PicturePlan) (r : Result (Unit {0}) Outcome) (o : Outcome) → IsErrAnd r (λ y. y ≡ o) → Ends out pictures o → WritesFirst out pictures r
-exits out pictures r o is w =
+pub exit-is : (r : Result (Unit {0}) Outcome) (o : Outcome) → IsErrAnd r (λ y. y ≡ o) → r ≡ Err o
+exit-is r o is =
     let p = err_from_is_err_and r is in
-    subst (WritesFirst out pictures) (sym (p.1 ∙ ap (λ (y : Outcome). let q : Result (Unit {0}) Outcome = Err y in q) p.2)) w
+    p.1 ∙ ap (λ (y : Outcome). let q : Result (Unit {0}) Outcome = Err y in q) p.2
+
+-- pictures that go out one after the other
+put-both : (d : Decoded) (ps qs : List (List ℕ)) → put_out (ps ++ qs) d ≡ put_out ps (put_out qs d)
+put-both d ps qs = sym (wrote-both d ps qs)
+
+next-first : (p : Option DecodedPicture) (later : List (List ℕ)) → next_out p later ≡ next_out p [] ++ later
+next-first None later = refl
+next-first (Some p) later = refl
+
+-- the picture at the next place, and then those at the places behind it
+out-next : (buffer : List DecodedPicture) (places : List ℕ) (i x d : ℕ) → i < length places → x ≡ get_or places i d
+    → out_at buffer (drop i places) ≡ next_out (slice_get buffer x) [] ++ out_at buffer (drop (i + 1) places)
+unfolding out_at
+out-next buffer places i x d lt is =
+    ap (out_at buffer) (drop-next places i x d lt is) ∙ next-first (slice_get buffer x) (out_at buffer (drop (i + 1) places))
 
 -- by the meanings of a sink: its bytes and its count of faults
 module _ {X : Type 0} (bytes : X → Option (List ℕ)) (faults : X → ℕ) where
@@ -62,13 +75,13 @@ module _ {X : Type 0} (bytes : X → Option (List ℕ)) (faults : X → ℕ) whe
   pub wrote-then : (a b c : X) (d e f : Decoded) → Wrote (by a b) d e → Wrote (by b c) e f → Wrote (by a c) d f
   wrote-then a b c d e f p q = record {
     pictures = p.pictures ++ q.pictures;
-    owed = p.owed ∙ ap (then_owed p.pictures) q.owed ∙ wrote-both f p.pictures q.pictures;
+    owed = p.owed ∙ ap (put_out p.pictures) q.owed ∙ wrote-both f p.pictures q.pictures;
     gained = gains-behind (bytes a) (bytes b) (bytes c) p.pictures q.pictures p.gained q.gained;
     quiet = q.quiet ∙ p.quiet;
   }
 
   answered-behind : (a b c : X) (ps : List (List ℕ)) (e : Decoded) (o : Outcome) → Gains (bytes a) (bytes b) (concat ps) → IsQuiet (by a b)
-      → IsAnswered e (by b c) o → IsAnswered (then_owed ps e) (by a c) o
+      → IsAnswered e (by b c) o → IsAnswered (put_out ps e) (by a c) o
   answered-behind a b c ps e outcome.Ok p s q = ((q.0.0, gains-behind (bytes a) (bytes b) (bytes c) ps e.pictures p q.0.1), q.1 ∙ s)
   answered-behind a b c ps e (outcome.Fault f) p s q = ((q.0.0, gains-behind (bytes a) (bytes b) (bytes c) ps e.pictures p q.0.1), q.1 ∙ s)
   answered-behind a b c ps e (outcome.Limit l) p s q = ((q.0.0, gains-behind (bytes a) (bytes b) (bytes c) ps e.pictures p q.0.1), q.1 ∙ s)
@@ -82,58 +95,8 @@ module _ {X : Type 0} (bytes : X → Option (List ℕ)) (faults : X → ℕ) whe
   answered-then a b c d e o p q =
       subst (λ (x : Decoded). IsAnswered x (by a c) o) (sym p.owed) (answered-behind a b c p.pictures e o p.gained p.quiet q)
 
-  -- no picture is written yet
-  pub passes-none : (a : X) (pictures : List PicturePlan) → Passes (by a a) pictures pictures
-  passes-none a pictures = λ end later. wrote-none a (decoded_from end (pictures ++ later))
-
-  wrote-front : (a b : X) (pictures first rest : List PicturePlan) → Passes (by a b) pictures (first ++ rest) → (end : Option Stop) (later : List PicturePlan)
-      → Wrote (by a b) (decoded_from end (pictures ++ later)) (decoded_from end (first ++ (rest ++ later)))
-  wrote-front a b pictures first rest p end later =
-      subst (λ (ps : List PicturePlan). Wrote (by a b) (decoded_from end (pictures ++ later)) (decoded_from end ps)) (append_assoc first rest later) (p end later)
-
-  passes-then : (a b c : X) (pictures first rest : List PicturePlan) → Passes (by a b) pictures (first ++ rest) → Passes (by b c) first [] → Passes (by a c) pictures rest
-  passes-then a b c pictures first rest p q = λ end later.
-      wrote-then a b c (decoded_from end (pictures ++ later)) (decoded_from end (first ++ (rest ++ later))) (decoded_from end (rest ++ later))
-      (wrote-front a b pictures first rest p end later) (q end (rest ++ later))
-
-  -- decoding ends in some pictures
-  passes-over : (a b c : X) (pictures first rest : List PicturePlan) (o : Outcome) → Passes (by a b) pictures (first ++ rest) → Ends (by b c) first o → Ends (by a c) pictures o
-  passes-over a b c pictures first rest o p q = λ end later.
-      answered-then a b c (decoded_from end (pictures ++ later)) (decoded_from end (first ++ (rest ++ later))) o
-      (wrote-front a b pictures first rest p end later) (q end (rest ++ later))
-
-  passes-to : (a b : X) (pictures : List PicturePlan) (i : ℕ) (x : PicturePlan) → i < length pictures → x ≡ get_or pictures i x
-      → Passes (by a b) pictures (drop i pictures) → Passes (by a b) pictures ((x ∷ []) ++ drop (i + 1) pictures)
-  passes-to a b pictures i x lt is p = subst (λ (ps : List PicturePlan). Passes (by a b) pictures ps) (drop-next pictures i x lt is) p
-
-  -- one more of these pictures is written
-  pub passes-one : (a b c : X) (pictures : List PicturePlan) (i : ℕ) (x : PicturePlan) → i < length pictures → x ≡ get_or pictures i x
-      → Passes (by a b) pictures (drop i pictures) → Passes (by b c) (x ∷ []) [] → Passes (by a c) pictures (drop (i + 1) pictures)
-  passes-one a b c pictures i x lt is p q =
-      passes-then a b c pictures (x ∷ []) (drop (i + 1) pictures) (passes-to a b pictures i x lt is p) q
-
-  pub over-one : (a b c : X) (pictures : List PicturePlan) (i : ℕ) (x : PicturePlan) (o : Outcome) → i < length pictures → x ≡ get_or pictures i x
-      → Passes (by a b) pictures (drop i pictures) → Ends (by b c) (x ∷ []) o → Ends (by a c) pictures o
-  over-one a b c pictures i x o lt is p q =
-      passes-over a b c pictures (x ∷ []) (drop (i + 1) pictures) o (passes-to a b pictures i x lt is p) q
-
-  -- one more flight is written
-  pub passes-flight : (a b c : X) (all : List PicturePlan) (left new : List (List PicturePlan)) (flight pictures : List PicturePlan) → left ≡ flight ∷ new → pictures ≡ flight
-      → Passes (by a b) all (pictures_of left) → Passes (by b c) pictures [] → Passes (by a c) all (pictures_of new)
-  passes-flight a b c all left new flight pictures e is p q =
-      passes-then a b c all flight (pictures_of new)
-      (subst (λ (fs : List (List PicturePlan)). Passes (by a b) all (pictures_of fs)) e p)
-      (subst (λ (ps : List PicturePlan). Passes (by b c) ps []) is q)
-
-  pub over-flight : (a b c : X) (all : List PicturePlan) (left new : List (List PicturePlan)) (flight pictures : List PicturePlan) (o : Outcome) → left ≡ flight ∷ new → pictures ≡ flight
-      → Passes (by a b) all (pictures_of left) → Ends (by b c) pictures o → Ends (by a c) all o
-  over-flight a b c all left new flight pictures o e is p q =
-      passes-over a b c all flight (pictures_of new) o
-      (subst (λ (fs : List (List PicturePlan)). Passes (by a b) all (pictures_of fs)) e p)
-      (subst (λ (ps : List PicturePlan). Ends (by b c) ps o) is q)
-
-  -- a picture in which something is broken or met
-  nothing_owed : (a : X) (o : Outcome) → IsDecided o → IsAnswered (record { pictures = []; outcome = o }) (by a a) o
+  -- nothing is owed but this end
+  nothing_owed : (a : X) (o : Outcome) → IsDecided o → IsAnswered (ended o) (by a a) o
   nothing_owed a outcome.Ok decided = ((refl, Gains-nil (bytes a)), refl)
   nothing_owed a (outcome.Fault f) decided = ((refl, Gains-nil (bytes a)), refl)
   nothing_owed a (outcome.Limit l) decided = ((refl, Gains-nil (bytes a)), refl)
@@ -141,45 +104,205 @@ module _ {X : Type 0} (bytes : X → Option (List ℕ)) (faults : X → ℕ) whe
   nothing_owed a outcome.ReadFault decided = absurd decided
   nothing_owed a outcome.WriteFault decided = absurd decided
 
-  pub picture-refused : (a : X) (p : PicturePlan) (o : Outcome) → decoded_picture p ≡ Err o → Ends (by a a) (p ∷ []) o
-  picture-refused a p o e = λ end later.
-      subst (λ (r : Result (List ℕ) Outcome). IsAnswered (put_out r (decoded_from end later)) (by a a) o) (sym e)
-      (nothing_owed a o (refused_decided p o e))
+  -- want of memory before anything is written
+  no_memory : (a : X) (d : Decoded) → IsAnswered d (by a a) outcome.Memory
+  no_memory a d = ((0, Gains-nil (bytes a)), refl)
 
-  -- a picture that is written
-  pub picture-written : (a b : X) (p : PicturePlan) (piece : List ℕ) → decoded_picture p ≡ Ok piece → Gains (bytes a) (bytes b) piece → IsQuiet (by a b) → Passes (by a b) (p ∷ []) []
-  picture-written a b p piece e g q = λ end later. record {
+  -- ---- pictures that go out
+
+  -- one picture
+  pub out-written : (a b : X) (piece : List ℕ) → Gains (bytes a) (bytes b) piece → IsQuiet (by a b) → (later : Decoded) → Wrote (by a b) (put_out (piece ∷ []) later) later
+  out-written a b piece g q later = record {
     pictures = piece ∷ [];
-    owed = ap (λ (r : Result (List ℕ) Outcome). put_out r (decoded_from end later)) e;
+    owed = refl;
     gained = subst (Gains (bytes a) (bytes b)) (sym (append-nil piece)) g;
     quiet = q;
   }
 
-  -- a picture that is cut by a write fault
-  pub picture-cut : (a b : X) (p : PicturePlan) (piece : List ℕ) → decoded_picture p ≡ Ok piece → GainsPrefix (bytes a) (bytes b) piece → Rose (faults a) (faults b) → Ends (by a b) (p ∷ []) outcome.WriteFault
-  picture-cut a b p piece e g rose = λ end later. (
-    rose,
-    subst (λ (r : Result (List ℕ) Outcome). GainsPrefix (bytes a) (bytes b) (bytes_of (put_out r (decoded_from end later)))) (sym e)
-        (GainsPrefix-front (bytes a) (bytes b) piece (bytes_of (decoded_from end later)) g),
-  )
+  -- one that is cut by a write fault
+  pub out-cut : (a b : X) (piece : List ℕ) → GainsPrefix (bytes a) (bytes b) piece → Rose (faults a) (faults b) → (later : Decoded) → IsAnswered (put_out (piece ∷ []) later) (by a b) outcome.WriteFault
+  out-cut a b piece g rose later = (rose, GainsPrefix-front (bytes a) (bytes b) piece (bytes_of later) g)
 
-  all_owed : (a b : X) (pictures : List (List ℕ)) (end : Option Stop) → Gains (bytes a) (bytes b) (concat pictures) → IsQuiet (by a b)
-      → IsAnswered (record { pictures = pictures ++ []; outcome = ending end }) (by a b) (ending end)
-  all_owed a b pictures end g q =
-      let gained : Gains (bytes a) (bytes b) (concat (pictures ++ [])) = subst (λ (ps : List (List ℕ)). Gains (bytes a) (bytes b) (concat ps)) (sym (append-nil pictures)) g in
-      elim end as (λ (k : Option Stop). IsAnswered (record { pictures = pictures ++ []; outcome = ending k }) (by a b) (ending k)) [
-        | None ↦ ((refl, gained), q)
-        | Some (stop.Fault f) ↦ ((refl, gained), q)
-        | Some (stop.Limit l) ↦ ((refl, gained), q)
-      ]
+  pub leaves-none : (a : X) (pictures : List (List ℕ)) → Leaves (by a a) pictures pictures
+  leaves-none a pictures = λ later. wrote-none a (put_out pictures later)
 
-  -- the last pictures are written
-  pub last-written : (a b : X) (pictures : List PicturePlan) (end : Option Stop) → Passes (by a b) pictures [] → IsAnswered (decoded_from end pictures) (by a b) (ending end)
-  last-written a b pictures end w =
-      let wrote : Wrote (by a b) (decoded_from end (pictures ++ [])) (decoded_from end []) = w end [] in
-      let owed : decoded_from end pictures ≡ then_owed wrote.pictures (decoded_from end []) = ap (decoded_from end) (sym (append-nil pictures)) ∙ wrote.owed in
-      subst (λ (d : Decoded). IsAnswered d (by a b) (ending end)) (sym owed) (all_owed a b wrote.pictures end wrote.gained wrote.quiet)
+  -- those at the places before this one are written
+  leaves-to : (a b : X) (buffer : List DecodedPicture) (all : List (List ℕ)) (places : List ℕ) (i x d : ℕ) → i < length places → x ≡ get_or places i d
+      → Leaves (by a b) all (out_at buffer (drop i places)) → (later : Decoded)
+      → Wrote (by a b) (put_out all later) (put_out (next_out (slice_get buffer x) []) (put_out (out_at buffer (drop (i + 1) places)) later))
+  leaves-to a b buffer all places i x d lt is l later =
+      subst (λ (d : Decoded). Wrote (by a b) (put_out all later) d)
+      (ap (λ (ps : List (List ℕ)). put_out ps later) (out-next buffer places i x d lt is)
+      ∙ put-both later (next_out (slice_get buffer x) []) (out_at buffer (drop (i + 1) places)))
+      (l later)
 
-  pub last-over : (a b : X) (pictures : List PicturePlan) (end : Option Stop) (o : Outcome) → Ends (by a b) pictures o → IsAnswered (decoded_from end pictures) (by a b) o
-  last-over a b pictures end o w =
-      subst (λ (ps : List PicturePlan). IsAnswered (decoded_from end ps) (by a b) o) (append-nil pictures) (w end [])
+  -- one more is written
+  pub leaves-one : (a b c : X) (buffer : List DecodedPicture) (all : List (List ℕ)) (places : List ℕ) (i x d : ℕ) → i < length places → x ≡ get_or places i d
+      → Leaves (by a b) all (out_at buffer (drop i places)) → ((later : Decoded) → Wrote (by b c) (put_out (next_out (slice_get buffer x) []) later) later)
+      → Leaves (by a c) all (out_at buffer (drop (i + 1) places))
+  leaves-one a b c buffer all places i x d lt is l w = λ later.
+      let rest : Decoded = put_out (out_at buffer (drop (i + 1) places)) later in
+      wrote-then a b c (put_out all later) (put_out (next_out (slice_get buffer x) []) rest) rest (leaves-to a b buffer all places i x d lt is l later) (w rest)
+
+  pub leaves-over : (a b c : X) (buffer : List DecodedPicture) (all : List (List ℕ)) (places : List ℕ) (i x d : ℕ) (o : Outcome) → i < length places → x ≡ get_or places i d
+      → Leaves (by a b) all (out_at buffer (drop i places)) → ((later : Decoded) → IsAnswered (put_out (next_out (slice_get buffer x) []) later) (by b c) o)
+      → (later : Decoded) → IsAnswered (put_out all later) (by a c) o
+  leaves-over a b c buffer all places i x d o lt is l w later =
+      let rest : Decoded = put_out (out_at buffer (drop (i + 1) places)) later in
+      answered-then a b c (put_out all later) (put_out (next_out (slice_get buffer x) []) rest) o (leaves-to a b buffer all places i x d lt is l later) (w rest)
+
+  -- all are written
+  pub leaves-end : (a b : X) (buffer : List DecodedPicture) (all : List (List ℕ)) (places : List ℕ) (i : ℕ) → length places ≤ i
+      → Leaves (by a b) all (out_at buffer (drop i places)) → (later : Decoded) → Wrote (by a b) (put_out all later) later
+  unfolding out_at
+  leaves-end a b buffer all places i le l later =
+      subst (λ (rest : List ℕ). Wrote (by a b) (put_out all later) (put_out (out_at buffer rest) later)) (drop_all i places le) (l later)
+
+  -- ---- a picture
+
+  -- what was written at these places is what was written at those
+  written-at : (a b : X) (buffer : List DecodedPicture) (places same : List ℕ) → places ≡ same
+      → ((later : Decoded) → Wrote (by a b) (put_out (out_at buffer places) later) later) → (later : Decoded) → Wrote (by a b) (put_out (out_at buffer same) later) later
+  written-at a b buffer places same is w later =
+      subst (λ (ps : List ℕ). Wrote (by a b) (put_out (out_at buffer ps) later) later) is (w later)
+
+  over-at : (a b : X) (buffer : List DecodedPicture) (places same : List ℕ) (o : Outcome) → places ≡ same
+      → ((later : Decoded) → IsAnswered (put_out (out_at buffer places) later) (by a b) o) → (later : Decoded) → IsAnswered (put_out (out_at buffer same) later) (by a b) o
+  over-at a b buffer places same o is w later =
+      subst (λ (ps : List ℕ). IsAnswered (put_out (out_at buffer ps) later) (by a b) o) is (w later)
+
+  -- what goes out before a picture is written
+  abbrev pub Before : X → X → PicturePlan → List DecodedPicture → Type 0
+  Before a b p old = (later : Decoded) → Wrote (by a b) (put_out (out_at old p.outputs.before) later) later
+
+  pub before-written : (a b : X) (p : PicturePlan) (old : List DecodedPicture) (places : List ℕ) → places ≡ p.outputs.before
+      → ((later : Decoded) → Wrote (by a b) (put_out (out_at old places) later) later) → Before a b p old
+  before-written a b p old places is w = written-at a b old places p.outputs.before is w
+
+  -- and the picture is decoded
+  decoded-to : (a b : X) (p : PicturePlan) (old mid : List DecodedPicture) (next : List DecodedPicture → Decoded) → Before a b p old → EntersBuffer old mid (decoded_picture p)
+      → Wrote (by a b) (with_picture p next old) (behind_picture p next mid)
+  decoded-to a b p old mid next before e =
+      let now : entered p next old (decoded_picture p) ≡ behind_picture p next mid =
+      ap (entered p next old) e.decodes ∙ ap (behind_picture p next) (sym e.buffer) in
+      subst (λ (d : Decoded). Wrote (by a b) (with_picture p next old) d) now (before (entered p next old (decoded_picture p)))
+
+  -- and what goes out behind it is written
+  pub picture-taken : (a b c : X) (p : PicturePlan) (old mid new : List DecodedPicture) (behind kept : List ℕ) → Before a b p old → EntersBuffer old mid (decoded_picture p)
+      → behind ≡ p.outputs.behind → ((later : Decoded) → Wrote (by b c) (put_out (out_at mid behind) later) later) → kept ≡ p.outputs.kept → new ≡ kept_from kept 0 mid
+      → (next : List DecodedPicture → Decoded) → Wrote (by a c) (with_picture p next old) (next new)
+  picture-taken a b c p old mid new behind kept before e is w same stays next =
+      let left : next (kept_from p.outputs.kept 0 mid) ≡ next new = ap next (sym (stays ∙ ap (λ (ps : List ℕ). kept_from ps 0 mid) same)) in
+      wrote-then a b c (with_picture p next old) (behind_picture p next mid) (next new) (decoded-to a b p old mid next before e)
+      (subst (λ (d : Decoded). Wrote (by b c) (behind_picture p next mid) d) left (written-at b c mid behind p.outputs.behind is w (next (kept_from p.outputs.kept 0 mid))))
+
+  -- decoding ended in what goes out before it
+  pub picture-before : (a b : X) (p : PicturePlan) (old : List DecodedPicture) (places : List ℕ) (o : Outcome) → places ≡ p.outputs.before
+      → ((later : Decoded) → IsAnswered (put_out (out_at old places) later) (by a b) o) → (next : List DecodedPicture → Decoded) → IsAnswered (with_picture p next old) (by a b) o
+  picture-before a b p old places o is w next = over-at a b old places p.outputs.before o is w (entered p next old (decoded_picture p))
+
+  refused : (b : X) (p : PicturePlan) (old : List DecodedPicture) (o : Outcome) (next : List DecodedPicture → Decoded) → (o ≡ outcome.Memory) ⊎ (decoded_picture p ≡ Err o)
+      → IsAnswered (entered p next old (decoded_picture p)) (by b b) o
+  refused b p old o next (inl is) = subst (IsAnswered (entered p next old (decoded_picture p)) (by b b)) (sym is) (no_memory b (entered p next old (decoded_picture p)))
+  refused b p old o next (inr e) =
+      subst (λ (r : Result DecodedPicture Outcome). IsAnswered (entered p next old r) (by b b) o) (sym e) (nothing_owed b o (refused_decided p o e))
+
+  -- something is broken or met in it, or there was no memory
+  pub picture-refused : (a b : X) (p : PicturePlan) (old : List DecodedPicture) (o : Outcome) → Before a b p old → (o ≡ outcome.Memory) ⊎ (decoded_picture p ≡ Err o)
+      → (next : List DecodedPicture → Decoded) → IsAnswered (with_picture p next old) (by a b) o
+  picture-refused a b p old o before e next =
+      answered-then a b b (with_picture p next old) (entered p next old (decoded_picture p)) o (before (entered p next old (decoded_picture p))) (refused b p old o next e)
+
+  -- decoding ended in what goes out behind it
+  pub picture-behind : (a b c : X) (p : PicturePlan) (old mid : List DecodedPicture) (behind : List ℕ) (o : Outcome) → Before a b p old → EntersBuffer old mid (decoded_picture p)
+      → behind ≡ p.outputs.behind → ((later : Decoded) → IsAnswered (put_out (out_at mid behind) later) (by b c) o)
+      → (next : List DecodedPicture → Decoded) → IsAnswered (with_picture p next old) (by a c) o
+  picture-behind a b c p old mid behind o before e is w next =
+      answered-then a b c (with_picture p next old) (behind_picture p next mid) o (decoded-to a b p old mid next before e)
+      (over-at b c mid behind p.outputs.behind o is w (next (kept_from p.outputs.kept 0 mid)))
+
+  -- ---- pictures
+
+  -- none is decoded yet
+  pub passes-none : (a : X) (pictures : List PicturePlan) (buffer : List DecodedPicture) → Passes (by a a) pictures buffer pictures buffer
+  passes-none a pictures buffer = λ end later. wrote-none a (decoded_from end (pictures ++ later) buffer)
+
+  passes-to : (a b : X) (pictures : List PicturePlan) (old mid : List DecodedPicture) (i : ℕ) (x : PicturePlan) → i < length pictures → x ≡ get_or pictures i x
+      → Passes (by a b) pictures old (drop i pictures) mid → Passes (by a b) pictures old (x ∷ drop (i + 1) pictures) mid
+  passes-to a b pictures old mid i x lt is p = subst (λ (ps : List PicturePlan). Passes (by a b) pictures old ps mid) (drop-next pictures i x x lt is) p
+
+  -- one more of these pictures is decoded
+  pub passes-one : (a b c : X) (pictures : List PicturePlan) (old mid new : List DecodedPicture) (i : ℕ) (x : PicturePlan) → i < length pictures → x ≡ get_or pictures i x
+      → Passes (by a b) pictures old (drop i pictures) mid → ((next : List DecodedPicture → Decoded) → Wrote (by b c) (with_picture x next mid) (next new))
+      → Passes (by a c) pictures old (drop (i + 1) pictures) new
+  passes-one a b c pictures old mid new i x lt is p q = λ end later.
+      let next : List DecodedPicture → Decoded = decoded_from end (drop (i + 1) pictures ++ later) in
+      wrote-then a b c (decoded_from end (pictures ++ later) old) (with_picture x next mid) (next new)
+      (passes-to a b pictures old mid i x lt is p end later) (q next)
+
+  pub over-one : (a b c : X) (pictures : List PicturePlan) (old mid : List DecodedPicture) (i : ℕ) (x : PicturePlan) (o : Outcome) → i < length pictures → x ≡ get_or pictures i x
+      → Passes (by a b) pictures old (drop i pictures) mid → ((next : List DecodedPicture → Decoded) → IsAnswered (with_picture x next mid) (by b c) o) → Ends (by a c) pictures old o
+  over-one a b c pictures old mid i x o lt is p q = λ end later.
+      let next : List DecodedPicture → Decoded = decoded_from end (drop (i + 1) pictures ++ later) in
+      answered-then a b c (decoded_from end (pictures ++ later) old) (with_picture x next mid) o
+      (passes-to a b pictures old mid i x lt is p end later) (q next)
+
+  pub passes-end : (a b : X) (pictures : List PicturePlan) (old new : List DecodedPicture) (i : ℕ) → length pictures ≤ i
+      → Passes (by a b) pictures old (drop i pictures) new → Passes (by a b) pictures old [] new
+  passes-end a b pictures old new i le p = subst (λ (ps : List PicturePlan). Passes (by a b) pictures old ps new) (drop_all i pictures le) p
+
+  wrote-front : (a b : X) (pictures first rest : List PicturePlan) (old mid : List DecodedPicture) → Passes (by a b) pictures old (first ++ rest) mid
+      → (end : List DecodedPicture → Decoded) (later : List PicturePlan)
+      → Wrote (by a b) (decoded_from end (pictures ++ later) old) (decoded_from end (first ++ (rest ++ later)) mid)
+  wrote-front a b pictures first rest old mid p end later =
+      subst (λ (ps : List PicturePlan). Wrote (by a b) (decoded_from end (pictures ++ later) old) (decoded_from end ps mid)) (append_assoc first rest later) (p end later)
+
+  left-first : (a b : X) (all : List PicturePlan) (left new : List (List PicturePlan)) (flight pictures : List PicturePlan) (old mid : List DecodedPicture)
+      → left ≡ flight ∷ new → pictures ≡ flight → Passes (by a b) all old (pictures_of left) mid → Passes (by a b) all old (pictures ++ pictures_of new) mid
+  left-first a b all left new flight pictures old mid e is p =
+      subst (λ (ps : List PicturePlan). Passes (by a b) all old (ps ++ pictures_of new) mid) (sym is)
+      (subst (λ (fs : List (List PicturePlan)). Passes (by a b) all old (pictures_of fs) mid) e p)
+
+  -- one more flight is decoded
+  pub passes-flight : (a b c : X) (all : List PicturePlan) (left rest : List (List PicturePlan)) (flight pictures : List PicturePlan) (old mid new : List DecodedPicture)
+      → left ≡ flight ∷ rest → pictures ≡ flight
+      → Passes (by a b) all old (pictures_of left) mid → Passes (by b c) pictures mid [] new → Passes (by a c) all old (pictures_of rest) new
+  passes-flight a b c all left rest flight pictures old mid new e is p q = λ end later.
+      wrote-then a b c (decoded_from end (all ++ later) old) (decoded_from end (pictures ++ (pictures_of rest ++ later)) mid) (decoded_from end (pictures_of rest ++ later) new)
+      (wrote-front a b all pictures (pictures_of rest) old mid (left-first a b all left rest flight pictures old mid e is p) end later)
+      (q end (pictures_of rest ++ later))
+
+  pub over-flight : (a b c : X) (all : List PicturePlan) (left rest : List (List PicturePlan)) (flight pictures : List PicturePlan) (old mid : List DecodedPicture) (o : Outcome)
+      → left ≡ flight ∷ rest → pictures ≡ flight
+      → Passes (by a b) all old (pictures_of left) mid → Ends (by b c) pictures mid o → Ends (by a c) all old o
+  over-flight a b c all left rest flight pictures old mid o e is p q = λ end later.
+      answered-then a b c (decoded_from end (all ++ later) old) (decoded_from end (pictures ++ (pictures_of rest ++ later)) mid) o
+      (wrote-front a b all pictures (pictures_of rest) old mid (left-first a b all left rest flight pictures old mid e is p) end later)
+      (q end (pictures_of rest ++ later))
+
+  -- ---- the end
+
+  -- the pictures that go out at the input's end are written
+  pub end-written : (a b : X) (buffer : List DecodedPicture) (last : List ℕ) (end : Option Stop)
+      → ((later : Decoded) → Wrote (by a b) (put_out (out_at buffer last) later) later) → IsAnswered (finished last end buffer) (by a b) (ending end)
+  end-written a b buffer last end w =
+      let later : Decoded = ended (ending end) in
+      subst (λ (ps : List (List ℕ)). IsAnswered (record { pictures = ps; outcome = ending end }) (by a b) (ending end)) (append-nil (out_at buffer last))
+      (answered-then a b b (put_out (out_at buffer last) later) later (ending end) (w later) (nothing_owed b (ending end) (ending_decided end)))
+
+  pub end-over : (a b : X) (buffer : List DecodedPicture) (last : List ℕ) (end : Option Stop) (o : Outcome)
+      → ((later : Decoded) → IsAnswered (put_out (out_at buffer last) later) (by a b) o) → IsAnswered (finished last end buffer) (by a b) o
+  end-over a b buffer last end o w =
+      subst (λ (ps : List (List ℕ)). IsAnswered (record { pictures = ps; outcome = ending end }) (by a b) o) (append-nil (out_at buffer last)) (w (ended (ending end)))
+
+  -- the last pictures are decoded
+  pub last-written : (a b c : X) (pictures : List PicturePlan) (old new : List DecodedPicture) (end : List DecodedPicture → Decoded) (o : Outcome)
+      → Passes (by a b) pictures old [] new → IsAnswered (end new) (by b c) o → IsAnswered (decoded_from end pictures old) (by a c) o
+  last-written a b c pictures old new end o w answered =
+      subst (λ (ps : List PicturePlan). IsAnswered (decoded_from end ps old) (by a c) o) (append-nil pictures)
+      (answered-then a b c (decoded_from end (pictures ++ []) old) (end new) o (w end []) answered)
+
+  pub last-over : (a b : X) (pictures : List PicturePlan) (old : List DecodedPicture) (end : List DecodedPicture → Decoded) (o : Outcome) → Ends (by a b) pictures old o
+      → IsAnswered (decoded_from end pictures old) (by a b) o
+  last-over a b pictures old end o w =
+      subst (λ (ps : List PicturePlan). IsAnswered (decoded_from end ps old) (by a b) o) (append-nil pictures) (w end [])

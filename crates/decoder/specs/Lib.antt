@@ -1,6 +1,6 @@
 pub mod Options
 pub mod Headline
-pub mod Owed
+pub mod Buffers
 pub mod Pictures
-pub mod Reads
 pub mod Writing
+pub mod Owed

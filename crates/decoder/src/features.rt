@@ -2,9 +2,9 @@
 
 ghost use Rattle.std.specs.Prelude.{◌≡◌};
 ghost use Rattle.std.specs.List.{list_any};
-ghost use Rattle.spec_decoder.specs.Features.{is_hidden, needs_inter, is_one_block, may_split, may_scale, needs_intra, has_offsets, needs_filters, unbuilt};
+ghost use Rattle.spec_decoder.specs.Features.{has_edges, has_offsets, is_deblocked, is_hidden, needs_filters, needs_inter, unbuilt};
 
-use header_types::{PictureFormat, Sps};
+use header_types::PictureFormat;
 use hv_base::Feature;
 use plan_types::{PicturePlan, SegmentPlan};
 use ref_picture_sets::is_idr;
@@ -16,8 +16,6 @@ pub(crate) fn unbuilt(picture: &PicturePlan) -> Option<Feature>
 {
     if needs_inter(picture) {
         Some(Feature::Inter)
-    } else if needs_intra(picture) {
-        Some(Feature::Intra)
     } else if needs_filters(picture) {
         Some(Feature::Filters)
     } else {
@@ -47,42 +45,13 @@ fn is_hidden(segment: &SegmentPlan) -> bool
     !segment.header.fields().slice.pic_output_flag
 }
 
-/// Whether a picture may be another than one coding unit of 8x8 luma samples with one transform unit.
-#[tactic(auto, unfolding(spec_decoder::specs::Features::needs_intra))]
-fn needs_intra(picture: &PicturePlan) -> bool
-    ensures { result ≡ needs_intra picture.now }
-{
-    !is_one_block(&picture.sps.fields().format) || may_split(&picture.sps) || may_scale(picture)
-}
-
-fn is_one_block(format: &PictureFormat) -> bool
-    ensures { result ≡ is_one_block format.now }
-{
-    format.pic_width_in_luma_samples == 8
-        && format.pic_height_in_luma_samples == 8
-        && format.conformance_window.is_none()
-}
-
-fn may_split(sps: &Sps) -> bool
-    ensures { result ≡ may_split sps.now.blocks }
-{
-    sps.max_tb_log2() < 3 || 0 < sps.fields().blocks.max_transform_hierarchy_depth_intra
-}
-
-fn may_scale(picture: &PicturePlan) -> bool
-    ensures { result ≡ may_scale picture.now }
-{
-    picture.sps.fields().scaling_list_enabled_flag
-        || picture.pps.fields().scaling_lists.is_some()
-        || picture.pps.fields().transquant_bypass_enabled_flag
-}
-
 /// Whether a loop filter may change a picture's samples.
 #[tactic(auto, unfolding(spec_decoder::specs::Features::needs_filters))]
 fn needs_filters(picture: &PicturePlan) -> bool
     ensures { result ≡ needs_filters picture.now }
 {
     any_offsets(picture.segments.as_slice())
+        || (has_edges(&picture.sps.fields().format) && any_deblocked(picture.segments.as_slice()))
 }
 
 fn any_offsets(segments: &[SegmentPlan]) -> bool
@@ -96,4 +65,28 @@ fn has_offsets(segment: &SegmentPlan) -> bool
 {
     let slice = &segment.header.fields().slice;
     slice.slice_sao_luma_flag || slice.slice_sao_chroma_flag
+}
+
+/// Whether blocks may meet inside a picture of this format, where edges are deblocked.
+fn has_edges(format: &PictureFormat) -> bool
+    ensures { result ≡ has_edges format.now }
+{
+    8 < format.pic_width_in_luma_samples || 8 < format.pic_height_in_luma_samples
+}
+
+fn any_deblocked(segments: &[SegmentPlan]) -> bool
+    ensures { result ≡ list_any is_deblocked segments.now }
+{
+    segments.iter().any(|segment| is_deblocked(segment))
+}
+
+fn is_deblocked(segment: &SegmentPlan) -> bool
+    ensures { result ≡ is_deblocked segment.now }
+{
+    !segment
+        .header
+        .fields()
+        .slice
+        .deblocking
+        .slice_deblocking_filter_disabled_flag
 }

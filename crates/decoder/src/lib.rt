@@ -1,12 +1,11 @@
 //! Decodes a stream: reads its bytes from a source and writes its pictures to a sink.
 #![tactic(auto)]
 
+mod buffer;
 mod decoding;
-mod elements;
 mod features;
 mod options;
 mod picture;
-mod segment;
 mod stream;
 mod writing;
 

@@ -5,11 +5,13 @@ ghost use Rattle.spec_units.specs.Judged.{Told, told_of};
 ghost use Rattle.nal_stream.specs.Answers.{told_by};
 ghost use Rattle.picture_plan.specs.Plans.{behind_unit, stop_of};
 ghost use Rattle.spec_decoder.specs.Decoder.{decoded};
+ghost use Rattle.decoder.specs.Buffers.{buffer_of};
 ghost use Rattle.decoder.specs.Headline.{change_of};
-ghost use Rattle.decoder.specs.Owed.{StillTells, Takes, owed_behind};
+ghost use Rattle.decoder.specs.Owed.{IsFirst, StillTells, Takes, owed_behind};
 ghost use Rattle.decoder.specs.Options.{IsInRange};
 ghost use Rattle.decoder.specs.Writing.{IsAnswered, LeadsTo};
 
+use crate::buffer::Buffer;
 use crate::options::Options;
 use crate::writing::{write_flights, write_last};
 use hv_base::Outcome;
@@ -17,15 +19,6 @@ use hv_io::Sink;
 use nal_stream::{Framer, Next};
 use picture_plan::Planner;
 use std::alloc::{AllocError, Global};
-
-/// What was taken of a stream.
-#[derive(Clone, Copy)]
-pub(crate) enum Taken {
-    /// A unit, behind which others may stand.
-    Unit,
-    /// Nothing: all whole units were taken before.
-    Last,
-}
 
 /// Writes the pictures of a stream in output order, and answers how decoding ended.
 ///
@@ -44,13 +37,13 @@ pub(crate) fn decode_bytes<O: Sink>(
     let Ok(mut framer) = framer_of(alloc, bytes, ended) else {
         return Outcome::Memory;
     };
-    let Ok(mut planner) = Planner::new(alloc, options.ahead, options.hash) else {
+    let Ok(mut decoder) = Decoder::new(alloc, options) else {
         return Outcome::Memory;
     };
     'units: loop {
-        match take_unit(&mut framer, &mut planner, out) {
+        match decoder.take_unit(&mut framer, out) {
             Ok(Taken::Unit) => {}
-            Ok(Taken::Last) => return write_rest(&mut planner, ended, out),
+            Ok(Taken::Last) => return decoder.write_rest(ended, out),
             Err(outcome) => return outcome,
         }
     }
@@ -68,58 +61,83 @@ fn framer_of(alloc: Global, bytes: &[u8], ended: bool) -> Result<Framer, AllocEr
     Ok(framer)
 }
 
-/// Takes a unit and writes the pictures that it completes.
-fn take_unit<O: Sink>(
-    framer: &mut Framer,
-    planner: &mut Planner,
-    out: &mut O,
-) -> Result<Taken, Outcome>
-    ensures { (ended : Bool) (bytes : List ℕ) (later : List Told) → StillTells framer.old ended bytes later → stop_of planner.old.next ≡ None → Takes (change_of O.contents O.faults out.old out.new) framer.new planner.old planner.new ended bytes later result }
-{
-    let Ok(next) = framer.next() else {
-        return Err(Outcome::Memory);
-    };
-    match next {
-        Next::More => Ok(Taken::Last),
-        Next::End => Ok(Taken::Last),
-        unit => {
-            plan_unit(unit, planner, out)?;
-            Ok(Taken::Unit)
+/// What was taken of a stream.
+#[derive(Clone, Copy)]
+pub(crate) enum Taken {
+    /// A unit, behind which others may stand.
+    Unit,
+    /// Nothing: all whole units were taken before.
+    Last,
+}
+
+/// The pictures that are planned of a stream, and those that were decoded and stay in the buffer.
+#[derive(Drop)]
+pub(crate) struct Decoder {
+    planner: Planner,
+    buffer: Buffer,
+}
+
+impl Decoder {
+    /// Before the first unit.
+    fn new(alloc: Global, options: Options) -> Result<Decoder, AllocError>
+        requires { IsInRange options }
+        ensures { IfOk result (λ d. IsFirst d options.ahead) }
+    {
+        Ok(Decoder {
+            planner: Planner::new(alloc, options.ahead, options.hash)?,
+            buffer: Buffer::new(alloc),
+        })
+    }
+
+    /// Takes a unit and writes the pictures that go out then.
+    fn take_unit<O: Sink>(&mut self, framer: &mut Framer, out: &mut O) -> Result<Taken, Outcome>
+        ensures { (ended : Bool) (bytes : List ℕ) (later : List Told) → StillTells framer.old ended bytes later → stop_of self.old.planner.next ≡ None → Takes (change_of O.contents O.faults out.old out.new) framer.new self.old self.new ended bytes later result }
+    {
+        let Ok(next) = framer.next() else {
+            return Err(Outcome::Memory);
+        };
+        match next {
+            Next::More => Ok(Taken::Last),
+            Next::End => Ok(Taken::Last),
+            unit => {
+                self.plan_unit(unit, out)?;
+                Ok(Taken::Unit)
+            }
         }
     }
-}
 
-/// Plans a unit and writes the pictures that it completes.
-fn plan_unit<O: Sink>(next: Next, planner: &mut Planner, out: &mut O) -> Result<(), Outcome>
-    ensures wrote { (ended : Bool) (t : Told) (later : List Told) → told_by next ≡ t ∷ [] → stop_of planner.old.next ≡ None → LeadsTo (change_of O.contents O.faults out.old out.new) (owed_behind ended planner.old (t ∷ later)) (owed_behind ended planner.new later) result }
-    ensures left { OnOk result ((behind_unit planner.old (told_by next)).left ≡ planner.new) }
-    ensures going { OnOk result (stop_of planner.new.next ≡ None) }
-{
-    let Ok(planned) = planner.unit(next) else {
-        return Err(Outcome::Memory);
-    };
-    match planned.stop {
-        None => write_flights(planned.flights, out),
-        Some(_) => Err(write_last(planned, out)),
+    /// Plans a unit and writes the pictures that go out then.
+    fn plan_unit<O: Sink>(&mut self, next: Next, out: &mut O) -> Result<(), Outcome>
+        ensures wrote { (ended : Bool) (t : Told) (later : List Told) → told_by next ≡ t ∷ [] → stop_of self.old.planner.next ≡ None → LeadsTo (change_of O.contents O.faults out.old out.new) (owed_behind ended self.old.planner (buffer_of self.old.buffer) (t ∷ later)) (owed_behind ended self.new.planner (buffer_of self.new.buffer) later) result }
+        ensures left { OnOk result ((behind_unit self.old.planner (told_by next)).left ≡ self.new.planner) }
+        ensures going { OnOk result (stop_of self.new.planner.next ≡ None) }
+    {
+        let Ok(planned) = self.planner.unit(next) else {
+            return Err(Outcome::Memory);
+        };
+        match planned.stop {
+            None => write_flights(planned.flights, &mut self.buffer, out),
+            Some(_) => Err(write_last(planned, &mut self.buffer, out)),
+        }
     }
-}
 
-/// Writes the pictures that are left behind the last unit.
-fn write_rest<O: Sink>(planner: &mut Planner, ended: bool, out: &mut O) -> Outcome
-    ensures { IsAnswered (owed_behind ended planner.old []) (change_of O.contents O.faults out.old out.new) result }
-{
-    if ended {
-        return write_end(planner, out);
+    /// Writes the pictures that are left behind the last unit.
+    fn write_rest<O: Sink>(&mut self, ended: bool, out: &mut O) -> Outcome
+        ensures { IsAnswered (owed_behind ended self.old.planner (buffer_of self.old.buffer) []) (change_of O.contents O.faults out.old out.new) result }
+    {
+        if ended {
+            return self.write_end(out);
+        }
+        write_last(self.planner.halt(), &mut self.buffer, out)
     }
-    write_last(planner.halt(), out)
-}
 
-/// Writes the pictures that are left where the input ended.
-fn write_end<O: Sink>(planner: &mut Planner, out: &mut O) -> Outcome
-    ensures { IsAnswered (owed_behind true planner.old []) (change_of O.contents O.faults out.old out.new) result }
-{
-    match planner.finish() {
-        Ok(planned) => write_last(planned, out),
-        Err(_) => Outcome::Memory,
+    /// Writes the pictures that are left where the input ended.
+    fn write_end<O: Sink>(&mut self, out: &mut O) -> Outcome
+        ensures { IsAnswered (owed_behind true self.old.planner (buffer_of self.old.buffer) []) (change_of O.contents O.faults out.old out.new) result }
+    {
+        match self.planner.finish() {
+            Ok(planned) => write_last(planned, &mut self.buffer, out),
+            Err(_) => Outcome::Memory,
+        }
     }
 }

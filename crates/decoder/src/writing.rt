@@ -1,24 +1,34 @@
-//! Writes pictures in output order, each as soon as it's decoded.
+//! Writes pictures in output order, each as soon as it goes out of the decoded picture buffer.
 
-ghost use Rattle.std.specs.Prelude.{◌≡◌, ◌∷◌, []};
+ghost use Rattle.std.specs.Prelude.{◌≡◌};
 ghost use Rattle.picture_plan.specs.Flights.{pictures_of};
-ghost use Rattle.spec_decoder.specs.Decoder.{decoded_from, ending};
+ghost use Rattle.spec_decoder.specs.Decoder.{decoded_from, ending, finished};
+ghost use Rattle.decoder.specs.Buffers.{buffer_of};
 ghost use Rattle.decoder.specs.Headline.{change_of};
-ghost use Rattle.decoder.specs.Writing.{IsAnswered, WritesFirst};
+ghost use Rattle.decoder.specs.Writing.{IsAnswered, TakesPicture, WritesFirst};
 
-use crate::picture::decode_picture;
+use crate::buffer::Buffer;
 use hv_base::{Outcome, Stop};
-use hv_io::{Sink, write_all};
+use hv_io::Sink;
 use picture_plan::{Flights, Planned};
 use plan_types::PicturePlan;
-use spec_decoder::grey_samples;
 
-/// Writes the pictures of the last flights, and answers how decoding ends.
-pub(crate) fn write_last<O: Sink>(planned: Planned, out: &mut O) -> Outcome
-    ensures { IsAnswered (decoded_from planned.stop (pictures_of planned.flights)) (change_of O.contents O.faults out.old out.new) result }
+/// Decodes the pictures of the last flights, writes what then goes out, and answers how decoding ends.
+pub(crate) fn write_last<O: Sink>(planned: Planned, buffer: &mut Buffer, out: &mut O) -> Outcome
+    ensures { IsAnswered (decoded_from (finished planned.last planned.stop) (pictures_of planned.flights) (buffer_of buffer.old)) (change_of O.contents O.faults out.old out.new) result }
 {
-    match write_flights(planned.flights, out) {
-        Ok(()) => ending(planned.stop),
+    match write_flights(planned.flights, buffer, out) {
+        Ok(()) => write_end(planned.last.as_slice(), planned.stop, buffer, out),
+        Err(outcome) => outcome,
+    }
+}
+
+/// Writes the pictures that go out behind all others, and answers how decoding ends.
+fn write_end<O: Sink>(last: &[u32], stop: Option<Stop>, buffer: &Buffer, out: &mut O) -> Outcome
+    ensures { IsAnswered (finished last.now stop (buffer_of buffer.now)) (change_of O.contents O.faults out.old out.new) result }
+{
+    match buffer.write(last, out) {
+        Ok(()) => ending(stop),
         Err(outcome) => outcome,
     }
 }
@@ -34,33 +44,46 @@ fn ending(stop: Option<Stop>) -> Outcome
     }
 }
 
-/// Writes the pictures of flights.
-pub(crate) fn write_flights<O: Sink>(flights: Flights, out: &mut O) -> Result<(), Outcome>
-    ensures { WritesFirst (change_of O.contents O.faults out.old out.new) (pictures_of flights) result }
+/// Decodes the pictures of flights, and writes what goes out.
+pub(crate) fn write_flights<O: Sink>(
+    flights: Flights,
+    buffer: &mut Buffer,
+    out: &mut O,
+) -> Result<(), Outcome>
+    ensures { WritesFirst (change_of O.contents O.faults out.old out.new) (pictures_of flights) (buffer_of buffer.old) (buffer_of buffer.new) result }
 {
     let mut left = flights;
     while let Some(flight) = left.next() {
-        write_pictures(flight.as_slice(), out)?;
+        write_pictures(flight.as_slice(), buffer, out)?;
     }
     Ok(())
 }
 
-/// Writes these pictures, up to the first in which something is broken or met.
-fn write_pictures<O: Sink>(pictures: &[PicturePlan], out: &mut O) -> Result<(), Outcome>
-    ensures { WritesFirst (change_of O.contents O.faults out.old out.new) pictures.now result }
+/// Decodes these pictures, up to the first in which something is broken or met.
+fn write_pictures<O: Sink>(
+    pictures: &[PicturePlan],
+    buffer: &mut Buffer,
+    out: &mut O,
+) -> Result<(), Outcome>
+    ensures { WritesFirst (change_of O.contents O.faults out.old out.new) pictures.now (buffer_of buffer.old) (buffer_of buffer.new) result }
 {
     for picture in pictures {
-        write_picture(picture, out)?;
+        write_picture(picture, buffer, out)?;
     }
     Ok(())
 }
 
-fn write_picture<O: Sink>(picture: &PicturePlan, out: &mut O) -> Result<(), Outcome>
-    ensures { WritesFirst (change_of O.contents O.faults out.old out.new) (picture.now ∷ []) result }
+/// Decodes a picture, and writes what goes out before it and behind it (C.5.2).
+fn write_picture<O: Sink>(
+    picture: &PicturePlan,
+    buffer: &mut Buffer,
+    out: &mut O,
+) -> Result<(), Outcome>
+    ensures { TakesPicture (change_of O.contents O.faults out.old out.new) picture.now (buffer_of buffer.old) (buffer_of buffer.new) result }
 {
-    decode_picture(picture)?;
-    match write_all(out, grey_samples()) {
-        Ok(()) => Ok(()),
-        Err(_) => Err(Outcome::WriteFault),
-    }
+    buffer.write(picture.outputs.before.as_slice(), out)?;
+    buffer.decode(picture)?;
+    buffer.write(picture.outputs.behind.as_slice(), out)?;
+    buffer.keep(picture.outputs.kept.as_slice());
+    Ok(())
 }

@@ -1,15 +1,19 @@
 -- What is decoded of the front of an input stays as the input goes on.
-use Rattle.std.proofs.Common.{◌≡◌, ℕ, Bool, false, List, [], ◌∷◌, ◌++◌, Option, Some, None, Result, Ok, Err, refl, sym, ap, subst, ◌∙◌}
+use Rattle.std.proofs.Common.{◌≡◌, ℕ, Bool, false, List, [], ◌∷◌, ◌++◌, Option, Some, None, Result, Ok, Err, refl, sym, ap, subst, ◌∙◌, append_assoc}
 use Rattle.std.specs.List.{concat}
 use Rattle.std.proofs.lemmas.List.{append-nil}
 use Rattle.std.proofs.lemmas.List.Folds.{concat-append}
 use Rattle.hv_base.specs.declared.outcome.Outcome.{Outcome}
 use Rattle.hv_base.specs.declared.outcome.Outcome.TheVariants as outcome
 use Rattle.hv_base.specs.declared.refusal.Stop.{Stop}
+use Rattle.plan_types.specs.declared.between.Between.{Between}
 use Rattle.plan_types.specs.declared.picture_plan.PicturePlan.{PicturePlan}
-use Rattle.spec_pictures.specs.Planned.{Planned, planned_of, Extends}
+use Rattle.spec_units.specs.Judged.{Told, told_of}
+use Rattle.spec_pictures.specs.Pictures.{beginning}
+use Rattle.spec_pictures.specs.Steps.{step}
+use Rattle.spec_pictures.specs.Planned.{Planned, planned_of, planned_from, planned_next, Extends}
 use Rattle.spec_pictures.proofs.Fronts.{of_extends}
-use Rattle.spec_decoder.specs.Decoder.{Decoded, Continues, decoded_picture, put_out, decoded_from, decoded_plan, decoded}
+use Rattle.spec_decoder.specs.Decoder.{Decoded, DecodedPicture, Continues, decoded_picture, out_at, kept_from, put_out, ended, entered, with_picture, decoded_from, finished, decoded_plan, decoded}
 
 -- the bytes follow from the pictures
 continues : (short long : Decoded) (more : List (List ℕ)) → long.pictures ≡ short.pictures ++ more → (¬ (short.outcome ≡ outcome.Ok) → long ≡ short)
@@ -24,28 +28,61 @@ continues short long more pictures stopped = record {
 same_continues : (d : Decoded) → Continues d d
 same_continues d = continues d d [] (sym (append-nil d.pictures)) (λ n. refl)
 
-put_continues : (r : Result (List ℕ) Outcome) (short long : Decoded) → Continues short long → Continues (put_out r short) (put_out r long)
-put_continues (Err o) short long c = same_continues (put_out (Err o) short)
-put_continues (Ok bytes) short long c =
-    continues (put_out (Ok bytes) short) (put_out (Ok bytes) long) c.more (ap (λ (ps : List (List ℕ)). bytes ∷ ps) c.pictures) (λ n. ap (put_out (Ok bytes)) (c.stopped n))
+put_continues : (first : List (List ℕ)) (short long : Decoded) → Continues short long → Continues (put_out first short) (put_out first long)
+put_continues first short long c =
+    continues (put_out first short) (put_out first long) c.more
+    (ap (λ (ps : List (List ℕ)). first ++ ps) c.pictures ∙ sym (append_assoc first short.pictures c.more))
+    (λ n. ap (put_out first) (c.stopped n))
+
+-- whatever the buffer behind a picture is, the one continues the other
+entered_continues : (p : PicturePlan) (short long : List DecodedPicture → Decoded) (buffer : List DecodedPicture) (r : Result DecodedPicture Outcome)
+    → ((b : List DecodedPicture) → Continues (short b) (long b)) → Continues (entered p short buffer r) (entered p long buffer r)
+entered_continues p short long buffer (Err o) h = same_continues (ended o)
+entered_continues p short long buffer (Ok picture) h =
+    let now : List DecodedPicture = buffer ++ picture ∷ [] in
+    let left : List DecodedPicture = kept_from p.outputs.kept 0 now in
+    put_continues (out_at now p.outputs.behind) (short left) (long left) (h left)
+
+picture_continues : (p : PicturePlan) (short long : List DecodedPicture → Decoded) (buffer : List DecodedPicture)
+    → ((b : List DecodedPicture) → Continues (short b) (long b)) → Continues (with_picture p short buffer) (with_picture p long buffer)
+picture_continues p short long buffer h =
+    put_continues (out_at buffer p.outputs.before) (entered p short buffer (decoded_picture p)) (entered p long buffer (decoded_picture p))
+    (entered_continues p short long buffer (decoded_picture p) h)
+
+nothing_continues : (buffer : List DecodedPicture) (long : Decoded) → Continues (finished [] None buffer) long
+unfolding out_at
+nothing_continues buffer long = continues (finished [] None buffer) long long.pictures refl (λ n. absurd (n refl))
 
 -- where nothing stops the front, the pictures go on
-from_continues : (end : Option Stop) (pictures more : List PicturePlan) → Continues (decoded_from None pictures) (decoded_from end (pictures ++ more))
-from_continues end [] more = continues (decoded_from None []) (decoded_from end more) (decoded_from end more).pictures refl (λ n. absurd (n refl))
-from_continues end (p ∷ pictures) more =
-    put_continues (decoded_picture p) (decoded_from None pictures) (decoded_from end (pictures ++ more)) (from_continues end pictures more)
+from_continues : (end : List DecodedPicture → Decoded) (pictures more : List PicturePlan) (buffer : List DecodedPicture)
+    → Continues (decoded_from (finished [] None) pictures buffer) (decoded_from end (pictures ++ more) buffer)
+from_continues end [] more buffer = nothing_continues buffer (decoded_from end more buffer)
+from_continues end (p ∷ pictures) more buffer =
+    picture_continues p (decoded_from (finished [] None) pictures) (decoded_from end (pictures ++ more)) buffer (λ b. from_continues end pictures more b)
 
-plan_continues : (end : Option Stop) (pictures more : List PicturePlan) (last : List ℕ) (long : Planned) → long.pictures ≡ pictures ++ more
-    → ((e : Stop) → end ≡ Some e → long ≡ record { pictures = pictures; last = last; stop = end }) → Continues (decoded_from end pictures) (decoded_plan long)
-plan_continues None pictures more last long is stopped =
-    subst (λ (ps : List PicturePlan). Continues (decoded_from None pictures) (decoded_from long.stop ps)) (sym is) (from_continues long.stop pictures more)
-plan_continues (Some e) pictures more last long is stopped =
-    subst (λ (q : Planned). Continues (decoded_from (Some e) pictures) (decoded_plan q)) (sym (stopped e refl)) (same_continues (decoded_from (Some e) pictures))
+-- nothing goes out at the end of an input that goes on
+next_last : (r : Result Between Stop) (f : Between → Planned) → ((n : Between) → (f n).last ≡ []) → (planned_next r f).last ≡ []
+next_last (Err e) f h = refl
+next_last (Ok n) f h = h n
+
+from_last : (s : Between) (told : List Told) → (planned_from false s told).last ≡ []
+from_last s [] = refl
+from_last s (t ∷ later) = next_last (step s t).next (λ n. planned_from false n later) (λ n. from_last n later)
+
+open_last : (front : List ℕ) → (planned_of false front).last ≡ []
+unfolding planned_of
+open_last front = from_last beginning (told_of false front)
+
+plan_continues : (short : Planned) (stop : Option Stop) (long : Planned) → short.stop ≡ stop → short.last ≡ [] → Extends short long → Continues (decoded_plan short) (decoded_plan long)
+plan_continues short None long is none extends =
+    subst (λ (d : Decoded). Continues d (decoded_plan long))
+    (ap (λ (last : List ℕ). decoded_from (finished last None) short.pictures []) (sym none) ∙ ap (λ (s : Option Stop). decoded_from (finished short.last s) short.pictures []) (sym is))
+    (subst (λ (ps : List PicturePlan). Continues (decoded_from (finished [] None) short.pictures []) (decoded_from (finished long.last long.stop) ps [])) (sym extends.pictures)
+    (from_continues (finished long.last long.stop) short.pictures extends.more []))
+plan_continues short (Some e) long is none extends =
+    subst (λ (q : Planned). Continues (decoded_plan short) (decoded_plan q)) (sym (extends.stopped e is)) (same_continues (decoded_plan short))
 
 pub of_continues : (front rest : List ℕ) (ended : Bool) → Continues (decoded false front) (decoded ended (front ++ rest))
 unfolding decoded
 of_continues front rest ended =
-    let short : Planned = planned_of false front in
-    let long : Planned = planned_of ended (front ++ rest) in
-    let extends : Extends short long = of_extends front rest ended in
-    plan_continues short.stop short.pictures extends.more short.last long extends.pictures extends.stopped
+    plan_continues (planned_of false front) (planned_of false front).stop (planned_of ended (front ++ rest)) refl (open_last front) (of_extends front rest ended)

@@ -1,46 +1,55 @@
 -- A stream alone decides how its decoding ends.
-use Rattle.std.proofs.Common.{ℕ, Bool, List, [], ◌∷◌, Option, Some, None, Result, Ok, Err}
+use Rattle.std.proofs.Common.{ℕ, Bool, List, [], ◌∷◌, ◌++◌, Option, Some, None, Result, Ok, Err}
+use Rattle.std.specs.Prelude.{IfErr}
 use Rattle.hv_base.specs.declared.breach.Breach.{Breach}
 use Rattle.hv_base.specs.declared.breach.Breach.TheVariants as breach
 use Rattle.hv_base.specs.declared.limit.Feature.{Feature}
+use Rattle.hv_base.specs.declared.outcome.Outcome.{Outcome}
 use Rattle.hv_base.specs.declared.refusal.Stop.{Stop}
 use Rattle.hv_base.specs.declared.refusal.Stop.TheVariants as stop
-use Rattle.plan_types.specs.declared.segment_plan.SegmentPlan.{SegmentPlan}
+use Rattle.header_types.specs.declared.sps.PictureFormat.{PictureFormat}
 use Rattle.plan_types.specs.declared.picture_plan.PicturePlan.{PicturePlan}
-use Rattle.spec_coding_tree.specs.declared.tree.CodingUnit.{CodingUnit}
 use Rattle.spec_pictures.specs.Planned.{planned_of}
+use Rattle.spec_picture_data.specs.Picture.{PictureBroken}
+use Rattle.spec_picture_samples.specs.Border.{Samples}
+use Rattle.spec_picture_samples.specs.Built.{picture_built}
 use Rattle.spec_decoder.specs.Features.{unbuilt}
-use Rattle.spec_decoder.specs.Decoder.{Decoded, IsDecided, ending, told, read_as, segment_read, decoded_segments, decoded_built, decoded_picture, put_out, decoded_from, decoded}
+use Rattle.spec_decoder.specs.Decoder.{Decoded, DecodedPicture, IsDecided, ending, told_by, kept_from, decoded_data, decoded_built, decoded_picture, entered, decoded_from, finished, decoded}
 
-ending_decided : (end : Option Stop) → IsDecided (ending end)
+pub ending_decided : (end : Option Stop) → IsDecided (ending end)
 ending_decided None = tt
 ending_decided (Some (stop.Fault f)) = tt
 ending_decided (Some (stop.Limit l)) = tt
 
-told_decided : (nal : ℕ) (e : Breach) → IsDecided (told nal e)
-told_decided nal (breach.Fault kind) = tt
-told_decided nal (breach.Limit kind) = tt
+told_decided : (nal ctu : ℕ) (e : Breach) → IsDecided (told_by nal ctu e)
+told_decided nal ctu (breach.Fault kind) = tt
+told_decided nal ctu (breach.Limit kind) = tt
 
-read_decided : (nal : ℕ) (r : Result CodingUnit Breach) (later : Decoded) → IsDecided later.outcome → IsDecided (put_out (read_as nal r) later).outcome
-read_decided nal (Ok unit) later h = h
-read_decided nal (Err e) later h = told_decided nal e
+data_decided : (format : PictureFormat) (r : Result Samples PictureBroken) → IfErr (decoded_data format r) IsDecided
+data_decided format (Ok samples) = tt
+data_decided format (Err broken) = told_decided broken.nal broken.ctu broken.breach
 
-segments_decided : (p : PicturePlan) (segments : List SegmentPlan) (later : Decoded) → IsDecided later.outcome → IsDecided (put_out (decoded_segments p segments) later).outcome
-segments_decided p [] later h = h
-segments_decided p (s ∷ segments) later h = read_decided s.header.nal (segment_read p s) later h
+built_decided : (p : PicturePlan) (f : Option Feature) → IfErr (decoded_built p f) IsDecided
+built_decided p None = data_decided p.sps.format (picture_built p)
+built_decided p (Some f) = tt
 
-built_decided : (p : PicturePlan) (f : Option Feature) (later : Decoded) → IsDecided later.outcome → IsDecided (put_out (decoded_built p f) later).outcome
-built_decided p None later h = segments_decided p p.segments later h
-built_decided p (Some f) later h = tt
-
-pub picture_decided : (p : PicturePlan) (later : Decoded) → IsDecided later.outcome → IsDecided (put_out (decoded_picture p) later).outcome
+-- what ends decoding in a picture
+pub picture_decided : (p : PicturePlan) → IfErr (decoded_picture p) IsDecided
 unfolding decoded_picture
-picture_decided p later h = built_decided p (unbuilt p) later h
+picture_decided p = built_decided p (unbuilt p)
 
-from_decided : (end : Option Stop) (pictures : List PicturePlan) → IsDecided (decoded_from end pictures).outcome
-from_decided end [] = ending_decided end
-from_decided end (p ∷ pictures) = picture_decided p (decoded_from end pictures) (from_decided end pictures)
+entered_decided : (p : PicturePlan) (next : List DecodedPicture → Decoded) (buffer : List DecodedPicture) (r : Result DecodedPicture Outcome)
+    → IfErr r IsDecided → ((b : List DecodedPicture) → IsDecided (next b).outcome) → IsDecided (entered p next buffer r).outcome
+entered_decided p next buffer (Err o) decided later = decided
+entered_decided p next buffer (Ok picture) decided later = later (kept_from p.outputs.kept 0 (buffer ++ picture ∷ []))
+
+from_decided : (end : List DecodedPicture → Decoded) (pictures : List PicturePlan) (buffer : List DecodedPicture)
+    → ((b : List DecodedPicture) → IsDecided (end b).outcome) → IsDecided (decoded_from end pictures buffer).outcome
+from_decided end [] buffer h = h buffer
+from_decided end (p ∷ pictures) buffer h =
+    entered_decided p (decoded_from end pictures) buffer (decoded_picture p) (picture_decided p) (λ b. from_decided end pictures b h)
 
 pub of_decided : (ended : Bool) (bytes : List ℕ) → IsDecided (decoded ended bytes).outcome
 unfolding decoded
-of_decided ended bytes = from_decided (planned_of ended bytes).stop (planned_of ended bytes).pictures
+of_decided ended bytes =
+    from_decided (finished (planned_of ended bytes).last (planned_of ended bytes).stop) (planned_of ended bytes).pictures [] (λ b. ending_decided (planned_of ended bytes).stop)

@@ -1,4 +1,2 @@
 pub mod Continuing
 pub mod Deciding
-pub mod Payloads
-pub mod Outputs

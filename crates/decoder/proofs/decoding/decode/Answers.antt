@@ -1,5 +1,4 @@
 use Rattle.std.proofs.Common.{◌≡◌, true, false, subst}
-use Rattle.hv_base.specs.declared.outcome.Outcome.{Outcome}
 use Rattle.hv_base.specs.declared.outcome.Outcome.TheVariants as outcome
 use Rattle.hv_io.specs.declared.transfers.InputEnd.{InputEnd}
 use Rattle.hv_io.specs.declared.transfers.InputEnd.TheVariants as input

@@ -1,8 +1,9 @@
--- The pictures so far are written.
+-- The pictures so far are decoded.
 use Rattle.std.proofs.Common.{drop}
+use Rattle.decoder.specs.Buffers.{buffer_of}
 use Rattle.decoder.specs.Headline.{change_of}
 use Rattle.decoder.specs.Writing.{Passes}
 use Rattle.decoder.proofs.writing.write_pictures.Given as goal
 
 abbrev pub invariant-loop-picture : goal.invariant-loop-picture
-invariant-loop-picture g l = Passes (change_of g.O.Sink.contents g.O.Sink.faults l.fn.out l.out) l.pictures (drop l.picture-index l.pictures)
+invariant-loop-picture g l = Passes (change_of g.O.Sink.contents g.O.Sink.faults l.fn.out l.out) l.pictures (buffer_of l.fn.buffer) (drop l.picture-index l.pictures) (buffer_of l.buffer)

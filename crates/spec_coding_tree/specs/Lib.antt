@@ -1,3 +1,0 @@
-pub mod Reading
-pub mod Elements
-pub mod Grammar
