@@ -23,7 +23,7 @@ mod output_trace;
 mod plan_trace;
 mod pps_lines;
 mod reference_lines;
-mod row_trace;
+mod row_lines;
 mod set_lists;
 mod set_trace;
 mod slice_lines;
@@ -35,7 +35,6 @@ mod weight_lines;
 
 use crate::output_trace::OutputTrace;
 use crate::plan_trace::{PlanLines, PlanTrace};
-use crate::row_trace::RowTrace;
 use crate::set_trace::print_set;
 use crate::trace_error::TraceError;
 use crate::tree_trace::TreeTrace;
@@ -149,8 +148,8 @@ fn asked_for(rt: &HostRuntime, word: &str) -> Result<Trace, TraceError> {
         "pictures" => plan(rt, PlanLines::Pictures),
         "slices" => plan(rt, PlanLines::Slices),
         "outputs" => plan(rt, PlanLines::Outputs(OutputTrace::new(rt.alloc()))),
-        "trees" => plan(rt, PlanLines::Trees(TreeTrace::new(rt.alloc()))),
-        "rows" => plan(rt, PlanLines::Rows(RowTrace::new(rt.alloc()))),
+        "trees" => plan(rt, PlanLines::Trees(TreeTrace::new(rt.alloc(), false))),
+        "rows" => plan(rt, PlanLines::Trees(TreeTrace::new(rt.alloc(), true))),
         _ => Err(TraceError::Usage),
     }
 }

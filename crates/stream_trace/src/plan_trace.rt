@@ -1,7 +1,6 @@
 //! The planned pictures as lines.
 
 use crate::output_trace::{OutputTrace, PictureLine};
-use crate::row_trace::RowTrace;
 use crate::slice_lines::slice_lines;
 use crate::trace_error::TraceError;
 use crate::tree_trace::TreeTrace;
@@ -21,10 +20,8 @@ pub(crate) enum PlanLines {
     Slices,
     /// A line a picture, in output order.
     Outputs(OutputTrace),
-    /// The coding trees of pictures of I slices, in decoding order.
+    /// The coding trees of pictures of I slices, or their samples by rows, in decoding order.
     Trees(TreeTrace),
-    /// The samples of pictures of I slices by rows, in decoding order.
-    Rows(RowTrace),
 }
 
 /// Prints pictures as they are planned.
@@ -52,7 +49,6 @@ impl PlanTrace {
     pub(crate) fn stop(&self) -> Option<Stop> {
         match &self.lines {
             PlanLines::Trees(trees) => trees.stop().or(self.stop),
-            PlanLines::Rows(rows) => rows.stop().or(self.stop),
             _ => self.stop,
         }
     }
@@ -97,8 +93,7 @@ impl PlanTrace {
             }
         }
         match &mut self.lines {
-            PlanLines::Pictures | PlanLines::Slices | PlanLines::Trees(_) | PlanLines::Rows(_) =>
-                Ok(()),
+            PlanLines::Pictures | PlanLines::Slices | PlanLines::Trees(_) => Ok(()),
             PlanLines::Outputs(outputs) => outputs.print_places(last, out),
         }
     }
@@ -141,7 +136,6 @@ fn print_picture<W: Write>(
         }
         PlanLines::Outputs(outputs) => outputs.print_picture(picture, out),
         PlanLines::Trees(trees) => trees.print_picture(number, picture, out),
-        PlanLines::Rows(rows) => rows.print_picture(number, picture, out),
     }
 }
 

@@ -1,5 +1,6 @@
-//! The coding trees of pictures of I slices, read and printed.
+//! The coding trees or the samples of pictures of I slices, read and printed.
 
+use crate::row_lines::print_built;
 use crate::trace_error::TraceError;
 use crate::tree_lines::{UnitOrigin, unit_items, unit_start};
 use ctu_records::Records;
@@ -10,17 +11,23 @@ use plan_types::{PicturePlan, SegmentPlan};
 use std::alloc::{AllocError, Global};
 use std::io::Write;
 
-/// Prints the coding trees of pictures, up to the first broken rule.
+/// Prints the coding trees of pictures, or their samples by rows, up to the first broken rule.
 #[derive(Drop)]
 pub(crate) struct TreeTrace {
     alloc: Global,
+    /// Whether rows of samples are printed.
+    rows: bool,
     stop: Option<Stop>,
 }
 
 impl TreeTrace {
     /// Before the first picture.
-    pub(crate) fn new(alloc: Global) -> TreeTrace {
-        TreeTrace { alloc, stop: None }
+    pub(crate) fn new(alloc: Global, rows: bool) -> TreeTrace {
+        TreeTrace {
+            alloc,
+            rows,
+            stop: None,
+        }
     }
 
     /// The rule that the data of a picture broke, if any did.
@@ -37,14 +44,27 @@ impl TreeTrace {
     ) -> Result<(), TraceError> {
         if self.stop.is_none() && is_intra(picture) {
             picture_start(out, number, picture)?;
-            self.stop = print_units(self.alloc, picture, out)?;
+            self.stop = self.print_read(picture, out)?;
         }
         Ok(())
+    }
+
+    /// Prints what is read of a picture, and answers what its data break.
+    fn print_read<W: Write>(
+        &self,
+        picture: &PicturePlan,
+        out: &mut W,
+    ) -> Result<Option<Stop>, TraceError> {
+        if self.rows {
+            print_built(self.alloc, picture, out)
+        } else {
+            print_units(self.alloc, picture, out)
+        }
     }
 }
 
 /// Whether the slices of a picture are all I.
-pub(crate) fn is_intra(picture: &PicturePlan) -> bool {
+fn is_intra(picture: &PicturePlan) -> bool {
     picture.segments.as_slice().iter().all(is_i)
 }
 
@@ -53,7 +73,7 @@ fn is_i(segment: &SegmentPlan) -> bool {
 }
 
 /// A picture's line: its number in decoding order, the number of its first unit, its size, and the types of its slices.
-pub(crate) fn picture_start<W: Write>(
+fn picture_start<W: Write>(
     out: &mut W,
     number: u64,
     picture: &PicturePlan,
