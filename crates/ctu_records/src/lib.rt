@@ -6,11 +6,13 @@ mod item;
 mod neighbours;
 mod offset;
 mod places;
+mod prediction;
 mod records;
 mod side;
 
 pub use item::{CodedBlock, CodingUnit, Item, LumaMode, QpDelta, Square, TransformUnit};
 pub use neighbours::{Neighbours, Picture};
 pub use offset::{ComponentOffset, Sao};
+pub use prediction::{MotionSyntax, Mv, PartMode, PredictionUnit, Rectangle, VectorSyntax};
 pub use records::{Quantization, Records};
 pub use side::Side;
