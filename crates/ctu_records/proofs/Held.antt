@@ -3,10 +3,11 @@ use Rattle.std.proofs.Common.{◌≡◌, ℕ, ◌+◌, ◌*◌, ◌<◌, List, [
 use Rattle.std.specs.List.{fold}
 use Rattle.std.proofs.lemmas.List.{get_or-replicate}
 use Rattle.std.proofs.lemmas.List.Sums.{fold-append}
+use Rattle.ctu_records.specs.declared.item.CodingPlace.{CodingPlace}
 use Rattle.ctu_records.specs.declared.item.Item.{Item}
-use Rattle.ctu_records.specs.declared.item.Item.TheVariants.{Unit, Luma, Chroma, Pcm, Sample, Transform, Delta, Block, Level}
+use Rattle.ctu_records.specs.declared.item.Item.TheVariants.{Unit, Luma, Chroma, Prediction, Pcm, Sample, Transform, Delta, Block, Level}
 use Rattle.ctu_records.specs.Places.{Holds, inside, overlay, by_place}
-use Rattle.ctu_records.specs.Tree.{depth_laid, luma_mode_laid, qp_laid, lays_nothing}
+use Rattle.ctu_records.specs.Tree.{coding_laid, luma_mode_laid, qp_laid, lays_nothing}
 
 pub held_none : {A X : Type 0} (d v : A) (step : (ℕ → ℕ → A) → X → ℕ → ℕ → A) (cells : List A) (items : List X) → cells ≡ replicate 256 v → items ≡ [] → Holds d cells (fold step (λ i j. v) items)
 held_none d v step cells items e none = rw (e, none) (record {
@@ -29,21 +30,23 @@ held_laid d v x y side cells new places held count laid = record {
 }
 
 -- an item that lays nothing leaves what was held
-pub depth_stays : (depths : ℕ → ℕ → ℕ) (item : Item) → lays_nothing item ≡ true → depth_laid depths item ≡ depths
-depth_stays depths (Unit unit) e = absurd cc
-depth_stays depths (Luma luma) e = refl
-depth_stays depths (Chroma mode) e = refl
-depth_stays depths (Pcm square) e = refl
-depth_stays depths (Sample value) e = refl
-depth_stays depths (Transform unit) e = refl
-depth_stays depths (Delta delta) e = refl
-depth_stays depths (Block block) e = refl
-depth_stays depths (Level place value) e = refl
+pub coding_stays : (places : ℕ → ℕ → CodingPlace) (item : Item) → lays_nothing item ≡ true → coding_laid places item ≡ places
+coding_stays places (Unit unit) e = absurd cc
+coding_stays places (Luma luma) e = refl
+coding_stays places (Chroma mode) e = refl
+coding_stays places (Prediction unit) e = refl
+coding_stays places (Pcm square) e = refl
+coding_stays places (Sample value) e = refl
+coding_stays places (Transform unit) e = refl
+coding_stays places (Delta delta) e = refl
+coding_stays places (Block block) e = refl
+coding_stays places (Level place value) e = refl
 
 pub mode_stays : (modes : ℕ → ℕ → ℕ) (item : Item) → lays_nothing item ≡ true → luma_mode_laid modes item ≡ modes
 mode_stays modes (Unit unit) e = refl
 mode_stays modes (Luma luma) e = absurd cc
 mode_stays modes (Chroma mode) e = refl
+mode_stays modes (Prediction unit) e = refl
 mode_stays modes (Pcm square) e = refl
 mode_stays modes (Sample value) e = refl
 mode_stays modes (Transform unit) e = refl
@@ -55,6 +58,7 @@ pub qp_stays : (qps : ℕ → ℕ → ℕ) (item : Item) → lays_nothing item �
 qp_stays qps (Unit unit) e = absurd cc
 qp_stays qps (Luma luma) e = refl
 qp_stays qps (Chroma mode) e = refl
+qp_stays qps (Prediction unit) e = refl
 qp_stays qps (Pcm square) e = refl
 qp_stays qps (Sample value) e = refl
 qp_stays qps (Transform unit) e = refl

@@ -2,8 +2,10 @@
 use Rattle.std.specs.Prelude.{◌≡◌, ℕ, ◌+◌, ◌-◌, ◌^◌, ◌≤◌, ◌==◌, Bool, true, false, List, [], ◌∷◌, ◌++◌, slice_index_or, map, nat_lt, if◌then◌else◌, length}
 use Rattle.std.specs.List.{range_with_len, fold}
 use Rattle.ctu_records.specs.declared.item.Square.{Square}
+use Rattle.ctu_records.specs.declared.item.CodingPlace.{CodingPlace}
+use Rattle.ctu_records.specs.declared.item.CodingUnit.{CodingUnit}
 use Rattle.ctu_records.specs.declared.item.Item.{Item}
-use Rattle.ctu_records.specs.declared.item.Item.TheVariants.{Unit, Luma, Chroma, Pcm, Sample, Transform, Delta, Block, Level}
+use Rattle.ctu_records.specs.declared.item.Item.TheVariants.{Unit, Luma, Chroma, Prediction, Pcm, Sample, Transform, Delta, Block, Level}
 use Rattle.ctu_records.specs.declared.side.Side.{Side}
 use Rattle.ctu_records.specs.declared.offset.Sao.{Sao}
 use Rattle.ctu_records.specs.declared.records.Quantization.{Quantization}
@@ -35,28 +37,40 @@ with_quantization ctu quantization = record { size = ctu.size; left = ctu.left; 
 abbrev pub laid : {A : Type 0} → Square → A → (ℕ → ℕ → A) → ℕ → ℕ → A
 laid square value places = overlay square.x square.y (2 ^ square.log2_size) value places
 
-abbrev pub depth_laid : (ℕ → ℕ → ℕ) → Item → ℕ → ℕ → ℕ
-depth_laid depths (Unit unit) = laid unit.square unit.depth depths
-depth_laid depths (Luma luma) = depths
-depth_laid depths (Chroma mode) = depths
-depth_laid depths (Pcm square) = depths
-depth_laid depths (Sample value) = depths
-depth_laid depths (Transform unit) = depths
-depth_laid depths (Delta delta) = depths
-depth_laid depths (Block block) = depths
-depth_laid depths (Level place value) = depths
+-- what a coding unit tells of its places
+abbrev pub coding_place : CodingUnit → CodingPlace
+coding_place unit = record { depth = unit.depth; skipped = unit.skipped; intra = unit.intra }
+
+abbrev pub coding_laid : (ℕ → ℕ → CodingPlace) → Item → ℕ → ℕ → CodingPlace
+coding_laid places (Unit unit) = laid unit.square (coding_place unit) places
+coding_laid places (Luma luma) = places
+coding_laid places (Chroma mode) = places
+coding_laid places (Prediction unit) = places
+coding_laid places (Pcm square) = places
+coding_laid places (Sample value) = places
+coding_laid places (Transform unit) = places
+coding_laid places (Delta delta) = places
+coding_laid places (Block block) = places
+coding_laid places (Level place value) = places
+
+abbrev pub no_coding : CodingPlace
+no_coding = record { depth = 0; skipped = false; intra = false }
+
+abbrev pub no_codings : ℕ → ℕ → CodingPlace
+no_codings i j = no_coding
 
 abbrev pub not_read : ℕ → ℕ → ℕ
 not_read i j = 0
 
--- CtDepth of a place of the unit, by what was read
-unfoldable pub depth_at : List Item → ℕ → ℕ → ℕ
-depth_at items = fold depth_laid not_read items
+-- CtDepth, cu_skip_flag and CuPredMode of a place of the unit, by what was read
+unfoldable pub coding_at : List Item → ℕ → ℕ → CodingPlace
+coding_at items = fold coding_laid no_codings items
 
 abbrev pub luma_mode_laid : (ℕ → ℕ → ℕ) → Item → ℕ → ℕ → ℕ
 luma_mode_laid modes (Unit unit) = modes
 luma_mode_laid modes (Luma luma) = laid luma.square luma.mode modes
 luma_mode_laid modes (Chroma mode) = modes
+luma_mode_laid modes (Prediction unit) = modes
 luma_mode_laid modes (Pcm square) = modes
 luma_mode_laid modes (Sample value) = modes
 luma_mode_laid modes (Transform unit) = modes
@@ -76,6 +90,7 @@ abbrev pub qp_laid : (ℕ → ℕ → ℕ) → Item → ℕ → ℕ → ℕ
 qp_laid qps (Unit unit) = laid unit.square unit.qp qps
 qp_laid qps (Luma luma) = qps
 qp_laid qps (Chroma mode) = qps
+qp_laid qps (Prediction unit) = qps
 qp_laid qps (Pcm square) = qps
 qp_laid qps (Sample value) = qps
 qp_laid qps (Transform unit) = qps
@@ -97,11 +112,19 @@ side count f = map (λ k. if nat_lt k count then f k else no_side) (range_with_l
 
 -- CtDepth left of a place
 unfoldable pub depth_left : Ctu → ℕ → ℕ → ℕ
-depth_left ctu x y = if x == 0 then (slice_index_or ctu.left y no_side).depth else depth_at ctu.items (x - 1) y
+depth_left ctu x y = if x == 0 then (slice_index_or ctu.left y no_side).depth else (coding_at ctu.items (x - 1) y).depth
 
 -- CtDepth above a place
 unfoldable pub depth_above : Ctu → ℕ → ℕ → ℕ
-depth_above ctu x y = if y == 0 then (slice_index_or ctu.above x no_side).depth else depth_at ctu.items x (y - 1)
+depth_above ctu x y = if y == 0 then (slice_index_or ctu.above x no_side).depth else (coding_at ctu.items x (y - 1)).depth
+
+-- cu_skip_flag left of a place
+unfoldable pub skipped_left : Ctu → ℕ → ℕ → Bool
+skipped_left ctu x y = if x == 0 then (slice_index_or ctu.left y no_side).skipped else (coding_at ctu.items (x - 1) y).skipped
+
+-- cu_skip_flag above a place
+unfoldable pub skipped_above : Ctu → ℕ → ℕ → Bool
+skipped_above ctu x y = if y == 0 then (slice_index_or ctu.above x no_side).skipped else (coding_at ctu.items x (y - 1)).skipped
 
 -- candIntraPredModeX of the place on the left (8.4.2)
 unfoldable pub mode_left : Ctu → ℕ → ℕ → ℕ
@@ -130,6 +153,7 @@ abbrev pub lays_nothing : Item → Bool
 lays_nothing (Unit unit) = false
 lays_nothing (Luma luma) = false
 lays_nothing (Chroma mode) = true
+lays_nothing (Prediction unit) = true
 lays_nothing (Pcm square) = true
 lays_nothing (Sample value) = true
 lays_nothing (Transform unit) = true
@@ -142,11 +166,11 @@ abbrev pub room : ℕ
 room = 16384
 
 -- what the records keep
-pub record AreKept (size : ℕ) (left above : List Side) (items : List Item) (capacity : ℕ) (depths modes qps : List ℕ) : Type 0 where
+pub record AreKept (size : ℕ) (left above : List Side) (items : List Item) (capacity : ℕ) (codings : List CodingPlace) (modes qps : List ℕ) : Type 0 where
   pub small : size ≤ 4
   pub lefts : length left ≡ 16
   pub aboves : length above ≡ 16
   pub enough : room ≤ capacity
-  pub depth : Holds 0 depths (depth_at items)
+  pub coding : Holds no_coding codings (coding_at items)
   pub mode : Holds 1 modes (luma_mode_at items)
   pub qp : Holds 0 qps (qp_at items)

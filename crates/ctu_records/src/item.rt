@@ -1,5 +1,7 @@
 //! The items of a coding tree unit. A place is a block of 4x4 luma samples.
 
+use crate::prediction::PredictionUnit;
+
 /// A square of a coding tree unit: its first place, counted from the unit's first, and the binary logarithm of its side
 /// in places.
 #[derive(Clone, Copy, Debug, PartialEq, Eq)]
@@ -19,10 +21,23 @@ pub struct CodingUnit {
     pub transquant_bypass: bool,
     /// cu_skip_flag.
     pub skipped: bool,
+    /// Whether CuPredMode is MODE_INTRA.
+    pub intra: bool,
     /// qPY_PRED of its quantization group, on the scale of Qp'Y.
     pub qp_predicted: u8,
     /// Qp'Y by what was read of its quantization group before it.
     pub qp: u8,
+}
+
+/// What a coding unit tells of its places (7.4.9.5).
+#[derive(Clone, Copy, Debug, PartialEq, Eq)]
+pub struct CodingPlace {
+    /// CtDepth.
+    pub depth: u8,
+    /// cu_skip_flag.
+    pub skipped: bool,
+    /// Whether CuPredMode is MODE_INTRA.
+    pub intra: bool,
 }
 
 /// IntraPredModeY of a prediction block (8.4.2).
@@ -76,6 +91,8 @@ pub enum Item {
     Luma(LumaMode),
     /// IntraPredModeC of the coding unit (8.4.3).
     Chroma(u8),
+    /// The next prediction unit of an inter coding unit.
+    Prediction(PredictionUnit),
     /// A coding unit by pulse code modulation, whose samples follow: luma, Cb, Cr.
     Pcm(Square),
     /// pcm_sample_luma or pcm_sample_chroma.

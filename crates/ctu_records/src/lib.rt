@@ -10,9 +10,13 @@ mod prediction;
 mod records;
 mod side;
 
-pub use item::{CodedBlock, CodingUnit, Item, LumaMode, QpDelta, Square, TransformUnit};
+pub use item::{
+    CodedBlock, CodingPlace, CodingUnit, Item, LumaMode, QpDelta, Square, TransformUnit,
+};
 pub use neighbours::{Neighbours, Picture};
 pub use offset::{ComponentOffset, Sao};
-pub use prediction::{MotionSyntax, Mv, PartMode, PredictionUnit, Rectangle, VectorSyntax};
+pub use prediction::{
+    MotionSyntax, Mv, PartMode, PredictionUnit, Rectangle, VectorSyntax, part_block,
+};
 pub use records::{Quantization, Records};
 pub use side::Side;

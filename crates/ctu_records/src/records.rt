@@ -2,9 +2,9 @@
 
 ghost use Rattle.std.specs.Prelude.{◌≡◌, ℕ, Bool, true, ◌+◌, ◌-◌, ◌*◌, ◌^◌, ◌<◌, ◌≤◌, List, [], ◌∷◌, ◌++◌, length, IfOk, vec_capacity};
 ghost use Rattle.ctu_records.specs.declared.item.Item.TheVariants.{Unit, Luma, Delta};
-ghost use Rattle.ctu_records.specs.Tree.{Ctu, added, with_size, with_sao, with_quantization, depth_left, depth_above, mode_left, mode_above, qp_left, qp_above, luma_mode_at, depth_at, qp_at, IsPlaced, lays_nothing, room};
+ghost use Rattle.ctu_records.specs.Tree.{Ctu, added, with_size, with_sao, with_quantization, depth_left, depth_above, skipped_left, skipped_above, mode_left, mode_above, qp_left, qp_above, luma_mode_at, coding_at, qp_at, IsPlaced, lays_nothing, room};
 
-use crate::item::{CodingUnit, Item, LumaMode, QpDelta};
+use crate::item::{CodingPlace, CodingUnit, Item, LumaMode, QpDelta};
 use crate::offset::{ComponentOffset, Sao};
 use crate::places::lay;
 use crate::side::Side;
@@ -33,7 +33,7 @@ pub struct Records {
     sao: Sao,
     quantization: Quantization,
     items: Vec<Item>,
-    depths: [u8; 256],
+    codings: [CodingPlace; 256],
     modes: [u8; 256],
     qps: [u8; 256],
 }
@@ -46,7 +46,7 @@ impl Model for Records {
 
     ghost view = { λ r. record { size = r.size; left = r.left; above = r.above; sao = r.sao; quantization = r.quantization; items = r.items.items } };
 
-    ghost invariant = { λ r. AreKept r.size r.left r.above r.items.items (vec_capacity r.items) r.depths r.modes r.qps };
+    ghost invariant = { λ r. AreKept r.size r.left r.above r.items.items (vec_capacity r.items) r.codings r.modes r.qps };
 }
 
 /// How many items a unit has at most: 64 a place of the greatest one.
@@ -59,6 +59,13 @@ const NO_SIDE: Side = Side {
     intra: false,
     luma_mode: 1,
     qp: 0,
+};
+
+/// A place of which nothing was read.
+const NO_CODING: CodingPlace = CodingPlace {
+    depth: 0,
+    skipped: false,
+    intra: false,
 };
 
 /// No sample adaptive offset.
@@ -89,7 +96,7 @@ impl Records {
                 coded: false,
             },
             items,
-            depths: [0; 256],
+            codings: [NO_CODING; 256],
             modes: [1; 256],
             qps: [0; 256],
         })
@@ -103,7 +110,7 @@ impl Records {
         self.above = above;
         self.quantization = quantization;
         self.items.clear();
-        self.depths = [0; 256];
+        self.codings = [NO_CODING; 256];
         self.modes = [1; 256];
         self.qps = [0; 256];
     }
@@ -139,7 +146,12 @@ impl Records {
         let x = usize::from(unit.square.x);
         let y = usize::from(unit.square.y);
         let side = side(unit.square.log2_size);
-        lay(&mut self.depths, x, y, side, unit.depth);
+        let coding = CodingPlace {
+            depth: unit.depth,
+            skipped: unit.skipped,
+            intra: unit.intra,
+        };
+        lay(&mut self.codings, x, y, side, coding);
         lay(&mut self.qps, x, y, side, unit.qp);
         put(&mut self.items, Item::Unit(unit));
     }
@@ -209,13 +221,13 @@ impl Records {
         self.quantization
     }
 
-    /// CtDepth of a place.
-    pub fn depth(&self, x: usize, y: usize) -> u8
+    /// What the coding unit of a place tells of it.
+    pub fn coding(&self, x: usize, y: usize) -> CodingPlace
         requires x { x < 16 }
         requires y { y < 16 }
-        ensures { result ≡ depth_at self.now.items x y }
+        ensures { result ≡ coding_at self.now.items x y }
     {
-        self.depths[16 * y + x]
+        self.codings[16 * y + x]
     }
 
     /// IntraPredModeY of a place; INTRA_DC where it has none.
@@ -246,7 +258,7 @@ impl Records {
         if x == 0 {
             self.left[y].depth
         } else {
-            self.depth(x - 1, y)
+            self.coding(x - 1, y).depth
         }
     }
 
@@ -260,7 +272,35 @@ impl Records {
         if y == 0 {
             self.above[x].depth
         } else {
-            self.depth(x, y - 1)
+            self.coding(x, y - 1).depth
+        }
+    }
+
+    /// cu_skip_flag left of a place.
+    #[tactic(auto, unfolding(crate::specs::Tree::skipped_left))]
+    pub fn skipped_left(&self, x: usize, y: usize) -> bool
+        requires x { x < 16 }
+        requires y { y < 16 }
+        ensures { result ≡ skipped_left self.now x y }
+    {
+        if x == 0 {
+            self.left[y].skipped
+        } else {
+            self.coding(x - 1, y).skipped
+        }
+    }
+
+    /// cu_skip_flag above a place.
+    #[tactic(auto, unfolding(crate::specs::Tree::skipped_above))]
+    pub fn skipped_above(&self, x: usize, y: usize) -> bool
+        requires x { x < 16 }
+        requires y { y < 16 }
+        ensures { result ≡ skipped_above self.now x y }
+    {
+        if y == 0 {
+            self.above[x].skipped
+        } else {
+            self.coding(x, y - 1).skipped
         }
     }
 
