@@ -3,6 +3,7 @@ pub mod Offset
 pub mod Modes
 pub mod Quantization
 pub mod Residual
+pub mod Inter
 pub mod Transform
 pub mod Tree
 pub mod Segment

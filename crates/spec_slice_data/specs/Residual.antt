@@ -26,9 +26,9 @@ scan_of_mode mode =
     if nat_le 6 mode && nat_le mode 14 then Vertical
     else (if nat_le 22 mode && nat_le mode 30 then Horizontal else Diagonal)
 
--- scanIdx of a block of an intra coding unit (7.4.9.11)
-unfoldable pub scan_of : TransformBlock → Scan
-scan_of block = if scans_by_mode block then scan_of_mode block.mode else Diagonal
+-- scanIdx of a block: in an inter coding unit always diagonal (7.4.9.11)
+unfoldable pub scan_of : UnitSyntax → TransformBlock → Scan
+scan_of unit block = if unit.intra && scans_by_mode block then scan_of_mode block.mode else Diagonal
 
 -- how many samples of a component a place has on a side
 abbrev pub samples_of_place : ℕ → ℕ
@@ -41,7 +41,7 @@ residual_block syntax unit block = record {
   x = samples_of_place block.component * block.x;
   y = samples_of_place block.component * block.y;
   log2 = block.log2_size;
-  scan = scan_of block;
+  scan = scan_of unit block;
   bypass = unit.transquant_bypass;
   skip_enabled = syntax.transform_skip_enabled;
   sign_hiding = syntax.sign_data_hiding_enabled;

@@ -5,7 +5,7 @@ use Rattle.hv_base.specs.declared.breach.Breach.TheVariants as breach
 use Rattle.hv_base.specs.declared.fault.FaultKind.TheVariants as rule
 use Rattle.ctu_records.specs.declared.side.Side.{Side}
 use Rattle.ctu_records.specs.declared.records.Quantization.{Quantization}
-use Rattle.ctu_records.specs.Tree.{Ctu, depth_at, luma_mode_at, qp_at, side}
+use Rattle.ctu_records.specs.Tree.{Ctu, coding_at, luma_mode_at, qp_at, side}
 use Rattle.spec_bits.specs.Bits.{bits}
 use Rattle.spec_cabac.specs.Engine.{Engine, start_at, is_trailing}
 use Rattle.spec_cabac.specs.Bins.{State, Tree, Bin, BinValue, bin_at, read, data_end}
@@ -77,7 +77,13 @@ has_above picture segment address = nat_le picture.width address && same_slice s
 
 -- what was read of a place of a unit
 abbrev pub side_of : Ctu → ℕ → ℕ → Side
-side_of ctu x y = record { depth = depth_at ctu.items x y; skipped = false; intra = true; luma_mode = luma_mode_at ctu.items x y; qp = qp_at ctu.items x y }
+side_of ctu x y = record {
+  depth = (coding_at ctu.items x y).depth;
+  skipped = (coding_at ctu.items x y).skipped;
+  intra = (coding_at ctu.items x y).intra;
+  luma_mode = luma_mode_at ctu.items x y;
+  qp = qp_at ctu.items x y;
+}
 
 abbrev pub places_left : ℕ → ℕ → ℕ
 places_left whole before = whole - before
@@ -115,6 +121,7 @@ syntax_at common picture segment address =
       transform_skip_enabled = common.transform_skip_enabled;
       sign_data_hiding_enabled = common.sign_data_hiding_enabled;
       pcm = common.pcm;
+      inter = common.inter;
       sao_luma = common.sao_luma;
       sao_chroma = common.sao_chroma;
       has_left = has_left picture segment address;

@@ -1,5 +1,5 @@
--- transform_tree (7.3.8.8) and transform_unit (7.3.8.10) of intra coding units.
-use Rattle.std.specs.Prelude.{ℕ, zero, suc, ◌+◌, ◌-◌, ◌%◌, ◌==◌, ◌&&◌, ◌||◌, not, nat_le, nat_lt, Bool, false, if◌then◌else◌}
+-- transform_tree (7.3.8.8) and transform_unit (7.3.8.10).
+use Rattle.std.specs.Prelude.{ℕ, zero, suc, ◌+◌, ◌-◌, ◌%◌, ◌==◌, ◌&&◌, ◌||◌, not, nat_le, nat_lt, Bool, true, false, if◌then◌else◌}
 use Rattle.ctu_records.specs.declared.item.Item.TheVariants.{Transform}
 use Rattle.ctu_records.specs.declared.item.Square.{Square}
 use Rattle.ctu_records.specs.declared.item.TransformUnit.{TransformUnit}
@@ -15,13 +15,13 @@ use Rattle.spec_slice_data.specs.Modes.{upper_left, upper_right, lower_left, low
 use Rattle.spec_slice_data.specs.Quantization.{delta_where}
 use Rattle.spec_slice_data.specs.Residual.{coded_block}
 
--- whether the tree is split at its top without a flag: IntraSplitFlag
+-- whether the tree is split at its top without a flag: IntraSplitFlag, or interSplitFlag
 abbrev pub splits_first : UnitSyntax → ℕ → Bool
 splits_first unit depth = unit.split && depth == 0
 
 -- MaxTrafoDepth
 abbrev pub max_depth : CtuSyntax → UnitSyntax → ℕ
-max_depth syntax unit = syntax.max_depth_intra + (if unit.split then 1 else 0)
+max_depth syntax unit = if unit.intra then syntax.max_depth_intra + (if unit.split then 1 else 0) else syntax.inter.max_depth_inter
 
 -- split_transform_flag, or what it is taken to be (7.4.9.8)
 unfoldable pub split_transform_flag : CtuSyntax → UnitSyntax → ℕ → ℕ → Tree Bool
@@ -89,15 +89,18 @@ transform_blocks syntax unit cbf_luma flags square ctu = do
 abbrev pub transform : Square → ℕ → Bool → ChromaFlags → TransformUnit
 transform square depth cbf_luma flags = record { square = square; depth = depth; cbf_luma = cbf_luma; cbf_cb = flags.cb; cbf_cr = flags.cr }
 
--- cbf_luma
-abbrev pub cbf_luma_at : ℕ → Tree Bool
-cbf_luma_at depth = when depth == 0 then decision (CBF_LUMA + 1) else decision CBF_LUMA
+abbrev pub cbf_luma : ℕ → Tree Bool
+cbf_luma depth = when depth == 0 then decision (CBF_LUMA + 1) else decision CBF_LUMA
+
+-- cbf_luma, which is 1 at the top of an inter coding unit's tree without chroma
+unfoldable pub cbf_luma_at : UnitSyntax → ChromaFlags → ℕ → Tree Bool
+cbf_luma_at unit flags depth = when unit.intra || (nat_lt 0 depth || (flags.cb || flags.cr)) then cbf_luma depth else give true
 
 -- a node that isn't split
 unfoldable pub transform_unit : CtuSyntax → UnitSyntax → ChromaFlags → ℕ → Square → Ctu → Tree Ctu
 transform_unit syntax unit flags depth square ctu = do
-  cbf_luma ← cbf_luma_at depth
-  transform_blocks syntax unit cbf_luma flags square (added ctu (Transform (transform square depth cbf_luma flags)))
+  coded ← cbf_luma_at unit flags depth
+  transform_blocks syntax unit coded flags square (added ctu (Transform (transform square depth coded flags)))
 
 abbrev pub split_or_blocks : (ChromaFlags → Square → Ctu → Tree Ctu) → CtuSyntax → UnitSyntax → ChromaFlags → ℕ → Square → Ctu → Tree Ctu
 split_or_blocks quarter syntax unit above depth square ctu = do

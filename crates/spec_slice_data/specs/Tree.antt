@@ -1,4 +1,4 @@
--- coding_quadtree (7.3.8.4), coding_unit (7.3.8.5) and pcm_sample (7.3.8.6) of I slices, and the coding tree unit.
+-- coding_quadtree (7.3.8.4), coding_unit (7.3.8.5) and pcm_sample (7.3.8.7), and the coding tree unit.
 use Rattle.std.specs.Prelude.{ℕ, zero, suc, ◌+◌, ◌*◌, ◌^◌, ◌==◌, ◌&&◌, not, nat_le, nat_lt, Bool, true, false, if◌then◌else◌}
 use Rattle.hv_base.specs.declared.breach.Breach.TheVariants as breach
 use Rattle.hv_base.specs.declared.fault.FaultKind.TheVariants as rule
@@ -7,22 +7,24 @@ use Rattle.ctu_records.specs.declared.item.Square.{Square}
 use Rattle.ctu_records.specs.declared.item.CodingUnit.{CodingUnit}
 use Rattle.ctu_records.specs.declared.item.Item.TheVariants.{Unit, Chroma, Pcm, Sample}
 use Rattle.ctu_records.specs.declared.offset.Sao.{Sao}
+use Rattle.ctu_records.specs.declared.prediction.PartMode.{PartMode}
+use Rattle.ctu_records.specs.declared.prediction.PartMode.TheVariants.{Whole}
+use Rattle.ctu_records.specs.Prediction.{part_block}
 use Rattle.ctu_records.specs.Tree.{Ctu, added, with_sao, with_quantization, depth_left, depth_above}
 use Rattle.spec_cabac.specs.declared.init_values.TheConstants.{SPLIT_CU_FLAG, CU_TRANSQUANT_BYPASS_FLAG, PART_MODE}
 use Rattle.spec_cabac.specs.Bins.{Tree, decision, terminate, pcm_start, sample, pcm_end, times}
 use Rattle.spec_formats.specs.Format.{◌>>=◌, give, wanted, when◌then◌else◌}
 use Rattle.spec_slice_data.specs.declared.syntax.CtuSyntax.{CtuSyntax}
 use Rattle.spec_slice_data.specs.declared.syntax.PcmSyntax.{PcmSyntax}
+use Rattle.spec_slice_data.specs.declared.syntax.UnitStart.{UnitStart}
 use Rattle.spec_slice_data.specs.declared.syntax.UnitSyntax.{UnitSyntax}
 use Rattle.spec_slice_data.specs.declared.syntax.End.{End}
 use Rattle.spec_slice_data.specs.declared.syntax.End.TheVariants as end
 use Rattle.spec_slice_data.specs.Offset.{sao}
+use Rattle.spec_slice_data.specs.Inter.{one_if, cu_skip_flag, pred_mode_flag, part_mode, merged, motion, with_part, later_parts, rqt_root_cbf, splits_inter}
 use Rattle.spec_slice_data.specs.Modes.{upper_left, upper_right, lower_left, lower_right, luma_modes, chroma_modes}
 use Rattle.spec_slice_data.specs.Quantization.{grouped, unit_begun}
 use Rattle.spec_slice_data.specs.Transform.{transform_tree}
-
-abbrev pub one_if : Bool → ℕ
-one_if b = if b then 1 else 0
 
 -- how many of the places on the left and above are deeper (9.3.4.2.2)
 unfoldable pub deeper : Ctu → ℕ → ℕ → ℕ → ℕ
@@ -60,7 +62,7 @@ pcm_unit pcm square ctu = do
 abbrev pub cu_transquant_bypass_flag : CtuSyntax → Tree Bool
 cu_transquant_bypass_flag syntax = when syntax.transquant_bypass_enabled then decision CU_TRANSQUANT_BYPASS_FLAG else give false
 
--- whether the unit has four prediction blocks: part_mode, which only the least coding units have
+-- whether an intra coding unit has four prediction blocks: part_mode, which only the least ones have
 abbrev pub is_split : CtuSyntax → ℕ → Tree Bool
 is_split syntax n =
     when n == syntax.log2_min_coding
@@ -73,42 +75,88 @@ is_split syntax n =
 abbrev pub pcm_flag : PcmSyntax → Bool → ℕ → Tree Bool
 pcm_flag pcm split n = when (pcm.enabled && not split) && (nat_le pcm.log2_least n && nat_le n pcm.log2_greatest) then terminate else give false
 
-abbrev pub unit_at : ℕ → Square → Bool → Ctu → CodingUnit
-unit_at depth square transquant_bypass ctu = record {
-  square = square;
-  depth = depth;
-  transquant_bypass = transquant_bypass;
-  skipped = false;
+abbrev pub unit_at : UnitStart → Ctu → CodingUnit
+unit_at start ctu = record {
+  square = start.square;
+  depth = start.depth;
+  transquant_bypass = start.transquant_bypass;
+  skipped = start.skipped;
+  intra = start.intra;
   qp_predicted = ctu.quantization.predicted;
   qp = ctu.quantization.qp;
 }
 
 -- a coding unit begins
-unfoldable pub begun_unit : ℕ → Square → Bool → Ctu → Ctu
-begun_unit depth square transquant_bypass ctu =
-    added (with_quantization ctu (unit_begun ctu.quantization)) (Unit (unit_at depth square transquant_bypass ctu))
+unfoldable pub begun_unit : UnitStart → Ctu → Ctu
+begun_unit start ctu = added (with_quantization ctu (unit_begun ctu.quantization)) (Unit (unit_at start ctu))
 
-abbrev pub unit_syntax : Square → Bool → Bool → ℕ → UnitSyntax
-unit_syntax square transquant_bypass split mode = record { square = square; transquant_bypass = transquant_bypass; split = split; chroma_mode = mode }
+-- the transform tree of a coding unit
+abbrev pub unit_tree : CtuSyntax → UnitSyntax → Ctu → Tree Ctu
+unit_tree syntax unit ctu = transform_tree syntax unit (record { cb = true; cr = true }) unit.square.log2_size 0 unit.square ctu
+
+abbrev pub intra_syntax : UnitStart → Bool → ℕ → UnitSyntax
+intra_syntax start split mode = record { square = start.square; transquant_bypass = start.transquant_bypass; intra = true; split = split; chroma_mode = mode }
 
 -- an intra coding unit behind pcm_flag: its modes and its transform tree
-unfoldable pub intra_unit : CtuSyntax → Square → Bool → Bool → Ctu → Tree Ctu
-intra_unit syntax square transquant_bypass split ctu = do
-  predicted ← luma_modes split square ctu
-  mode ← chroma_modes square.x square.y predicted
-  transform_tree syntax (unit_syntax square transquant_bypass split mode) (record { cb = true; cr = true }) square.log2_size 0 square (added predicted (Chroma mode))
+unfoldable pub intra_unit : CtuSyntax → UnitStart → Bool → Ctu → Tree Ctu
+intra_unit syntax start split ctu = do
+  predicted ← luma_modes split start.square ctu
+  mode ← chroma_modes start.square.x start.square.y predicted
+  unit_tree syntax (intra_syntax start split mode) (added predicted (Chroma mode))
 
--- a coding unit behind cu_transquant_bypass_flag
-unfoldable pub unit_body : CtuSyntax → Square → Bool → Ctu → Tree Ctu
-unit_body syntax square transquant_bypass ctu = do
-  split ← is_split syntax square.log2_size
-  pcm ← pcm_flag syntax.pcm split square.log2_size
-  when pcm then pcm_unit syntax.pcm square ctu else intra_unit syntax square transquant_bypass split ctu
+-- an intra coding unit behind pred_mode_flag
+unfoldable pub intra_body : CtuSyntax → UnitStart → Ctu → Tree Ctu
+intra_body syntax start ctu = do
+  split ← is_split syntax start.square.log2_size
+  pcm ← pcm_flag syntax.pcm split start.square.log2_size
+  when pcm then pcm_unit syntax.pcm start.square ctu else intra_unit syntax start split ctu
+
+-- a skipped coding unit: one merged prediction unit
+unfoldable pub skipped_unit : CtuSyntax → UnitStart → Ctu → Tree Ctu
+skipped_unit syntax start ctu = do
+  told ← merged syntax.inter
+  give (with_part start.square Whole 0 told ctu)
+
+abbrev pub inter_syntax : CtuSyntax → UnitStart → PartMode → UnitSyntax
+inter_syntax syntax start mode = record {
+  square = start.square;
+  transquant_bypass = start.transquant_bypass;
+  intra = false;
+  split = splits_inter syntax.inter mode;
+  chroma_mode = 1;
+}
+
+-- the prediction units of an inter coding unit, and its transform tree if it has one
+unfoldable pub parts_and_tree : CtuSyntax → UnitStart → PartMode → Ctu → Tree Ctu
+parts_and_tree syntax start mode ctu = do
+  first ← motion syntax.inter start.depth (part_block start.square mode 0)
+  predicted ← later_parts syntax.inter start mode (with_part start.square mode 0 first ctu)
+  coded ← rqt_root_cbf mode first
+  when coded then unit_tree syntax (inter_syntax syntax start mode) predicted else give predicted
+
+-- an inter coding unit that isn't skipped
+unfoldable pub inter_unit : CtuSyntax → UnitStart → Ctu → Tree Ctu
+inter_unit syntax start ctu = do
+  mode ← part_mode syntax.inter (start.square.log2_size == syntax.log2_min_coding) start.square.log2_size
+  parts_and_tree syntax start mode ctu
+
+-- a coding unit behind pred_mode_flag
+abbrev pub unit_body : CtuSyntax → UnitStart → Ctu → Tree Ctu
+unit_body syntax start ctu =
+    when start.intra then intra_body syntax start ctu else (when start.skipped then skipped_unit syntax start ctu else inter_unit syntax start ctu)
+
+-- what a coding unit begins with
+unfoldable pub unit_start : CtuSyntax → ℕ → Square → Ctu → Tree UnitStart
+unit_start syntax depth square ctu = do
+  transquant_bypass ← cu_transquant_bypass_flag syntax
+  skipped ← cu_skip_flag syntax.inter square.x square.y ctu
+  intra ← pred_mode_flag syntax.inter skipped
+  give (record { square = square; depth = depth; transquant_bypass = transquant_bypass; skipped = skipped; intra = intra })
 
 unfoldable pub coding_unit : CtuSyntax → ℕ → Square → Ctu → Tree Ctu
 coding_unit syntax depth square ctu = do
-  transquant_bypass ← cu_transquant_bypass_flag syntax
-  unit_body syntax square transquant_bypass (begun_unit depth square transquant_bypass ctu)
+  start ← unit_start syntax depth square ctu
+  unit_body syntax start (begun_unit start ctu)
 
 abbrev pub split_or_unit : CtuSyntax → (Square → Ctu → Tree Ctu) → ℕ → Square → Ctu → Tree Ctu
 split_or_unit syntax quarter depth square ctu = do

@@ -1,5 +1,5 @@
 //! Slice segment data as the standard says them (H.265 7.3.8, 8.4.2, 8.4.3, 8.6.1, 9.3): the elements of a coding tree
-//! unit of an I slice in reading order, and what follows them. Each element is a format over bins.
+//! unit in reading order, and what follows them. Each element is a format over bins.
 #![tactic(auto)]
 
 mod laws;
@@ -10,4 +10,6 @@ pub use laws::{
     chroma_parameters_are_tabled, coding_tree_unit_is_spelled, slice_segment_data_are_spelled,
 };
 pub use modes::Candidates;
-pub use syntax::{ChromaFlags, CtuSyntax, End, PcmSyntax, TransformBlock, UnitSyntax};
+pub use syntax::{
+    ChromaFlags, CtuSyntax, End, InterSyntax, PcmSyntax, TransformBlock, UnitStart, UnitSyntax,
+};

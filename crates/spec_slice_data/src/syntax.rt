@@ -17,6 +17,27 @@ pub struct PcmSyntax {
     pub chroma_bits: u8,
 }
 
+/// What the elements of inter coding units depend on (7.4.3.2, 7.4.7.1).
+#[derive(Clone, Copy, Debug, PartialEq, Eq)]
+pub struct InterSyntax {
+    /// Whether slice_type is P or B.
+    pub is_inter: bool,
+    /// Whether slice_type is B.
+    pub is_b: bool,
+    /// MaxNumMergeCand.
+    pub max_merge: u8,
+    /// num_ref_idx_l0_active_minus1 + 1.
+    pub active_0: u8,
+    /// num_ref_idx_l1_active_minus1 + 1.
+    pub active_1: u8,
+    /// mvd_l1_zero_flag.
+    pub mvd_l1_zero: bool,
+    /// amp_enabled_flag.
+    pub amp_enabled: bool,
+    /// max_transform_hierarchy_depth_inter.
+    pub max_depth_inter: u8,
+}
+
 /// What the elements of a coding tree unit depend on, apart from the units before it.
 #[derive(Clone, Copy, Debug, PartialEq, Eq)]
 pub struct CtuSyntax {
@@ -37,6 +58,7 @@ pub struct CtuSyntax {
     pub transform_skip_enabled: bool,
     pub sign_data_hiding_enabled: bool,
     pub pcm: PcmSyntax,
+    pub inter: InterSyntax,
     /// slice_sao_luma_flag.
     pub sao_luma: bool,
     /// slice_sao_chroma_flag.
@@ -51,14 +73,30 @@ pub struct CtuSyntax {
     pub lower: u32,
 }
 
-/// What the transform tree of an intra coding unit depends on (7.3.8.7).
+/// What a coding unit begins with (7.3.8.5).
+#[derive(Clone, Copy, Debug, PartialEq, Eq)]
+pub struct UnitStart {
+    pub square: Square,
+    /// CtDepth.
+    pub depth: u8,
+    /// cu_transquant_bypass_flag.
+    pub transquant_bypass: bool,
+    /// cu_skip_flag.
+    pub skipped: bool,
+    /// Whether CuPredMode is MODE_INTRA.
+    pub intra: bool,
+}
+
+/// What the transform tree of a coding unit depends on (7.3.8.8).
 #[derive(Clone, Copy, Debug, PartialEq, Eq)]
 pub struct UnitSyntax {
     pub square: Square,
     pub transquant_bypass: bool,
-    /// IntraSplitFlag.
+    /// Whether CuPredMode is MODE_INTRA.
+    pub intra: bool,
+    /// Whether the tree is split at its top without a flag: IntraSplitFlag, or interSplitFlag there (7.4.9.8).
     pub split: bool,
-    /// IntraPredModeC.
+    /// IntraPredModeC; INTRA_DC of an inter coding unit.
     pub chroma_mode: u8,
 }
 
