@@ -30,10 +30,10 @@ fn scan_of_mode(mode: u8) -> Scan
 
 /// scanIdx.
 #[tactic(auto, unfolding(spec_slice_data::specs::Residual::scan_of))]
-fn scan_of(block: TransformBlock) -> Scan
-    ensures { result ≡ scan_of block }
+fn scan_of(unit: &UnitSyntax, block: TransformBlock) -> Scan
+    ensures { result ≡ scan_of unit.now block }
 {
-    if block.log2_size == 2 || (block.log2_size == 3 && block.component == 0) {
+    if unit.intra && (block.log2_size == 2 || (block.log2_size == 3 && block.component == 0)) {
         scan_of_mode(block.mode)
     } else {
         Scan::Diagonal
@@ -59,7 +59,7 @@ fn residual_block(of: &UnitContext, block: TransformBlock) -> ResidualBlock
         x: samples * u32::from(block.x),
         y: samples * u32::from(block.y),
         log2: u32::from(block.log2_size),
-        scan: scan_of(block),
+        scan: scan_of(&of.unit, block),
         bypass: of.unit.transquant_bypass,
         skip_enabled: of.syntax.transform_skip_enabled,
         sign_hiding: of.syntax.sign_data_hiding_enabled,

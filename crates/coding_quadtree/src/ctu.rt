@@ -93,7 +93,7 @@ fn unit_and_end(
     unit_end(reader, place.is_last, place.ends_subset)
 }
 
-/// A coding tree unit of an I slice at a place, with what follows it and the bits behind its end (7.3.8.1, 7.3.8.2,
+/// A coding tree unit at a place, with what follows it and the bits behind its end (7.3.8.1, 7.3.8.2,
 /// 7.3.2.10). What was read beside it comes from the view, and what is read of it stands in the records, which begin
 /// anew. The error is the first rule broken in reading order; then the records and the reader are of no use. Behind an
 /// end no bin is asked before the engine starts anew.

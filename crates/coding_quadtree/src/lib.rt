@@ -10,13 +10,17 @@ mod ends;
 mod judge;
 mod laws;
 mod modes;
+mod motion;
 mod offset;
+mod part_mode;
 mod quadtree;
 mod quantization;
 mod squares;
 mod transform;
 mod unit;
 mod unit_place;
+mod unit_start;
+mod vectors;
 
 pub use ctu::read_ctu;
 pub use ends::unit_end;

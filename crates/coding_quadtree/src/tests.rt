@@ -10,7 +10,7 @@ use cabac_engine::Interval;
 use ctu_records::{Item, Neighbours, Picture, Records, Sao, Side};
 use hv_base::{Breach, FaultKind};
 use residual_syntax::Levels;
-use spec_slice_data::{CtuSyntax, End, PcmSyntax};
+use spec_slice_data::{CtuSyntax, End, InterSyntax, PcmSyntax};
 use std::test::Fail;
 
 /// A view of which each place may be asked, and none is available.
@@ -73,6 +73,16 @@ const SAMPLES: CtuSyntax = CtuSyntax {
         log2_greatest: 1,
         luma_bits: 8,
         chroma_bits: 8,
+    },
+    inter: InterSyntax {
+        is_inter: false,
+        is_b: false,
+        max_merge: 1,
+        active_0: 1,
+        active_1: 1,
+        mvd_l1_zero: false,
+        amp_enabled: false,
+        max_depth_inter: 0,
     },
     sao_luma: false,
     sao_chroma: false,

@@ -1,10 +1,10 @@
-//! transform_tree (7.3.8.8) and transform_unit (7.3.8.10) of intra coding units.
+//! transform_tree (7.3.8.8) and transform_unit (7.3.8.10).
 
 ghost use Rattle.std.specs.Prelude.{◌≡◌, ℕ, ◌+◌, ◌-◌, ◌*◌, ◌^◌, ◌<◌, ◌≤◌, false, length, IfOk};
 ghost use Rattle.ctu_records.specs.Tree.{IsPlaced, room};
 ghost use Rattle.spec_cabac.specs.Engine.{IsLive};
 ghost use Rattle.spec_slice_data.specs.Syntax.{IsSyntax};
-ghost use Rattle.spec_slice_data.specs.Transform.{cbf_chroma, cbf_luma_at, chroma_blocks, chroma_flags, chroma_of, luma_of, split_transform_flag, transform_blocks, transform_tree, transform_unit};
+ghost use Rattle.spec_slice_data.specs.Transform.{cbf_chroma, cbf_luma, cbf_luma_at, chroma_blocks, chroma_flags, chroma_of, luma_of, max_depth, split_transform_flag, transform_blocks, transform_tree, transform_unit};
 ghost use Rattle.cabac_contexts.specs.Takes.{Takes};
 ghost use Rattle.coding_quadtree.specs.Leaves.{Fills, Grows};
 
@@ -16,7 +16,7 @@ use ctu_records::{Item, Records, Square, TransformUnit};
 use hv_base::Breach;
 use residual_syntax::Levels;
 use spec_cabac::{CBF_CHROMA, CBF_LUMA, SPLIT_TRANSFORM_FLAG};
-use spec_slice_data::{ChromaFlags, TransformBlock};
+use spec_slice_data::{ChromaFlags, CtuSyntax, TransformBlock, UnitSyntax};
 
 /// A node of a transform tree.
 #[derive(Clone, Copy)]
@@ -36,6 +36,18 @@ impl TransformNode {
     }
 }
 
+/// MaxTrafoDepth.
+fn max_depth(syntax: &CtuSyntax, unit: &UnitSyntax) -> u8
+    requires { IsSyntax syntax.now }
+    ensures { result ≡ max_depth syntax.now unit.now }
+{
+    if unit.intra {
+        syntax.max_depth_intra + if unit.split { 1 } else { 0 }
+    } else {
+        syntax.inter.max_depth_inter
+    }
+}
+
 /// split_transform_flag, or what it is taken to be.
 #[tactic(auto, unfolding(spec_slice_data::specs::Transform::split_transform_flag))]
 fn split_transform_flag(
@@ -51,7 +63,7 @@ fn split_transform_flag(
 {
     let (syntax, unit) = (&of.syntax, &of.unit);
     let splits_first = unit.split && depth == 0;
-    let max_depth = syntax.max_depth_intra + if unit.split { 1 } else { 0 };
+    let max_depth = max_depth(syntax, unit);
     let sized = n <= syntax.log2_max_transform && syntax.log2_min_transform < n;
     if sized && (depth < max_depth && !splits_first) {
         reader.decision(SPLIT_TRANSFORM_FLAG + (3 - usize::from(n)))
@@ -202,10 +214,28 @@ fn transform_blocks(
     chroma_of(reader, records, levels, of, node)
 }
 
-/// cbf_luma.
-fn cbf_luma_at(reader: &mut BinReader<'_>, depth: u8) -> Result<bool, Breach>
+/// cbf_luma where it stands.
+#[tactic(auto, unfolding(spec_slice_data::specs::Transform::cbf_luma_at))]
+fn cbf_luma_at(
+    reader: &mut BinReader<'_>,
+    unit: &UnitSyntax,
+    flags: ChromaFlags,
+    depth: u8,
+) -> Result<bool, Breach>
     requires { IsLive reader.old.interval }
-    ensures { Takes (λ x. x) result reader.old reader.new (cbf_luma_at depth) }
+    ensures { Takes (λ x. x) result reader.old reader.new (cbf_luma_at unit.now flags depth) }
+{
+    if unit.intra || (0 < depth || (flags.cb || flags.cr)) {
+        cbf_luma(reader, depth)
+    } else {
+        Ok(true)
+    }
+}
+
+/// cbf_luma.
+fn cbf_luma(reader: &mut BinReader<'_>, depth: u8) -> Result<bool, Breach>
+    requires { IsLive reader.old.interval }
+    ensures { Takes (λ x. x) result reader.old reader.new (cbf_luma depth) }
 {
     if depth == 0 {
         reader.decision(CBF_LUMA + 1)
@@ -232,7 +262,7 @@ fn transform_unit(
     ensures value { Fills result records.new reader.old reader.new (transform_unit of.now.syntax of.now.unit node.flags node.depth node.square records.old) }
     ensures room { Grows result records.old records.new (29 + 24 * 4 ^ node.square.log2_size) }
 {
-    let cbf_luma = cbf_luma_at(reader, node.depth)?;
+    let cbf_luma = cbf_luma_at(reader, &of.unit, node.flags, node.depth)?;
     records.push(Item::Transform(TransformUnit {
         square: node.square,
         depth: node.depth,

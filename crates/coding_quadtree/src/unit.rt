@@ -1,24 +1,27 @@
-//! coding_unit (7.3.8.5) and pcm_sample (7.3.8.6) of I slices.
+//! coding_unit (7.3.8.5) and pcm_sample (7.3.8.7).
 
 ghost use Rattle.std.specs.Prelude.{◌≡◌, ℕ, ◌+◌, ◌-◌, ◌*◌, ◌^◌, ◌<◌, ◌≤◌, false, length, IfOk};
 ghost use Rattle.ctu_records.specs.Tree.{IsPlaced, room};
 ghost use Rattle.spec_cabac.specs.Engine.{IsLive};
 ghost use Rattle.spec_slice_data.specs.Syntax.{IsSyntax};
-ghost use Rattle.spec_slice_data.specs.Tree.{begun_unit, coding_unit, cu_transquant_bypass_flag, intra_unit, is_split, pcm_flag, pcm_sample, pcm_samples, pcm_unit, unit_body};
+ghost use Rattle.spec_slice_data.specs.Tree.{begun_unit, coding_unit, inter_syntax, inter_unit, intra_body, intra_syntax, intra_unit, is_split, parts_and_tree, pcm_flag, pcm_sample, pcm_samples, pcm_unit, skipped_unit, unit_body, unit_tree};
 ghost use Rattle.cabac_contexts.specs.Takes.{Reaches, Takes, state_of};
 ghost use Rattle.spec_cabac.specs.Bins.{read};
 ghost use Rattle.coding_quadtree.specs.Leaves.{Fills, Grows, Leaves};
 
 use crate::coded_block::UnitContext;
 use crate::modes::{chroma_modes, luma_modes};
+use crate::motion::{add_part, later_parts, merged, motion, part_count, rqt_root_cbf};
+use crate::part_mode::part_mode;
 use crate::squares::area;
 use crate::transform::{TransformNode, transform_tree};
+use crate::unit_start::unit_start;
 use cabac_contexts::BinReader;
-use ctu_records::{CodingUnit, Item, Quantization, Records, Square};
+use ctu_records::{CodingUnit, Item, PartMode, Quantization, Records, Square, part_block};
 use hv_base::Breach;
 use residual_syntax::Levels;
-use spec_cabac::{CU_TRANSQUANT_BYPASS_FLAG, PART_MODE};
-use spec_slice_data::{ChromaFlags, CtuSyntax, PcmSyntax, UnitSyntax};
+use spec_cabac::PART_MODE;
+use spec_slice_data::{ChromaFlags, CtuSyntax, PcmSyntax, UnitStart, UnitSyntax};
 
 /// A sample of pulse code modulation.
 #[tactic(auto, using(crate::proofs::Powers::few_bits))]
@@ -75,19 +78,7 @@ fn pcm_unit(
     Ok(())
 }
 
-/// cu_transquant_bypass_flag.
-fn cu_transquant_bypass_flag(reader: &mut BinReader<'_>, syntax: &CtuSyntax) -> Result<bool, Breach>
-    requires { IsLive reader.old.interval }
-    ensures { Takes (λ x. x) result reader.old reader.new (cu_transquant_bypass_flag syntax.now) }
-{
-    if syntax.transquant_bypass_enabled {
-        reader.decision(CU_TRANSQUANT_BYPASS_FLAG)
-    } else {
-        Ok(false)
-    }
-}
-
-/// Whether a coding unit has four prediction blocks.
+/// Whether an intra coding unit has four prediction blocks.
 fn is_split(reader: &mut BinReader<'_>, syntax: &CtuSyntax, n: u8) -> Result<bool, Breach>
     requires { IsLive reader.old.interval }
     ensures { Takes (λ x. x) result reader.old reader.new (is_split syntax.now n) }
@@ -116,10 +107,10 @@ fn pcm_flag(reader: &mut BinReader<'_>, pcm: &PcmSyntax, split: bool, n: u8) -> 
 
 /// A coding unit begins.
 #[tactic(auto, unfolding(spec_slice_data::specs::Tree::begun_unit))]
-fn begin_unit(records: &mut Records, square: Square, depth: u8, transquant_bypass: bool)
-    requires placed { IsPlaced square }
+fn begin_unit(records: &mut Records, start: &UnitStart)
+    requires placed { IsPlaced start.now.square }
     requires room { length records.old.items + 1 ≤ room }
-    ensures value { records.new ≡ begun_unit depth square transquant_bypass records.old }
+    ensures value { records.new ≡ begun_unit start.now records.old }
     ensures room { length records.new.items ≡ length records.old.items + 1 }
 {
     let group = records.quantization();
@@ -130,13 +121,42 @@ fn begin_unit(records: &mut Records, square: Square, depth: u8, transquant_bypas
         coded: group.coded,
     });
     records.begin(CodingUnit {
-        square,
-        depth,
-        transquant_bypass,
-        skipped: false,
+        square: start.square,
+        depth: start.depth,
+        transquant_bypass: start.transquant_bypass,
+        skipped: start.skipped,
+        intra: start.intra,
         qp_predicted: group.predicted,
         qp: group.qp,
     });
+}
+
+/// The transform tree of a coding unit.
+#[tactic(auto, using(crate::proofs::Powers::some_places))]
+fn unit_tree(
+    reader: &mut BinReader<'_>,
+    records: &mut Records,
+    levels: &mut Levels,
+    syntax: &CtuSyntax,
+    unit: UnitSyntax,
+) -> Result<(), Breach>
+    requires live { IsLive reader.old.interval }
+    requires syntax { IsSyntax syntax.now }
+    requires placed { IsPlaced unit.square }
+    requires room { length records.old.items + 56 * 4 ^ unit.square.log2_size ≤ room }
+    ensures value { Fills result records.new reader.old reader.new (unit_tree syntax.now unit records.old) }
+    ensures room { Grows result records.old records.new (56 * 4 ^ unit.square.log2_size) }
+{
+    let of = UnitContext {
+        syntax: *syntax,
+        unit,
+    };
+    let root = TransformNode {
+        flags: ChromaFlags { cb: true, cr: true },
+        square: unit.square,
+        depth: 0,
+    };
+    transform_tree(reader, records, levels, &of, root)
 }
 
 /// The modes and the transform tree of an intra coding unit.
@@ -146,70 +166,162 @@ fn intra_unit(
     records: &mut Records,
     levels: &mut Levels,
     syntax: &CtuSyntax,
-    square: Square,
-    transquant_bypass: bool,
+    start: &UnitStart,
     split: bool,
 ) -> Result<(), Breach>
     requires live { IsLive reader.old.interval }
     requires syntax { IsSyntax syntax.now }
-    requires some { 0 < square.log2_size }
-    requires placed { IsPlaced square }
-    requires room { length records.old.items + (5 + 56 * 4 ^ square.log2_size) ≤ room }
-    ensures value { Fills result records.new reader.old reader.new (intra_unit syntax.now square transquant_bypass split records.old) }
-    ensures room { Grows result records.old records.new (5 + 56 * 4 ^ square.log2_size) }
+    requires some { 0 < start.now.square.log2_size }
+    requires placed { IsPlaced start.now.square }
+    requires room { length records.old.items + (5 + 56 * 4 ^ start.now.square.log2_size) ≤ room }
+    ensures value { Fills result records.new reader.old reader.new (intra_unit syntax.now start.now split records.old) }
+    ensures room { Grows result records.old records.new (5 + 56 * 4 ^ start.now.square.log2_size) }
 {
+    let square = start.square;
     luma_modes(reader, records, square, split)?;
     let chroma_mode = chroma_modes(reader, records, square.x, square.y)?;
     records.push(Item::Chroma(chroma_mode));
-    let of = UnitContext {
-        syntax: *syntax,
-        unit: UnitSyntax {
-            square,
-            transquant_bypass,
-            split,
-            chroma_mode,
-        },
-    };
-    let root = TransformNode {
-        flags: ChromaFlags { cb: true, cr: true },
+    let unit = UnitSyntax {
         square,
-        depth: 0,
+        transquant_bypass: start.transquant_bypass,
+        intra: true,
+        split,
+        chroma_mode,
     };
-    transform_tree(reader, records, levels, &of, root)
+    unit_tree(reader, records, levels, syntax, unit)
 }
 
-/// A coding unit behind cu_transquant_bypass_flag.
-#[tactic(auto, unfolding(spec_slice_data::specs::Tree::unit_body), using(crate::proofs::Powers::some_area))]
+/// An intra coding unit.
+#[tactic(auto, unfolding(spec_slice_data::specs::Tree::intra_body), using(crate::proofs::Powers::some_area))]
+fn intra_body(
+    reader: &mut BinReader<'_>,
+    records: &mut Records,
+    levels: &mut Levels,
+    syntax: &CtuSyntax,
+    start: &UnitStart,
+) -> Result<(), Breach>
+    requires live { IsLive reader.old.interval }
+    requires syntax { IsSyntax syntax.now }
+    requires some { 0 < start.now.square.log2_size }
+    requires placed { IsPlaced start.now.square }
+    requires room { length records.old.items + (5 + 56 * 4 ^ start.now.square.log2_size) ≤ room }
+    ensures value { Fills result records.new reader.old reader.new (intra_body syntax.now start.now records.old) }
+    ensures room { Grows result records.old records.new (5 + 56 * 4 ^ start.now.square.log2_size) }
+{
+    let n = start.square.log2_size;
+    let split = is_split(reader, syntax, n)?;
+    let coded = pcm_flag(reader, &syntax.pcm, split, n)?;
+    if coded {
+        pcm_unit(reader, records, &syntax.pcm, start.square)
+    } else {
+        intra_unit(reader, records, levels, syntax, start, split)
+    }
+}
+
+/// A skipped coding unit.
+#[tactic(auto, unfolding(spec_slice_data::specs::Tree::skipped_unit))]
+fn skipped_unit(
+    reader: &mut BinReader<'_>,
+    records: &mut Records,
+    syntax: &CtuSyntax,
+    start: &UnitStart,
+) -> Result<(), Breach>
+    requires live { IsLive reader.old.interval }
+    requires room { length records.old.items + 1 ≤ room }
+    ensures value { Fills result records.new reader.old reader.new (skipped_unit syntax.now start.now records.old) }
+    ensures room { Grows result records.old records.new 1 }
+{
+    let told = merged(reader, &syntax.inter)?;
+    add_part(records, start.square, PartMode::Whole, 0, told);
+    Ok(())
+}
+
+/// The prediction units and the transform tree of an inter coding unit.
+#[tactic(auto, unfolding(spec_slice_data::specs::Tree::parts_and_tree))]
+fn parts_and_tree(
+    reader: &mut BinReader<'_>,
+    records: &mut Records,
+    levels: &mut Levels,
+    syntax: &CtuSyntax,
+    start: &UnitStart,
+    mode: PartMode,
+) -> Result<(), Breach>
+    requires live { IsLive reader.old.interval }
+    requires syntax { IsSyntax syntax.now }
+    requires placed { IsPlaced start.now.square }
+    requires depth { start.now.depth ≤ 3 }
+    requires room { length records.old.items + (4 + 56 * 4 ^ start.now.square.log2_size) ≤ room }
+    ensures value { Fills result records.new reader.old reader.new (parts_and_tree syntax.now start.now mode records.old) }
+    ensures room { Grows result records.old records.new (4 + 56 * 4 ^ start.now.square.log2_size) }
+{
+    let inter = &syntax.inter;
+    let first = motion(
+        reader,
+        inter,
+        start.depth,
+        part_block(start.square, mode, 0),
+    )?;
+    add_part(records, start.square, mode, 0, first);
+    later_parts(reader, records, inter, start, mode)?;
+    if !rqt_root_cbf(reader, mode, first)? {
+        return Ok(());
+    }
+    let unit = UnitSyntax {
+        square: start.square,
+        transquant_bypass: start.transquant_bypass,
+        intra: false,
+        split: inter.max_depth_inter == 0 && part_count(mode) != 1,
+        chroma_mode: 1,
+    };
+    unit_tree(reader, records, levels, syntax, unit)
+}
+
+/// An inter coding unit that isn't skipped.
+#[tactic(auto, unfolding(spec_slice_data::specs::Tree::inter_unit))]
+fn inter_unit(
+    reader: &mut BinReader<'_>,
+    records: &mut Records,
+    levels: &mut Levels,
+    syntax: &CtuSyntax,
+    start: &UnitStart,
+) -> Result<(), Breach>
+    requires live { IsLive reader.old.interval }
+    requires syntax { IsSyntax syntax.now }
+    requires placed { IsPlaced start.now.square }
+    requires depth { start.now.depth ≤ 3 }
+    requires room { length records.old.items + (4 + 56 * 4 ^ start.now.square.log2_size) ≤ room }
+    ensures value { Fills result records.new reader.old reader.new (inter_unit syntax.now start.now records.old) }
+    ensures room { Grows result records.old records.new (4 + 56 * 4 ^ start.now.square.log2_size) }
+{
+    let n = start.square.log2_size;
+    let mode = part_mode(reader, &syntax.inter, n == syntax.log2_min_coding, n)?;
+    parts_and_tree(reader, records, levels, syntax, start, mode)
+}
+
+/// A coding unit behind pred_mode_flag.
+#[tactic(auto, using(crate::proofs::Powers::some_area))]
 fn unit_body(
     reader: &mut BinReader<'_>,
     records: &mut Records,
     levels: &mut Levels,
     syntax: &CtuSyntax,
-    square: Square,
-    transquant_bypass: bool,
+    start: &UnitStart,
 ) -> Result<(), Breach>
     requires live { IsLive reader.old.interval }
     requires syntax { IsSyntax syntax.now }
-    requires some { 0 < square.log2_size }
-    requires placed { IsPlaced square }
-    requires room { length records.old.items + (5 + 56 * 4 ^ square.log2_size) ≤ room }
-    ensures value { Fills result records.new reader.old reader.new (unit_body syntax.now square transquant_bypass records.old) }
-    ensures room { Grows result records.old records.new (5 + 56 * 4 ^ square.log2_size) }
+    requires some { 0 < start.now.square.log2_size }
+    requires placed { IsPlaced start.now.square }
+    requires depth { start.now.depth ≤ 3 }
+    requires room { length records.old.items + (5 + 56 * 4 ^ start.now.square.log2_size) ≤ room }
+    ensures value { Fills result records.new reader.old reader.new (unit_body syntax.now start.now records.old) }
+    ensures room { Grows result records.old records.new (5 + 56 * 4 ^ start.now.square.log2_size) }
 {
-    let split = is_split(reader, syntax, square.log2_size)?;
-    let coded = pcm_flag(reader, &syntax.pcm, split, square.log2_size)?;
-    if coded {
-        pcm_unit(reader, records, &syntax.pcm, square)
+    if start.intra {
+        intra_body(reader, records, levels, syntax, start)
+    } else if start.skipped {
+        skipped_unit(reader, records, syntax, start)
     } else {
-        intra_unit(
-            reader,
-            records,
-            levels,
-            syntax,
-            square,
-            transquant_bypass,
-            split,
-        )
+        inter_unit(reader, records, levels, syntax, start)
     }
 }
 
@@ -227,11 +339,12 @@ pub fn coding_unit(
     requires syntax { IsSyntax syntax.now }
     requires some { 0 < square.log2_size }
     requires placed { IsPlaced square }
+    requires depth { depth ≤ 3 }
     requires room { length records.old.items + 64 * 4 ^ square.log2_size ≤ room }
     ensures value { Fills result records.new reader.old reader.new (coding_unit syntax.now depth square records.old) }
     ensures room { Grows result records.old records.new (64 * 4 ^ square.log2_size) }
 {
-    let transquant_bypass = cu_transquant_bypass_flag(reader, syntax)?;
-    begin_unit(records, square, depth, transquant_bypass);
-    unit_body(reader, records, levels, syntax, square, transquant_bypass)
+    let start = unit_start(reader, records, syntax, square, depth)?;
+    begin_unit(records, &start);
+    unit_body(reader, records, levels, syntax, &start)
 }

@@ -1,0 +1,13 @@
+use Rattle.std.proofs.Common.{◌≡◌, ◌-◌}
+use Rattle.spec_formats.specs.Format.{give}
+use Rattle.spec_cabac.specs.Engine.{IsLive}
+use Rattle.spec_cabac.specs.Bins.{read, unary, truncated}
+use Rattle.spec_slice_data.specs.Inter.{reference_bin}
+use Rattle.cabac_contexts.specs.Takes.{state_of}
+use Rattle.coding_quadtree.proofs.bins.ref_idx.Given as goal
+
+abbrev pub invariant-loop-i : goal.invariant-loop-i
+invariant-loop-i l = record {
+  told : read (unary (give l.greatest) reference_bin l.i (l.greatest - l.i)) (state_of l.reader) ≡ read (truncated reference_bin l.greatest) (state_of l.fn.reader);
+  live : IsLive l.reader.interval;
+}
