@@ -1,4 +1,4 @@
--- The coding tree units of a planned picture of I slices, segment after segment, up to the first broken rule (7.3.8.1).
+-- The coding tree units of a planned picture, segment after segment, up to the first broken rule (7.3.8.1).
 use Rattle.std.specs.Prelude.{ℕ, zero, suc, ◌+◌, List, [], ◌∷◌, ◌++◌, pos, Result, Ok, Err}
 use Rattle.hv_base.specs.declared.breach.Breach.{Breach}
 use Rattle.header_types.specs.SequenceParameterSets.{size_in_ctbs}

@@ -1,16 +1,21 @@
 -- A planned picture and its slice segments as their data are read (6.3.1, 7.3.8.1, 7.4.3.2, 7.4.3.3, 7.4.7.1, 9.3.1).
 -- Sizes are binary logarithms of sides in places of 4x4 luma samples.
-use Rattle.std.specs.Prelude.{ℕ, ◌+◌, ◌-◌, ◌*◌, ◌/◌, ◌^◌, ℤ, pos, ◌+ℤ◌, Bool, true, false, List, [], ◌∷◌, map, take, drop, min, max, Option, Some, None, is_some, unwrap_or, slice_index_or, unsigned_abs}
+use Rattle.std.specs.Prelude.{ℕ, ◌+◌, ◌-◌, ◌*◌, ◌/◌, ◌^◌, ℤ, pos, ◌+ℤ◌, Bool, true, false, List, [], ◌∷◌, map, take, drop, min, max, Option, Some, None, is_some, unwrap_or, slice_index_or, unsigned_abs, if◌then◌else◌}
 use Rattle.header_types.specs.declared.sps.SpsFields.{SpsFields}
 use Rattle.header_types.specs.declared.sps.PcmFormat.{PcmFormat}
 use Rattle.header_types.specs.declared.pps.PpsFields.{PpsFields}
+use Rattle.header_types.specs.declared.slice.InterFields.{InterFields}
+use Rattle.header_types.specs.declared.slice.SliceFields.{SliceFields}
+use Rattle.header_types.specs.declared.slice.SliceType.{SliceType}
 use Rattle.header_types.specs.declared.substream.Substream.{Substream}
 use Rattle.header_types.specs.SequenceParameterSets.{ctb_log2, min_cb_log2, min_tb_log2, max_tb_log2, min_pcm_log2, max_pcm_log2, width_in_ctbs}
 use Rattle.plan_types.specs.declared.segment_plan.SegmentPlan.{SegmentPlan}
 use Rattle.plan_types.specs.declared.picture_plan.PicturePlan.{PicturePlan}
+use Rattle.spec_slice_headers.specs.InterFields.{is_b}
 use Rattle.spec_slice_headers.specs.SliceFields.{slice_qp}
 use Rattle.spec_cabac.specs.Contexts.{clip3, first_contexts}
 use Rattle.spec_slice_data.specs.declared.syntax.CtuSyntax.{CtuSyntax}
+use Rattle.spec_slice_data.specs.declared.syntax.InterSyntax.{InterSyntax}
 use Rattle.spec_slice_data.specs.declared.syntax.PcmSyntax.{PcmSyntax}
 use Rattle.spec_slice_data.specs.Segment.{PictureShape, SegmentShape}
 
@@ -42,9 +47,44 @@ pcm_syntax (Some pcm) = record {
   chroma_bits = pcm.pcm_sample_bit_depth_chroma_minus1 + 1;
 }
 
+-- num_ref_idx_lX_active, which is at most 16
+abbrev pub active : ℕ → ℕ
+active minus1 = min minus1 15 + 1
+
+-- what inter coding units of a slice depend on: a slice whose header has no fields of P and B slices has none
+unfoldable pub inter_syntax : SpsFields → SliceType → Option InterFields → InterSyntax
+inter_syntax sps kind None = record {
+  is_inter = false;
+  is_b = false;
+  max_merge = 1;
+  active_0 = 1;
+  active_1 = 1;
+  mvd_l1_zero = false;
+  amp_enabled = sps.amp_enabled_flag;
+  max_depth_inter = sps.blocks.max_transform_hierarchy_depth_inter;
+}
+inter_syntax sps kind (Some fields) = record {
+  is_inter = true;
+  is_b = is_b kind;
+  max_merge = 5 - fields.five_minus_max_num_merge_cand;
+  active_0 = active fields.num_ref_idx_l0_active_minus1;
+  active_1 = active (unwrap_or fields.num_ref_idx_l1_active_minus1 0);
+  mvd_l1_zero = fields.mvd_l1_zero_flag;
+  amp_enabled = sps.amp_enabled_flag;
+  max_depth_inter = sps.blocks.max_transform_hierarchy_depth_inter;
+}
+
+-- initType of a slice (9.3.2.2)
+abbrev pub init_type_of : Bool → Bool → ℕ
+init_type_of of_b cabac_init = if of_b then (if cabac_init then 1 else 2) else (if cabac_init then 2 else 1)
+
+unfoldable pub init_type : SliceType → Option InterFields → ℕ
+init_type kind None = 0
+init_type kind (Some fields) = init_type_of (is_b kind) fields.cabac_init_flag
+
 -- what the elements of all units of a slice depend on. What depends on the unit is not known yet
-unfoldable pub slice_syntax : SpsFields → PpsFields → Bool → Bool → CtuSyntax
-slice_syntax sps pps sao_luma sao_chroma = record {
+unfoldable pub slice_syntax : SpsFields → PpsFields → SliceFields → CtuSyntax
+slice_syntax sps pps fields = record {
   log2_min_coding = in_places (min_cb_log2 sps.blocks);
   log2_min_transform = in_places (min_tb_log2 sps.blocks);
   log2_max_transform = in_places (max_tb_log2 sps.blocks);
@@ -56,8 +96,9 @@ slice_syntax sps pps sao_luma sao_chroma = record {
   transform_skip_enabled = pps.transform_skip_enabled_flag;
   sign_data_hiding_enabled = pps.sign_data_hiding_enabled_flag;
   pcm = pcm_syntax sps.pcm;
-  sao_luma = sao_luma;
-  sao_chroma = sao_chroma;
+  inter = inter_syntax sps fields.slice_type fields.inter;
+  sao_luma = fields.slice_sao_luma_flag;
+  sao_chroma = fields.slice_sao_chroma_flag;
   has_left = false;
   has_above = false;
   right = 0;
@@ -65,7 +106,7 @@ slice_syntax sps pps sao_luma sao_chroma = record {
 }
 
 abbrev pub segment_syntax : PicturePlan → SegmentPlan → CtuSyntax
-segment_syntax p s = slice_syntax p.sps p.pps s.header.slice.slice_sao_luma_flag s.header.slice.slice_sao_chroma_flag
+segment_syntax p s = slice_syntax p.sps p.pps s.header.slice
 
 -- Qp'Y of a slice, by SliceQpY (8.6.1)
 abbrev pub first_qp : ℕ → ℤ → ℕ
@@ -95,7 +136,7 @@ segment_shape p s first behind = record {
   count = behind - first;
   slice = address_of (slice_start p s);
   qp = first_qp (qp_bd_offset p.sps) (slice_qp p.pps s.header.slice.slice_qp_delta);
-  contexts = first_contexts (slice_qp p.pps s.header.slice.slice_qp_delta) 0;
+  contexts = first_contexts (slice_qp p.pps s.header.slice.slice_qp_delta) (init_type s.header.slice.slice_type s.header.slice.inter);
   dependent = s.header.segment.dependent_slice_segment_flag;
   substreams = map (substream_bytes s.payload) s.substreams;
 }

@@ -1,4 +1,4 @@
-//! The slice data of a planned picture of I slices as the standard says them (H.265 7.3.8.1, 9.3.1): what its parameter
+//! The slice data of a planned picture as the standard says them (H.265 7.3.8.1, 9.3.1): what its parameter
 //! sets and slice segment headers make of the definitions of spec_slice_data, and all coding tree units in order.
 #![tactic(auto)]
 

@@ -1,6 +1,5 @@
-use Rattle.std.proofs.Common.{◌≡◌, ℕ, min, max, ap, ◌∙◌, arith}
+use Rattle.std.proofs.Common.{max, ap, ◌∙◌}
 use Rattle.std.proofs.Math.Nat.{max-eq_right, min-eq_left}
-use Rattle.spec_picture_data.specs.Shapes.{address_of}
 use Rattle.spec_picture_data.proofs.laws.segments_end_where_the_next_begins.Goals as goal
 
 pub returns : goal.returns
