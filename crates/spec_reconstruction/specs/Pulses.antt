@@ -1,7 +1,7 @@
 -- Samples by pulse code modulation (8.4.4.1, 7.4.9.7).
 use Rattle.std.specs.Prelude.{ℕ, ◌+◌, ◌-◌, ◌*◌, ◌/◌, ◌^◌, List, slice_index_or}
 use Rattle.ctu_records.specs.declared.item.Item.{Item}
-use Rattle.ctu_records.specs.declared.item.Item.TheVariants.{Unit, Luma, Chroma, Pcm, Sample, Transform, Delta, Block, Level}
+use Rattle.ctu_records.specs.declared.item.Item.TheVariants.{Unit, Luma, Chroma, Prediction, Pcm, Sample, Transform, Delta, Block, Level}
 use Rattle.ctu_records.specs.declared.item.Square.{Square}
 use Rattle.spec_reconstruction.specs.declared.format.UnitFormat.{UnitFormat}
 use Rattle.spec_reconstruction.specs.Known.{Known, laid}
@@ -11,6 +11,7 @@ abbrev pub sample_of : Item → ℕ
 sample_of (Unit unit) = 0
 sample_of (Luma luma) = 0
 sample_of (Chroma mode) = 0
+sample_of (Prediction unit) = 0
 sample_of (Pcm square) = 0
 sample_of (Sample value) = value
 sample_of (Transform unit) = 0

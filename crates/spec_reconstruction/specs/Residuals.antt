@@ -3,7 +3,7 @@ use Rattle.std.specs.Prelude.{ℕ, ◌+◌, ◌*◌, ◌^◌, ◌==◌, ◌&&◌
 use Rattle.ctu_records.specs.declared.item.CodedBlock.{CodedBlock}
 use Rattle.ctu_records.specs.declared.item.Item.{Item}
 use Rattle.ctu_records.specs.declared.item.Item.TheVariants as item
-use Rattle.ctu_records.specs.declared.item.Item.TheVariants.{Unit, Luma, Chroma, Pcm, Sample, Transform, Delta, Level}
+use Rattle.ctu_records.specs.declared.item.Item.TheVariants.{Unit, Luma, Chroma, Prediction, Pcm, Sample, Transform, Delta, Level}
 use Rattle.spec_reconstruction.specs.declared.format.UnitFormat.{UnitFormat}
 use Rattle.spec_reconstruction.specs.Factors.{factor}
 use Rattle.spec_reconstruction.specs.Parameters.{depth_of, parameter_of}
@@ -16,6 +16,7 @@ levels_laid levels [] = levels
 levels_laid levels (Unit unit ∷ items) = levels
 levels_laid levels (Luma luma ∷ items) = levels
 levels_laid levels (Chroma mode ∷ items) = levels
+levels_laid levels (Prediction unit ∷ items) = levels
 levels_laid levels (Pcm square ∷ items) = levels
 levels_laid levels (Sample value ∷ items) = levels
 levels_laid levels (Transform unit ∷ items) = levels

@@ -1,13 +1,20 @@
 -- The ranges of what is read of a unit, for which its samples are told: what its syntax and the sets that it belongs to
 -- give.
-use Rattle.std.specs.Prelude.{◌≡◌, ℕ, ◌+◌, ◌-◌, ◌*◌, ◌^◌, ◌<◌, ◌≤◌, List, ⊤}
+use Rattle.std.specs.Prelude.{◌≡◌, ℕ, ◌+◌, ◌-◌, ◌*◌, ◌^◌, ◌<◌, ◌≤◌, List, Option, Some, None, ⊤}
 use Rattle.std.specs.List.{All}
 use Rattle.ctu_records.specs.declared.item.Item.{Item}
-use Rattle.ctu_records.specs.declared.item.Item.TheVariants.{Unit, Luma, Chroma, Pcm, Sample, Transform, Delta, Block, Level}
+use Rattle.ctu_records.specs.declared.item.Item.TheVariants.{Unit, Luma, Chroma, Prediction, Pcm, Sample, Transform, Delta, Block, Level}
 use Rattle.ctu_records.specs.declared.item.Square.{Square}
 use Rattle.ctu_records.specs.declared.item.CodedBlock.{CodedBlock}
-use Rattle.ctu_records.specs.Tree.{luma_mode_at, qp_at}
+use Rattle.ctu_records.specs.declared.prediction.MotionSyntax.{MotionSyntax}
+use Rattle.ctu_records.specs.declared.prediction.MotionSyntax.TheVariants.{Merge, Vectors}
+use Rattle.ctu_records.specs.declared.prediction.PartMode.{PartMode}
+use Rattle.ctu_records.specs.declared.prediction.PartMode.TheVariants.{Whole, TwoNxN, Nx2N, NxN, TwoNxnU, TwoNxnD, NLx2N, NRx2N}
+use Rattle.ctu_records.specs.declared.prediction.PredictionUnit.{PredictionUnit}
+use Rattle.ctu_records.specs.declared.prediction.VectorSyntax.{VectorSyntax}
+use Rattle.ctu_records.specs.Tree.{IsPlaced, luma_mode_at, qp_at}
 use Rattle.spec_reconstruction.specs.declared.format.UnitFormat.{UnitFormat}
+use Rattle.spec_slice_data.specs.Inter.{part_count}
 use Rattle.spec_slice_data.specs.Residual.{samples_of_place}
 use Rattle.spec_transforms.specs.Scaling.{IsDepth, IsParameter}
 
@@ -39,10 +46,40 @@ pub record IsPulse (format : UnitFormat) (value : ℕ) : Type 0 where
   pub luma : value * 2 ^ (format.luma_depth - format.pcm_luma_bits) < 65536
   pub chroma : value * 2 ^ (format.chroma_depth - format.pcm_chroma_bits) < 65536
 
+-- the binary logarithm of the least side in places of a coding unit with such parts: a part has at least 8x4 or 4x8 luma
+-- samples, or 8x8 of four
+abbrev pub least_size : PartMode → ℕ
+least_size Whole = 1
+least_size TwoNxN = 1
+least_size Nx2N = 1
+least_size NxN = 2
+least_size TwoNxnU = 2
+least_size TwoNxnD = 2
+least_size NLx2N = 2
+least_size NRx2N = 2
+
+-- a vector that names one of at most 16 references, where there is one
+abbrev pub IsVector : Option VectorSyntax → Type 0
+IsVector None = ⊤
+IsVector (Some vector) = vector.ref_idx < 16
+
+-- an index of at most five candidates, or vectors
+abbrev pub IsMotion : MotionSyntax → Type 0
+IsMotion (Merge index) = index < 5
+IsMotion (Vectors first second) = IsVector first × IsVector second
+
+-- a prediction unit in the greatest unit
+pub record IsPrediction (unit : PredictionUnit) : Type 0 where
+  pub placed : IsPlaced unit.unit
+  pub size : least_size unit.part_mode ≤ unit.unit.log2_size
+  pub part : unit.part < part_count unit.part_mode
+  pub motion : IsMotion unit.motion
+
 abbrev pub IsSound : UnitFormat → Item → Type 0
 IsSound format (Unit unit) = ⊤
 IsSound format (Luma luma) = ⊤
 IsSound format (Chroma mode) = mode ≤ 34
+IsSound format (Prediction unit) = IsPrediction unit
 IsSound format (Pcm square) = IsSquare square × (1 ≤ square.log2_size)
 IsSound format (Sample value) = IsPulse format value
 IsSound format (Transform unit) = IsSquare unit.square

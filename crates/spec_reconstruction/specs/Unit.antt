@@ -2,7 +2,7 @@
 use Rattle.std.specs.Prelude.{ℕ, ◌+◌, ◌*◌, ◌^◌, ◌==◌, Bool, true, false, List, [], ◌∷◌, if◌then◌else◌}
 use Rattle.ctu_records.specs.declared.item.CodedBlock.{CodedBlock}
 use Rattle.ctu_records.specs.declared.item.Item.{Item}
-use Rattle.ctu_records.specs.declared.item.Item.TheVariants.{Unit, Luma, Chroma, Pcm, Sample, Transform, Delta, Block, Level}
+use Rattle.ctu_records.specs.declared.item.Item.TheVariants.{Unit, Luma, Chroma, Prediction, Pcm, Sample, Transform, Delta, Block, Level}
 use Rattle.ctu_records.specs.declared.item.Square.{Square}
 use Rattle.ctu_records.specs.Tree.{luma_mode_at, qp_at}
 use Rattle.spec_reconstruction.specs.declared.format.UnitFormat.{UnitFormat}
@@ -38,6 +38,7 @@ abbrev pub item_built : UnitFormat → List Item → Building → Item → List 
 item_built format all building (Unit unit) items = record { transquant_bypass = unit.transquant_bypass; chroma_mode = building.chroma_mode; known = building.known }
 item_built format all building (Luma luma) items = building
 item_built format all building (Chroma mode) items = record { transquant_bypass = building.transquant_bypass; chroma_mode = mode; known = building.known }
+item_built format all building (Prediction unit) items = building
 item_built format all building (Pcm square) items = with_known building (pulses_laid format square items building.known)
 item_built format all building (Sample value) items = building
 item_built format all building (Transform unit) items =
