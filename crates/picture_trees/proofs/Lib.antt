@@ -1,6 +1,7 @@
 pub mod Powers
 pub mod Sides
 pub mod Columns
+pub mod Contexts
 pub mod Following
 pub mod Keeping
 pub mod Segments

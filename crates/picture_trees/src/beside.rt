@@ -162,10 +162,11 @@ fn side_of(records: &Records, x: usize, y: usize) -> Side
     requires y { y < 16 }
     ensures { result ≡ side_of records.now x y }
 {
+    let coding = records.coding(x, y);
     Side {
-        depth: records.depth(x, y),
-        skipped: false,
-        intra: true,
+        depth: coding.depth,
+        skipped: coding.skipped,
+        intra: coding.intra,
         luma_mode: records.luma_mode(x, y),
         qp: records.qp(x, y),
     }

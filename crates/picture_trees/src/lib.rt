@@ -1,4 +1,4 @@
-//! Reads all coding tree units of a planned picture of I slices in order (H.265 7.3.8.1, 9.3.1), on one thread, over a
+//! Reads all coding tree units of a planned picture in order (H.265 7.3.8.1, 9.3.1), on one thread, over a
 //! view of the units before each.
 #![tactic(auto)]
 

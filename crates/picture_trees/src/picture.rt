@@ -17,7 +17,7 @@ use header_types::Sps;
 use plan_types::{PicturePlan, SegmentPlan};
 use std::alloc::Global;
 
-/// Reads all coding tree units of a planned picture of I slices, in decoding order, and hands each over once it is read. The
+/// Reads all coding tree units of a planned picture, in decoding order, and hands each over once it is read. The
 /// error is the first rule that the data break, or want of memory: that of whom the units are handed to, or of the call
 /// itself before the first unit.
 pub fn read_picture<T: Trees>(

@@ -6,6 +6,7 @@ ghost use Rattle.spec_slice_headers.specs.SliceFields.{slice_qp};
 ghost use Rattle.spec_cabac.specs.Contexts.{first_contexts};
 ghost use Rattle.spec_picture_data.specs.Shapes.{address_of, first_qp, qp_bd_offset, segment_shape, slice_start, substream_bytes};
 
+use crate::slice_syntax::init_type;
 use cabac_contexts::Contexts;
 use header_types::{Pps, Substream};
 use plan_types::{PicturePlan, SegmentPlan};
@@ -64,7 +65,7 @@ impl<'a> Segment<'a> {
             count: behind - first,
             slice: slice_address(picture, segment),
             qp: first_qp(offset, slice_qp),
-            contexts: first_contexts(slice_qp),
+            contexts: first_contexts(slice_qp, init_type(&header.slice)),
             dependent: header.segment.dependent_slice_segment_flag,
             payload: segment.payload.as_slice(),
             ranges: segment.substreams.as_slice(),
@@ -119,12 +120,12 @@ fn first_qp(qp_offset: u32, slice_qp: i64) -> u8
     slice_qp.saturating_add(offset).clamp(0, 51 + offset) as u8
 }
 
-/// The contexts that an I slice begins with.
-#[tactic(auto, unfolding(spec_cabac::specs::Contexts::first_contexts))]
-fn first_contexts(slice_qp: i64) -> Contexts
-    ensures { result ≡ first_contexts slice_qp 0 }
+/// The contexts that a slice begins with.
+fn first_contexts(slice_qp: i64, init_type: u32) -> Contexts
+    requires { init_type < 3 }
+    ensures { result ≡ first_contexts slice_qp init_type }
 {
-    Contexts::init(slice_qp.clamp(0, 51) as i32, 0)
+    Contexts::init(slice_qp.clamp(0, 51) as i32, init_type)
 }
 
 /// The bytes of a substream.

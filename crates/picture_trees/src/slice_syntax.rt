@@ -1,13 +1,14 @@
 //! What the elements of all units of a slice depend on (7.4.3.2, 7.4.3.3, 7.4.7.1).
 
-ghost use Rattle.std.specs.Prelude.{◌≡◌, ◌≤◌, ◌+◌, ◌-◌, Some, unwrap_or};
+ghost use Rattle.std.specs.Prelude.{◌≡◌, ◌≤◌, ◌<◌, ◌+◌, ◌-◌, Some, unwrap_or};
 ghost use Rattle.header_types.specs.SequenceParameterSets.{ctb_log2, max_pcm_log2};
 ghost use Rattle.spec_slice_data.specs.Syntax.{IsSyntax};
-ghost use Rattle.spec_picture_data.specs.Shapes.{in_places, pcm_syntax, segment_syntax};
+ghost use Rattle.spec_picture_data.specs.Shapes.{active, in_places, init_type, init_type_of, inter_syntax, pcm_syntax, segment_syntax};
+ghost use Rattle.spec_slice_headers.specs.InterFields.{is_b};
 
-use header_types::{PcmFormat, Sps};
+use header_types::{InterFields, PcmFormat, SliceFields, SliceType, Sps};
 use plan_types::{PicturePlan, SegmentPlan};
-use spec_slice_data::{CtuSyntax, PcmSyntax};
+use spec_slice_data::{CtuSyntax, InterSyntax, PcmSyntax};
 
 /// What the elements of all units of a segment depend on.
 #[tactic(auto, unfolding(spec_picture_data::specs::Shapes::slice_syntax))]
@@ -31,6 +32,7 @@ pub(crate) fn segment_syntax(picture: &PicturePlan, segment: &SegmentPlan) -> Ct
         transform_skip_enabled: pps.transform_skip_enabled_flag,
         sign_data_hiding_enabled: pps.sign_data_hiding_enabled_flag,
         pcm: pcm_syntax(sps),
+        inter: inter_syntax(sps, slice),
         sao_luma: slice.slice_sao_luma_flag,
         sao_chroma: slice.slice_sao_chroma_flag,
         has_left: false,
@@ -38,6 +40,74 @@ pub(crate) fn segment_syntax(picture: &PicturePlan, segment: &SegmentPlan) -> Ct
         right: 0,
         lower: 0,
     }
+}
+
+/// Whether slices of this type are B slices.
+fn is_b(kind: SliceType) -> bool
+    ensures { result ≡ is_b kind }
+{
+    match kind {
+        SliceType::B => true,
+        SliceType::P => false,
+        SliceType::I => false,
+    }
+}
+
+/// num_ref_idx_lX_active.
+fn active(minus1: u32) -> u8
+    ensures { result ≡ active minus1 }
+{
+    (minus1.min(15) + 1) as u8
+}
+
+/// What inter coding units of a slice depend on.
+#[tactic(auto, unfolding(spec_picture_data::specs::Shapes::inter_syntax))]
+fn inter_syntax(sps: &Sps, slice: &SliceFields) -> InterSyntax
+    ensures { result ≡ inter_syntax sps.now slice.now.slice_type slice.now.inter }
+{
+    let sets = sps.fields();
+    let none = InterSyntax {
+        is_inter: false,
+        is_b: false,
+        max_merge: 1,
+        active_0: 1,
+        active_1: 1,
+        mvd_l1_zero: false,
+        amp_enabled: sets.amp_enabled_flag,
+        max_depth_inter: sets.blocks.max_transform_hierarchy_depth_inter as u8,
+    };
+    match &slice.inter {
+        None => none,
+        Some(inter) => InterSyntax {
+            is_inter: true,
+            is_b: is_b(slice.slice_type),
+            max_merge: 5u32.saturating_sub(inter.five_minus_max_num_merge_cand) as u8,
+            active_0: active(inter.num_ref_idx_l0_active_minus1),
+            active_1: active(inter.num_ref_idx_l1_active_minus1.unwrap_or(0)),
+            mvd_l1_zero: inter.mvd_l1_zero_flag,
+            ..none
+        },
+    }
+}
+
+/// initType of a slice (9.3.2.2).
+#[tactic(auto, unfolding(spec_picture_data::specs::Shapes::init_type))]
+pub(crate) fn init_type(slice: &SliceFields) -> u32
+    ensures value { result ≡ init_type slice.now.slice_type slice.now.inter }
+    ensures few { result < 3 }
+{
+    match &slice.inter {
+        None => 0,
+        Some(inter) => init_type_of(is_b(slice.slice_type), inter.cabac_init_flag),
+    }
+}
+
+/// initType of a P or B slice.
+fn init_type_of(of_b: bool, cabac_init: bool) -> u32
+    ensures value { result ≡ init_type_of of_b cabac_init }
+    ensures few { result < 3 }
+{
+    if of_b == cabac_init { 1 } else { 2 }
 }
 
 /// Log2MinCuQpDeltaSize in places, from CtbLog2SizeY and diff_cu_qp_delta_depth.

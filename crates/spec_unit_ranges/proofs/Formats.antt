@@ -8,7 +8,7 @@ use Rattle.spec_bits.proofs.Codes.{bind_some}
 use Rattle.spec_formats.specs.Format.{Give, Refuse, One, Then}
 use Rattle.spec_formats.proofs.Agreement.{ok_is, bind_ok}
 use Rattle.spec_cabac.specs.Engine.{Engine, left, number_at, sample_at}
-use Rattle.spec_cabac.specs.Bins.{State, Tree, Sample, bin_at, read, stepped, times, fixed_after, bypass}
+use Rattle.spec_cabac.specs.Bins.{State, Tree, Sample, bin_at, read, stepped, times, fixed_after, bypass, unary, truncated}
 
 -- all that is read has a property
 pub record Gives {X : Type 0} (P : X → Type 0) (format : Tree X) : Type 0 where
@@ -45,6 +45,22 @@ after_any {m = m} next = then_gives (any m) (λ x known. next x)
 pub when_gives : {X : Type 0} {P : X → Type 0} {m n : Tree X} (b : Bool) → (b ≡ true → Gives P m) → (b ≡ false → Gives P n) → Gives P (cond b m n)
 when_gives true held not_held = held refl
 when_gives false held not_held = not_held refl
+
+pub cond_holds : {X : Type 0} (P : X → Type 0) (b : Bool) (x y : X) → P x → P y → P (cond b x y)
+cond_holds P true x y first second = first
+cond_holds P false x y first second = second
+
+-- a prefix of ones up to a greatest number
+unary_gives : (most : ℕ) (over : Tree ℕ) (bin : ℕ → Tree Bool) (i n : ℕ) → i + n ≤ most → Gives (λ v. v ≤ most) over → Gives (λ v. v ≤ most) (unary over bin i n)
+unfolding unary
+unary_gives most over bin i zero small gives = gives
+unary_gives most over bin i (suc n) small gives =
+    after_any (λ more. when_gives more
+    (λ held. unary_gives most over bin (i + 1) n (omega (arith, small)) gives)
+    (λ held. give_gives i (omega (arith, small))))
+
+pub truncated_gives : (bin : ℕ → Tree Bool) (greatest : ℕ) → Gives (λ v. v ≤ greatest) (truncated bin greatest)
+truncated_gives bin greatest = unary_gives greatest (Give greatest) bin 0 greatest (omega arith) (give_gives greatest (omega arith))
 
 pub times_gives : {X : Type 0} {P : X → Type 0} (step : ℕ → X → Tree X) → ((i : ℕ) (x : X) → P x → Gives P (step i x)) → (i n : ℕ) (x : X) → P x → Gives P (times i n step x)
 unfolding times

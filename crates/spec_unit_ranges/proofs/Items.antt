@@ -5,7 +5,7 @@ use Rattle.std.specs.List.{All, fold}
 use Rattle.std.proofs.lemmas.List.Elements.{All-nil, All-cons, All-append}
 use Rattle.std.proofs.lemmas.List.Sums.{fold-append}
 use Rattle.ctu_records.specs.declared.item.Item.{Item}
-use Rattle.ctu_records.specs.declared.item.Item.TheVariants.{Unit, Luma, Chroma, Pcm, Sample, Transform, Delta, Block, Level}
+use Rattle.ctu_records.specs.declared.item.Item.TheVariants.{Unit, Luma, Chroma, Prediction, Pcm, Sample, Transform, Delta, Block, Level}
 use Rattle.ctu_records.specs.declared.records.Quantization.{Quantization}
 use Rattle.ctu_records.specs.declared.offset.Sao.{Sao}
 use Rattle.ctu_records.specs.Places.{inside}
@@ -32,6 +32,7 @@ abbrev pub LaysMode : Item → Type 0
 LaysMode (Unit unit) = ⊤
 LaysMode (Luma luma) = luma.mode ≤ 34
 LaysMode (Chroma mode) = ⊤
+LaysMode (Prediction unit) = ⊤
 LaysMode (Pcm square) = ⊤
 LaysMode (Sample value) = ⊤
 LaysMode (Transform unit) = ⊤
@@ -43,6 +44,7 @@ abbrev pub LaysParameter : ℕ → Item → Type 0
 LaysParameter greatest (Unit unit) = unit.qp ≤ greatest
 LaysParameter greatest (Luma luma) = ⊤
 LaysParameter greatest (Chroma mode) = ⊤
+LaysParameter greatest (Prediction unit) = ⊤
 LaysParameter greatest (Pcm square) = ⊤
 LaysParameter greatest (Sample value) = ⊤
 LaysParameter greatest (Transform unit) = ⊤
@@ -58,6 +60,7 @@ mode_laid : (modes : ℕ → ℕ → ℕ) (item : Item) → LaysMode item → ((
 mode_laid modes (Unit unit) lays below i j = below i j
 mode_laid modes (Luma luma) lays below i j = cond_below (inside luma.square.x luma.square.y _ i j) 34 luma.mode (modes i j) lays (below i j)
 mode_laid modes (Chroma mode) lays below i j = below i j
+mode_laid modes (Prediction unit) lays below i j = below i j
 mode_laid modes (Pcm square) lays below i j = below i j
 mode_laid modes (Sample value) lays below i j = below i j
 mode_laid modes (Transform unit) lays below i j = below i j
@@ -69,6 +72,7 @@ parameter_laid : (greatest : ℕ) (qps : ℕ → ℕ → ℕ) (item : Item) → 
 parameter_laid greatest qps (Unit unit) lays below i j = cond_below (inside unit.square.x unit.square.y _ i j) greatest unit.qp (qps i j) lays (below i j)
 parameter_laid greatest qps (Luma luma) lays below i j = below i j
 parameter_laid greatest qps (Chroma mode) lays below i j = below i j
+parameter_laid greatest qps (Prediction unit) lays below i j = below i j
 parameter_laid greatest qps (Pcm square) lays below i j = below i j
 parameter_laid greatest qps (Sample value) lays below i j = below i j
 parameter_laid greatest qps (Transform unit) lays below i j = below i j

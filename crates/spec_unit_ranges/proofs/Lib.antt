@@ -4,6 +4,7 @@ pub mod Modes
 pub mod Quantization
 pub mod Squares
 pub mod Transforms
+pub mod Predictions
 pub mod Quadtree
 pub mod Units
 pub mod Pictures

@@ -7,7 +7,10 @@ use Rattle.std.proofs.lemmas.Bool.{ltb-false}
 use Rattle.std.proofs.lemmas.List.Elements.{All-nil, All-cons, All-append}
 use Rattle.hv_base.specs.declared.breach.Breach.{Breach}
 use Rattle.header_types.specs.declared.sps.BlockSizes.{BlockSizes}
+use Rattle.header_types.specs.declared.slice.InterFields.{InterFields}
+use Rattle.header_types.specs.declared.slice.SliceType.{SliceType}
 use Rattle.header_types.specs.declared.sps.PcmFormat.{PcmFormat}
+use Rattle.header_types.specs.declared.sps.SpsFields.{SpsFields}
 use Rattle.header_types.specs.SequenceParameterSets.{IsSps, IsPcmFormat, ctb_log2, max_tb_log2, max_pcm_log2, size_in_ctbs}
 use Rattle.plan_types.specs.declared.segment_plan.SegmentPlan.{SegmentPlan}
 use Rattle.plan_types.specs.declared.picture_plan.PicturePlan.{PicturePlan}
@@ -16,10 +19,11 @@ use Rattle.spec_reconstruction.specs.Sound.{IsFormat, AreSound}
 use Rattle.spec_slice_data.specs.declared.syntax.PcmSyntax.{PcmSyntax}
 use Rattle.spec_slice_data.specs.Segment.{Between, ctb_scan, unit_step}
 use Rattle.spec_slice_headers.specs.SliceFields.{slice_qp}
-use Rattle.spec_picture_data.specs.Shapes.{picture_shape, qp_bd_offset, pcm_syntax, slice_syntax, segment_syntax, first_qp, end_of, segment_shape}
+use Rattle.spec_picture_data.specs.Shapes.{picture_shape, qp_bd_offset, pcm_syntax, inter_syntax, slice_syntax, segment_syntax, first_qp, end_of, segment_shape}
 use Rattle.spec_picture_data.specs.Picture.{before_picture, TreeUnit, Progress, Halt, SegmentAt, segment_at, with_unit, then_units, units_read, and_segments, segment_read, segments_read, picture_read, unit_given}
 use Rattle.spec_picture_samples.specs.Format.{unit_format}
 use Rattle.spec_unit_ranges.proofs.Items.{IsKept}
+use Rattle.spec_unit_ranges.proofs.Predictions.{FitsInter}
 use Rattle.spec_unit_ranges.proofs.Quadtree.{Fits}
 use Rattle.spec_unit_ranges.proofs.Units.{OkHolds, AreKept, unit_kept, step_kept}
 
@@ -68,6 +72,12 @@ pcm-fits b (Some pcm) is =
       greatest = omega (arith, most);
     }
 
+-- at most five candidates and 16 references
+inter-fits : (sps : SpsFields) (kind : SliceType) (fields : Option InterFields) → FitsInter (inter_syntax sps kind fields)
+unfolding inter_syntax
+inter-fits sps kind None = record { merge = omega arith; active_0 = omega arith; active_1 = omega arith }
+inter-fits sps kind (Some fields) = record { merge = omega arith; active_0 = omega arith; active_1 = omega arith }
+
 module _ (p : PicturePlan) (sps : IsSps p.sps) (t : SegmentPlan) where
   abbrev Format : UnitFormat
   Format = unit_format p.sps p.pps t.header.slice
@@ -102,6 +112,8 @@ module _ (p : PicturePlan) (sps : IsSps p.sps) (t : SegmentPlan) where
         chroma_bits = pcm.chroma_bits;
         least = pcm.least;
         greatest = pcm.greatest;
+        coding = omega arith;
+        inter = inter-fits p.sps s.header.slice.slice_type s.header.slice.inter;
       }
 
   -- what stands between two units, and the units that were handed over
@@ -139,7 +151,7 @@ module _ (p : PicturePlan) (sps : IsSps p.sps) (t : SegmentPlan) where
   unfolding slice_syntax picture_shape segment_shape
   step_given number first s later address between kept =
       let shape = segment_shape p s first (end_of (size_in_ctbs p.sps) first later) in
-      step_kept Format (segment_syntax p s) (syntax-fits s) (picture_shape p.sps p.pps) (omega (arith, sps.blocks.greatest_ctb)) shape
+      step_kept Format (segment_syntax p s) (syntax-fits s) (picture_shape p.sps p.pps) (omega (arith, sps.blocks.greatest_ctb)) (omega arith) shape
       (first_qp-small (qp_bd_offset p.sps) (slice_qp p.pps s.header.slice.slice_qp_delta)) address between kept
 
   and_given : (r : Result Progress Halt) (next : Progress → Result Progress Halt) → AreGiven r → ((progress : Progress) → IsProgress progress → AreGiven (next progress)) → AreGiven (and_segments r next)

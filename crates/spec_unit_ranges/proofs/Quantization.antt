@@ -7,6 +7,7 @@ use Rattle.ctu_records.specs.declared.item.Square.{Square}
 use Rattle.ctu_records.specs.Tree.{Ctu, with_quantization, qp_left, qp_above, qp_at}
 use Rattle.spec_reconstruction.specs.declared.format.UnitFormat.{UnitFormat}
 use Rattle.spec_slice_data.specs.declared.syntax.CtuSyntax.{CtuSyntax}
+use Rattle.spec_slice_data.specs.declared.syntax.UnitStart.{UnitStart}
 use Rattle.spec_slice_data.specs.Offset.{signed}
 use Rattle.spec_slice_data.specs.Quantization.{group_at, grouped, unit_begun, qp_of, delta_coded, with_delta, delta_where}
 use Rattle.spec_slice_data.specs.Tree.{begun_unit, unit_at}
@@ -50,11 +51,11 @@ module _ (format : UnitFormat) (greatest : ℕ) where
       (quantized_kept format greatest ctu (group_at ctu square.x square.y) kept (group-small ctu square.x square.y kept)) kept
 
   -- a coding unit begins
-  pub begun_kept : (depth : ℕ) (square : Square) (transquant_bypass : Bool) (ctu : Ctu) → IsKept format greatest ctu → IsKept format greatest (begun_unit depth square transquant_bypass ctu)
+  pub begun_kept : (start : UnitStart) (ctu : Ctu) → IsKept format greatest ctu → IsKept format greatest (begun_unit start ctu)
   unfolding begun_unit
-  begun_kept depth square transquant_bypass ctu kept =
+  begun_kept start ctu kept =
       let q = kept.quantized in
-      added_kept format greatest (with_quantization ctu (unit_begun ctu.quantization)) (Unit (unit_at depth square transquant_bypass ctu))
+      added_kept format greatest (with_quantization ctu (unit_begun ctu.quantization)) (Unit (unit_at start ctu))
       (quantized_kept format greatest ctu (unit_begun ctu.quantization) kept (record { last = q.qp; predicted = q.predicted; qp = q.qp })) tt tt q.qp
 
   delta_kept : (square : Square) (size : ℕ) (negative : Bool) (qp : ℕ) (ctu : Ctu) → qp ≤ greatest → IsKept format greatest ctu → IsKept format greatest (with_delta ctu square size negative qp)

@@ -1,5 +1,5 @@
 -- Units that are read one after the other are kept.
-use Rattle.std.proofs.Common.{◌≡◌, ℕ, ◌+◌, ◌-◌, ◌^◌, ◌≤◌, Bool, true, false, cond, List, [], ◌∷◌, length, Option, Some, None, Result, Ok, Err, inl, inr, refl, sym, subst, arith}
+use Rattle.std.proofs.Common.{◌≡◌, ℕ, ◌+◌, ◌-◌, ◌^◌, ◌≤◌, false, cond, List, [], ◌∷◌, length, Option, Some, None, Result, Ok, Err, inl, inr, refl, sym, subst, arith}
 use Rattle.std.specs.Prelude.{slice_index_or, nat_lt, ◌==◌, ◌&&◌, ◌||◌, not, ⊤}
 use Rattle.std.specs.List.{All, range_with_len}
 use Rattle.std.proofs.lemmas.Bool.{cases_lt}
@@ -19,7 +19,7 @@ use Rattle.spec_slice_data.specs.declared.syntax.CtuSyntax.{CtuSyntax}
 use Rattle.spec_slice_data.specs.declared.syntax.End.{End}
 use Rattle.spec_slice_data.specs.Offset.{no_sao}
 use Rattle.spec_slice_data.specs.Segment.{PictureShape, SegmentShape, Between, nothing_read, no_group, unit_of, begins_row, begins_substream, side_of, unit_begins, syntax_at, contexts_before, qp_before, restarted, substream_of, before_unit, judged_end, behind_unit, is_last, unit_at, read_unit, then_unit, unit_step}
-use Rattle.spec_unit_ranges.proofs.Formats.{Gives}
+use Rattle.spec_unit_ranges.proofs.Formats.{Gives, cond_holds}
 use Rattle.spec_unit_ranges.proofs.Items.{IsQuantized, IsKept, cond_below}
 use Rattle.spec_unit_ranges.proofs.Quadtree.{Fits, unit_and_end_kept}
 
@@ -41,10 +41,6 @@ OkHolds P (Err e) = ⊤
 read_holds : {X : Type 0} {P : X → Type 0} {format : Tree X} → Gives P format → (s : State) (r : Result (X × State) Breach) → read format s ≡ r → OkHolds (λ x. P x.0) r
 read_holds gives s (Ok x) is = gives.gives s x.1 x.0 is
 read_holds gives s (Err e) is = tt
-
-cond_holds : {X : Type 0} (P : X → Type 0) (b : Bool) (x y : X) → P x → P y → P (cond b x y)
-cond_holds P true x y first second = first
-cond_holds P false x y first second = second
 
 abbrev IsSide : Side → Type 0
 IsSide s = s.luma_mode ≤ 34
@@ -122,7 +118,7 @@ module _ (format : UnitFormat) (greatest : ℕ) where
       })
       tt
 
-module _ (format : UnitFormat) (common : CtuSyntax) (fits : Fits format common) (picture : PictureShape) (small : picture.size ≤ 4) (segment : SegmentShape) (first : segment.qp ≤ 51 + common.qp_offset) where
+module _ (format : UnitFormat) (common : CtuSyntax) (fits : Fits format common) (picture : PictureShape) (small : picture.size ≤ 4) (least : common.log2_min_coding ≤ picture.size) (segment : SegmentShape) (first : segment.qp ≤ 51 + common.qp_offset) where
   abbrev Kept : Between → Type 0
   Kept = AreKept format (51 + common.qp_offset)
 
@@ -136,13 +132,15 @@ module _ (format : UnitFormat) (common : CtuSyntax) (fits : Fits format common) 
     chroma_bits = fits.chroma_bits;
     least = fits.least;
     greatest = fits.greatest;
+    coding = fits.coding;
+    inter = fits.inter;
   }
 
   elements_kept : (address : ℕ) (between : Between) → Kept between → Gives (λ (r : Ctu × End). IsKept format (51 + common.qp_offset) r.0) (unit_at common picture segment address between)
   unfolding syntax_at unit_begins
   elements_kept address between kept =
       unit_and_end_kept format (syntax_at common picture segment address) (fits_at address) _ _ (is_last segment address) (begins_row picture (address + 1))
-      (unit_begins picture segment address between) small (begins_kept format (51 + common.qp_offset) picture segment address between kept)
+      (unit_begins picture segment address between) small least (begins_kept format (51 + common.qp_offset) picture segment address between kept)
 
   read_kept : (address : ℕ) (between : Between) → Kept between → OkHolds Kept (read_unit common picture segment address between)
   unfolding read_unit
