@@ -1,0 +1,13 @@
+//! The motion of prediction units as the standard says it (H.265 8.5.3.2): by merging with candidates beside a block or in
+//! another picture, or by a predicted vector and a difference.
+#![tactic(auto)]
+
+mod collocation;
+mod pairs;
+mod slice_motion;
+mod vectors;
+
+pub use collocation::{Collocated, CollocatedVector};
+pub use pairs::COMBINED_PAIRS;
+pub use slice_motion::SliceMotion;
+pub use vectors::{Motion, Reference, Vector};

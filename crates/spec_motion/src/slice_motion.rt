@@ -1,0 +1,36 @@
+//! What the motion of a coding tree unit depends on beside the motion that is known.
+
+use crate::vectors::Reference;
+
+/// A slice of a picture, and where a coding tree unit of it lies. A place is a block of 4x4 luma samples.
+#[derive(Clone, Copy, Debug, PartialEq, Eq)]
+pub struct SliceMotion {
+    /// Whether slice_type is B.
+    pub is_b: bool,
+    /// MaxNumMergeCand.
+    pub max_candidates: u8,
+    /// Log2ParMrgLevel.
+    pub log2_parallel: u8,
+    /// PicOrderCntVal of the picture.
+    pub order: i32,
+    /// RefPicList0.
+    pub references_0: [Reference; 16],
+    /// RefPicList1.
+    pub references_1: [Reference; 16],
+    /// num_ref_idx_l0_active_minus1 + 1.
+    pub active_0: u8,
+    /// num_ref_idx_l1_active_minus1 + 1, read of B slices alone.
+    pub active_1: u8,
+    /// slice_temporal_mvp_enabled_flag.
+    pub temporal: bool,
+    /// collocated_from_l0_flag.
+    pub from_list_0: bool,
+    /// PicOrderCntVal of the collocated picture.
+    pub collocated_order: i32,
+    /// How many places the unit's side has: 2^(CtbLog2SizeY - 2).
+    pub side: u8,
+    /// How many places of the picture are not left of the unit's first one.
+    pub right: u32,
+    /// How many places of the picture are not above the unit's first one.
+    pub lower: u32,
+}
