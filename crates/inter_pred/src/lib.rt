@@ -1,0 +1,21 @@
+//! Inter prediction of a block (8.5.3.3): its samples between those of a reference picture, and how one or two
+//! predictions become samples.
+#![tactic(auto)]
+
+mod between;
+mod block;
+mod down;
+mod interpolation;
+mod line;
+mod prediction;
+mod reference;
+mod scratch;
+mod sums;
+mod whole;
+mod window;
+
+pub use block::{Block, chroma, luma};
+pub use line::clamped_line;
+pub use prediction::Prediction;
+pub use reference::RefWindow;
+pub use scratch::Scratch;

@@ -1,0 +1,33 @@
+//! A prediction before its weights.
+
+ghost use Rattle.std.specs.Prelude.{◌≡◌, ℕ, pos};
+ghost use Rattle.inter_pred.specs.Passes.{at_z};
+
+use std::marker::Model;
+
+/// The samples of a block on a scale of 14 bits (predSamplesLX), in lines of 64. A contract sees them as a list.
+#[derive(Drop)]
+pub struct Prediction {
+    pub(crate) samples: [i32; 4096],
+}
+
+impl Model for Prediction {
+    ghost use Rattle.std.specs.Prelude.{List, ℤ};
+    ghost use Rattle.std.specs.List.{All};
+    ghost use Rattle.inter_pred.specs.Passes.{IsSmall};
+
+    ghost Value = { List ℤ };
+
+    ghost view = { λ p. p.samples };
+
+    ghost invariant = { λ p. All IsSmall p.samples };
+}
+
+impl Prediction {
+    /// One of zeros.
+    pub fn new() -> Prediction
+        ensures { (k : ℕ) → at_z result k ≡ pos 0 }
+    {
+        Prediction { samples: [0; 4096] }
+    }
+}

@@ -1,0 +1,4 @@
+pub mod Taps
+pub mod Luma
+pub mod Chroma
+pub mod Weighting
