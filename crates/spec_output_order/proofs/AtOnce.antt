@@ -26,7 +26,7 @@ bumped_by : (reorder : ℕ) (size : Option ℕ) (n : ℕ) (pictures : List DpbPi
 bumped_by reorder size n pictures false next is = refl
 bumped_by reorder size n pictures true next is = rw is refl
 
-at_most_none : (reorder : ℕ) (size : Option ℕ) (n : ℕ) (pictures : List DpbPicture) → NoneNeededForOutput pictures → bumped_at_most reorder size n pictures ≡ none_out pictures
+pub at_most_none : (reorder : ℕ) (size : Option ℕ) (n : ℕ) (pictures : List DpbPicture) → NoneNeededForOutput pictures → bumped_at_most reorder size n pictures ≡ none_out pictures
 at_most_none reorder size zero pictures quiet = refl
 at_most_none reorder size (suc n) pictures quiet =
     bumped_by reorder size n pictures (needs_bumping reorder size pictures) (next_output pictures) (next_none pictures quiet)
@@ -80,7 +80,7 @@ put_last : (pictures : List DpbPicture) (q : DpbPicture) → not_needed_at (pict
 put_last [] q = refl
 put_last (p ∷ pictures) q = ap (λ (ps : List DpbPicture). p ∷ ps) (put_last pictures q)
 
-none_count : (pictures : List DpbPicture) → NoneNeededForOutput pictures → count_by is_needed_for_output pictures ≡ 0
+pub none_count : (pictures : List DpbPicture) → NoneNeededForOutput pictures → count_by is_needed_for_output pictures ≡ 0
 none_count [] quiet = refl
 none_count (p ∷ pictures) quiet =
     count-cons is_needed_for_output p pictures ∙ rw (All-head IsQuiet p pictures quiet, none_count pictures (All-tail IsQuiet p pictures quiet)) refl

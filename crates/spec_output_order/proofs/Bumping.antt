@@ -60,7 +60,7 @@ started_by current pictures true true = discarded_marks pictures
 started_by current pictures true false = bumped_marks 0 None pictures
 started_by current pictures false discards = bumped_marks current.ordering.max_num_reorder_pics (Some (current.ordering.max_dec_pic_buffering_minus1 + 1)) pictures
 
-started_marks : (current : CurrentPicture) (pictures : List DpbPicture) → count_by is_marked (started current pictures).left ≡ count_by is_marked pictures
+pub started_marks : (current : CurrentPicture) (pictures : List DpbPicture) → count_by is_marked (started current pictures).left ≡ count_by is_marked pictures
 unfolding started
 started_marks current pictures = started_by current pictures current.begins_anew current.no_output_of_prior_pics_flag
 

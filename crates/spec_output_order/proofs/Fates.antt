@@ -165,8 +165,8 @@ entered_counts current now before place t same e = elim (cases_lt place (length 
 
 -- ---- before the current picture is decoded
 
-record IsStarted (current : CurrentPicture) (pictures : List DpbPicture) (s : Bumped) : Type 0 where
-  same : length s.left ≡ length pictures
+pub record IsStarted (current : CurrentPicture) (pictures : List DpbPicture) (s : Bumped) : Type 0 where
+  pub same : length s.left ≡ length pictures
   inside : All (λ (k : ℕ). k < length pictures) s.out
   still : (place : ℕ) → IsStill (picture_at s.left place) (picture_at pictures place)
   counts : (place : ℕ) → (times_in place s.out + need s.left place ≡ need pictures place)
@@ -196,7 +196,7 @@ started_by current pictures reorder size true true a d = record {
 started_by current pictures reorder size true false a d = started_bumped current pictures 0 None
 started_by current pictures reorder size false discards a d = started_bumped current pictures reorder size
 
-is_started : (current : CurrentPicture) (pictures : List DpbPicture) → IsStarted current pictures (started current pictures)
+pub is_started : (current : CurrentPicture) (pictures : List DpbPicture) → IsStarted current pictures (started current pictures)
 unfolding started
 is_started current pictures =
     started_by current pictures current.ordering.max_num_reorder_pics (Some (current.ordering.max_dec_pic_buffering_minus1 + 1))
@@ -242,10 +242,10 @@ kept_at (p ∷ left) base (suc place) w =
     kept_later p left base place rest.0 (is_kept p) refl rest.1
 
 -- what stays is a picture of the buffer
-record ComesFrom (left : List DpbPicture) (base at : ℕ) : Type 0 where
-  place : ℕ
-  inside : place < length left
-  is : get_or (kept_from base left) at 0 ≡ base + place
+pub record ComesFrom (left : List DpbPicture) (base at : ℕ) : Type 0 where
+  pub place : ℕ
+  pub inside : place < length left
+  pub is : get_or (kept_from base left) at 0 ≡ base + place
   same : picture_at (filter is_kept left) at ≡ picture_at left place
 
 comes_behind : (p : DpbPicture) (left : List DpbPicture) (base at : ℕ) → is_kept p ≡ true → ComesFrom left (suc base) at → ComesFrom (p ∷ left) base (suc at)
@@ -275,11 +275,11 @@ comes_by p left base false e rest at l =
     let inside = rw e at l in
     comes_over p left base at e (rest at inside)
 
-comes_from : (left : List DpbPicture) (base at : ℕ) → at < length (kept_from base left) → ComesFrom left base at
+pub comes_from : (left : List DpbPicture) (base at : ℕ) → at < length (kept_from base left) → ComesFrom left base at
 comes_from [] base at l = absurd (omega arith)
 comes_from (p ∷ left) base at l = comes_by p left base (is_kept p) refl (comes_from left (suc base)) at l
 
-as_many : (left : List DpbPicture) (base : ℕ) → length (filter is_kept left) ≡ length (kept_from base left)
+pub as_many : (left : List DpbPicture) (base : ℕ) → length (filter is_kept left) ≡ length (kept_from base left)
 as_many [] base = refl
 as_many (p ∷ left) base =
     let rest = as_many left (suc base) in

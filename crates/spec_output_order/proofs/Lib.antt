@@ -4,3 +4,6 @@ pub mod AtOnce
 pub mod FirstForOutput
 pub mod Fates
 pub mod Bounds
+pub mod Room
+pub mod Anew
+pub mod Placed

@@ -1,2 +1,4 @@
 pub mod OutputOrder
 pub mod Waiting
+pub mod CurrentPictures
+pub mod Buffer

@@ -1,9 +1,10 @@
 -- What goes out of the decoded picture buffer, in which order, and what stays there (C.5.2.2 to C.5.2.4).
-use Rattle.std.specs.Prelude.{◌≡◌, ℕ, zero, suc, ◌+◌, Bool, false, All, ◌&&◌, ◌||◌, List, [], ◌∷◌, ◌++◌, map, length, slice_index_or, slice_set, Option, Some, None, nat_lt, nat_le, int_le, if◌then◌else◌}
+use Rattle.std.specs.Prelude.{◌≡◌, ℕ, ℤ, zero, suc, ◌+◌, Bool, false, not, All, ◌&&◌, ◌||◌, List, [], ◌∷◌, ◌++◌, map, length, slice_index_or, slice_set, Option, Some, None, nat_lt, nat_le, int_le, if◌then◌else◌}
 use Rattle.std.specs.List.{count_by, filter}
 use Rattle.header_types.specs.declared.reference_pictures.DpbPicture.{DpbPicture}
 use Rattle.header_types.specs.declared.reference_pictures.Mark.{Mark}
 use Rattle.header_types.specs.declared.reference_pictures.Mark.TheVariants as mark
+use Rattle.header_types.specs.declared.sps.SubLayerOrdering.{SubLayerOrdering}
 use Rattle.spec_reference_pictures.specs.ReferencePictureSet.{is_reference, no_picture}
 use Rattle.spec_output_order.specs.declared.current_picture.CurrentPicture.{CurrentPicture}
 use Rattle.spec_output_order.specs.declared.next_output.NextOutput.{NextOutput}
@@ -15,6 +16,15 @@ is_needed_for_output p = p.needed_for_output
 -- whether a picture stays in the buffer: it is needed for output, or marked as reference
 abbrev pub is_kept : DpbPicture → Bool
 is_kept p = p.needed_for_output || is_reference p.mark
+
+-- how many pictures the buffer holds
+abbrev pub size_of : SubLayerOrdering → ℕ
+size_of ordering = ordering.max_dec_pic_buffering_minus1 + 1
+
+-- whether there is no room for a picture that doesn't begin anew: as many pictures as the buffer holds are marked as
+-- reference, none of which may leave, where these are the marks once its reference picture set is derived (C.5.2.2)
+unfoldable pub is_full_of_references : Bool → SubLayerOrdering → List Mark → Bool
+is_full_of_references anew ordering marks = not anew && nat_le (size_of ordering) (count_by is_reference marks)
 
 -- the pictures of the buffer as the current picture marks them: one without a mark is unused for reference (8.3.2)
 abbrev pub marked : DpbPicture → Mark → DpbPicture
@@ -88,12 +98,17 @@ unfoldable pub started : CurrentPicture → List DpbPicture → Bumped
 started current pictures =
     if current.begins_anew
     then (if current.no_output_of_prior_pics_flag then none_out (discarded pictures) else bumped 0 None pictures)
-    else bumped current.ordering.max_num_reorder_pics (Some (current.ordering.max_dec_pic_buffering_minus1 + 1)) pictures
+    else bumped current.ordering.max_num_reorder_pics (Some (size_of current.ordering)) pictures
 
--- the current picture enters the buffer, marked for short-term reference, and needed for output as PicOutputFlag says;
--- then pictures go out until no more are needed for output than may be reordered (C.5.2.3)
+-- a picture of this order count as it enters the buffer: marked for short-term reference, and needed for output as
+-- PicOutputFlag says (C.5.2.3)
+abbrev pub newest : ℤ → Bool → DpbPicture
+newest poc pic_output_flag = record { poc = poc; mark = mark.Short; needed_for_output = pic_output_flag }
+
+-- the current picture enters the buffer; then pictures go out until no more are needed for output than may be reordered
+-- (C.5.2.3)
 abbrev pub entered : CurrentPicture → List DpbPicture → List DpbPicture
-entered current pictures = pictures ++ record { poc = current.poc; mark = mark.Short; needed_for_output = current.pic_output_flag } ∷ []
+entered current pictures = pictures ++ newest current.poc current.pic_output_flag ∷ []
 
 unfoldable pub ended : CurrentPicture → List DpbPicture → Bumped
 ended current pictures = bumped current.ordering.max_num_reorder_pics None (entered current pictures)

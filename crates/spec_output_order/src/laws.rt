@@ -1,13 +1,18 @@
 //! Laws of the definitions.
 
-ghost use Rattle.std.specs.Prelude.{◌≡◌, ℕ, All, List, [], length, slice_index_or, Option, Some, None, true, false, ◌+◌, ◌<◌, ◌≤◌};
+ghost use Rattle.std.specs.Prelude.{◌≡◌, ℕ, ℤ, All, List, [], length, slice_index_or, Option, Some, None, Ok, true, false, ◌+◌, ◌<◌, ◌≤◌};
 ghost use Rattle.std.specs.List.{count_by};
 ghost use Rattle.header_types.specs.declared.reference_pictures.DpbPicture.{DpbPicture};
 ghost use Rattle.header_types.specs.declared.reference_pictures.Mark.{Mark};
-ghost use Rattle.spec_reference_pictures.specs.ReferencePictureSet.{is_reference};
+ghost use Rattle.header_types.specs.declared.reference_pictures.Rps.{Rps};
+ghost use Rattle.header_types.specs.declared.slice.PictureKind.{PictureKind};
+ghost use Rattle.header_types.specs.declared.slice.ReferenceFields.{ReferenceFields};
+ghost use Rattle.spec_reference_pictures.specs.PictureOrderCount.{begins_anew};
+ghost use Rattle.spec_reference_pictures.specs.ReferencePictureSet.{is_reference, reference_picture_set};
 ghost use Rattle.spec_output_order.specs.declared.current_picture.CurrentPicture.{CurrentPicture};
 ghost use Rattle.spec_output_order.specs.declared.next_output.NextOutput.{NextOutput};
-ghost use Rattle.spec_output_order.specs.OutputOrder.{GoesOutAtOnce, NoneNeededForOutput, all_marked, bumped, entered, is_needed_for_output, last_outputs, next_output, outputs_of, started};
+ghost use Rattle.spec_output_order.specs.OutputOrder.{GoesOutAtOnce, NoneNeededForOutput, all_marked, bumped, entered, is_full_of_references, is_needed_for_output, last_outputs, next_output, outputs_of, size_of, started};
+ghost use Rattle.spec_output_order.specs.Buffer.{place_outputs, start_outputs, started_and_placed};
 ghost use Rattle.spec_output_order.specs.Waiting.{GoesOutOnce, HasRoom, IsBumping, IsDiscarded, IsFirstForOutput, IsInRange, IsQuietAt, IsStill, Waits, WaitsAndThen, picture_at};
 
 /// The buffer behind a picture has that picture, those that it marks as reference, and at most max_num_reorder_pics that
@@ -67,4 +72,24 @@ pub fn outputs_name_pictures_of_the_buffer()
     ensures kept { (current : CurrentPicture) (dpb : List DpbPicture) (marks : List Mark) (at : ℕ) → at < length (outputs_of current dpb marks).kept
         → IsStill (picture_at (outputs_of current dpb marks).dpb at) (picture_at (entered current (all_marked dpb marks)) (slice_index_or (outputs_of current dpb marks).kept at 0)) }
     ensures marked { (dpb : List DpbPicture) (marks : List Mark) → length (all_marked dpb marks) ≡ length dpb }
+{}
+
+/// Where a buffer isn't full of references, a start leaves a place in it, a placing takes one, and behind a picture no more
+/// pictures are in it than it holds; a picture that begins anew marks none as reference.
+pub fn buffer_keeps_its_size()
+    ensures start { (current : CurrentPicture) (dpb : List DpbPicture) (marks : List Mark)
+        → is_full_of_references current.begins_anew current.ordering marks ≡ false → (current.begins_anew ≡ true → count_by is_reference marks ≡ 0)
+        → length (start_outputs current dpb marks).dpb ≤ current.ordering.max_dec_pic_buffering_minus1 }
+    ensures place { (reorder : ℕ) (picture : DpbPicture) (pictures : List DpbPicture) → length (place_outputs reorder picture pictures).dpb ≤ length pictures + 1 }
+    ensures both { (current : CurrentPicture) (dpb : List DpbPicture) (marks : List Mark)
+        → is_full_of_references current.begins_anew current.ordering marks ≡ false → (current.begins_anew ≡ true → count_by is_reference marks ≡ 0)
+        → length (outputs_of current dpb marks).dpb ≤ size_of current.ordering }
+    ensures anew { (kind : PictureKind) (references : ReferenceFields) (poc : ℤ) (dpb : List DpbPicture) (rps : Rps) → begins_anew kind ≡ true
+        → reference_picture_set kind references poc dpb ≡ Ok rps → count_by is_reference rps.marks ≡ 0 }
+{}
+
+/// What a picture puts out and leaves is what it puts out as it starts and then, in the buffer that this leaves, as it is
+/// placed.
+pub fn outputs_are_a_start_and_a_placing()
+    ensures { (current : CurrentPicture) (dpb : List DpbPicture) (marks : List Mark) → outputs_of current dpb marks ≡ started_and_placed current dpb marks }
 {}
