@@ -1,5 +1,5 @@
 -- The motion of prediction units, one after the other (8.5.3.2).
-use Rattle.std.specs.Prelude.{ℕ, ◌+◌, ◌≤◌, ◌^◌, Bool, ℤ, ◌+ℤ◌, Option, Some, None, List, fold, if◌then◌else◌}
+use Rattle.std.specs.Prelude.{ℕ, ◌+◌, ◌≤◌, ◌^◌, ℤ, ◌+ℤ◌, Option, Some, None, List, fold, if◌then◌else◌}
 use Rattle.std.specs.Int.{int_wrap}
 use mir.Syntax.{w16}
 use Rattle.ctu_records.specs.declared.prediction.MotionSyntax.{MotionSyntax}
@@ -16,9 +16,12 @@ use Rattle.spec_motion.specs.Vectors.{Beneath, Known}
 use Rattle.spec_motion.specs.Merging.{merged}
 use Rattle.spec_motion.specs.VectorPrediction.{predicted_mv}
 
--- a predictor and a difference, as numbers of 16 bits
+-- a predictor and a difference, as numbers of 16 bits: uLX is their sum modulo 2^16
+abbrev pub wrapped : ℤ → ℤ → ℤ
+wrapped predictor difference = int_wrap w16 (predictor +ℤ difference)
+
 abbrev pub sum_of : Mv → Mv → Mv
-sum_of a b = record { x = int_wrap w16 (a.x +ℤ b.x); y = int_wrap w16 (a.y +ℤ b.y) }
+sum_of predictor difference = record { x = wrapped predictor.x difference.x; y = wrapped predictor.y difference.y }
 
 -- MvLX and RefIdxLX of a vector that is coded
 unfoldable pub coded_vector : SliceMotion → Beneath → Known → Rectangle → ℕ → Option VectorSyntax → Option Vector

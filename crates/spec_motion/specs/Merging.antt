@@ -1,9 +1,9 @@
 -- Merging (8.5.3.2.1 to 8.5.3.2.5): a list of candidates, of which merge_idx names one.
-use Rattle.std.specs.Prelude.{ℕ, ◌+◌, ◌-◌, ◌*◌, ◌/◌, ◌^◌, ◌==◌, ◌<◌, Bool, true, false, not, ◌&&◌, ◌||◌, nat_lt, min, Option, Some, None, List, [], ◌∷◌, ◌++◌, length, take, map, filter_map, option_to_list, slice_index_or, if◌then◌else◌}
+use Rattle.std.specs.Prelude.{ℕ, ◌+◌, ◌-◌, ◌*◌, ◌/◌, ◌^◌, ◌==◌, Bool, true, false, not, ◌&&◌, nat_lt, min, Option, Some, None, List, [], ◌∷◌, ◌++◌, length, take, map, filter_map, option_to_list, slice_index_or, if◌then◌else◌}
 use Rattle.std.specs.List.{range_with_len}
 use Rattle.ctu_records.specs.declared.prediction.Mv.{Mv}
 use Rattle.ctu_records.specs.declared.prediction.PartMode.{PartMode}
-use Rattle.ctu_records.specs.declared.prediction.PartMode.TheVariants.{Whole, TwoNxN, Nx2N, NxN, TwoNxnU, TwoNxnD, NLx2N, NRx2N}
+use Rattle.ctu_records.specs.declared.prediction.PartMode.TheVariants.{TwoNxN, Nx2N, TwoNxnU, TwoNxnD, NLx2N, NRx2N}
 use Rattle.ctu_records.specs.declared.prediction.PredictionUnit.{PredictionUnit}
 use Rattle.ctu_records.specs.declared.prediction.Rectangle.{Rectangle}
 use Rattle.ctu_records.specs.Prediction.{part_block, rectangle}

@@ -1,5 +1,5 @@
 -- Motion by place, the pictures that it points to, and when two motions are the same.
-use Rattle.std.specs.Prelude.{ℕ, ◌==◌, Bool, true, false, not, ◌&&◌, Option, Some, None, List, ℤ, pos, slice_index_or, if◌then◌else◌}
+use Rattle.std.specs.Prelude.{ℕ, ◌==◌, Bool, true, false, not, ◌&&◌, Option, Some, None, pos, slice_index_or, if◌then◌else◌}
 use Rattle.std.specs.Ordering.{int_eq}
 use Rattle.ctu_records.specs.declared.prediction.Mv.{Mv}
 use Rattle.spec_motion.specs.declared.collocation.Collocated.{Collocated}

@@ -1,0 +1,24 @@
+//! The motion of a prediction unit (H.265 8.5.3.2): by merging, or by a predicted vector and a difference.
+#![tactic(auto)]
+
+mod blocks;
+mod candidates;
+mod combining;
+mod merging;
+mod pointing;
+mod predictors;
+mod references;
+mod sameness;
+mod scaling;
+mod spatial;
+mod temporal;
+mod unit_motion;
+mod view;
+
+pub use merging::merge;
+pub use predictors::amvp;
+pub use unit_motion::derive;
+pub use view::MotionView;
+
+#[cfg(test)]
+mod tests;
