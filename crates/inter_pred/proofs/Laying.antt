@@ -1,6 +1,7 @@
 -- Places of a list of which a part was written.
-use Rattle.std.proofs.Common.{rules, ◌≡◌, ℕ, ◌+◌, ◌-◌, ◌*◌, ◌<◌, ◌≤◌, ◌&&◌, cond, nat_le, nat_lt, List, inl, inr, length, get_or, take, drop, ap, ◌∙◌, arith}
+use Rattle.std.proofs.Common.{◌≡◌, ℕ, ◌+◌, ◌-◌, ◌*◌, ◌<◌, ◌≤◌, ◌&&◌, cond, nat_le, nat_lt, List, slice_set, inl, inr, length, take, drop, ap, ◌∙◌, arith}
 use Rattle.std.specs.List.{All}
+use Rattle.std.proofs.lemmas.Grind.{common_steps}
 use Rattle.std.proofs.lemmas.Bool.{cases_lt}
 use Rattle.std.proofs.lemmas.Bool.Decides.{nat_tests}
 use Rattle.std.proofs.lemmas.List.{get_or-take, get_or-drop, get_or-append_right, get_or_append_left, length-take-le}
@@ -51,3 +52,11 @@ line_laid width j i k before now s l m n told old =
     let t = told (72 * k + i) in
     let o = old i k l in
     grind (arith, nat_tests)
+
+-- one more place of a line
+pub set_laid : (from k v : ℕ) (first before : List ℕ) (s : ℕ → ℕ) → from + k < length before → v ≡ s (from + k) →
+    ((q : ℕ) → at before q ≡ cond (nat_le from q && nat_lt q (from + k)) (s q) (at first q)) →
+    (q : ℕ) → at (slice_set before (from + k) v) q ≡ cond (nat_le from q && nat_lt q (from + (k + 1))) (s q) (at first q)
+set_laid from k v first before s room e told q =
+    let t = told q in
+    grind (arith, common_steps, nat_tests)

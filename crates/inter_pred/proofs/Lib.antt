@@ -4,3 +4,4 @@ pub mod Laying
 pub mod Zeros
 pub mod Inside
 pub mod Joining
+pub mod Products

@@ -1,7 +1,6 @@
 -- Samples at 14 bits.
-use Rattle.std.proofs.Common.{◌≡◌, ℕ, zero, suc, ◌+◌, ◌-◌, ◌*◌, ◌%◌, ◌^◌, ◌<◌, ◌≤◌, inl, inr, sym, ap, mod-eq_of_lt, ℤ, pos, negsuc, ◌+ℤ◌, ◌-ℤ◌, ◌*ℤ◌, ◌∙◌, arith}
+use Rattle.std.proofs.Common.{◌≡◌, ℕ, zero, suc, ◌+◌, ◌-◌, ◌*◌, ◌%◌, ◌^◌, ◌<◌, ◌≤◌, inl, inr, sym, ap, mod-eq_of_lt, ℤ, pos, negsuc, ◌*ℤ◌, ◌∙◌, arith}
 use Rattle.std.proofs.lemmas.Int.{ints}
-use Rattle.std.proofs.lemmas.Nat.{rows}
 use Rattle.std.specs.Int.{int_shr}
 use Rattle.spec_inter_prediction.specs.Taps.{luma_taps, chroma_taps, luma_filter, chroma_filter, IsDepth}
 use Rattle.std.proofs.lemmas.Bool.Decides.{nat_tests}

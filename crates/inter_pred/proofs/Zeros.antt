@@ -1,5 +1,5 @@
 -- Lists of zeros.
-use Rattle.std.proofs.Common.{rules, ◌≡◌, ℕ, ◌<◌, ◌≤◌, ℤ, pos, negsuc, ◌≤ℤ◌, List, inl, inr, length, get_or, replicate, arith}
+use Rattle.std.proofs.Common.{◌≡◌, ℕ, ℤ, pos, List, inl, inr, replicate, arith}
 use Rattle.std.specs.List.{All}
 use Rattle.std.proofs.Math.ListN.{get_or-eq_default}
 use Rattle.std.proofs.lemmas.Int.{ints}

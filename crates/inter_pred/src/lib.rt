@@ -9,8 +9,10 @@ mod interpolation;
 mod line;
 mod prediction;
 mod reference;
+mod sample;
 mod scratch;
 mod sums;
+mod weighting;
 mod whole;
 mod window;
 
@@ -19,3 +21,4 @@ pub use line::clamped_line;
 pub use prediction::Prediction;
 pub use reference::RefWindow;
 pub use scratch::Scratch;
+pub use weighting::{weigh_one, weigh_two};

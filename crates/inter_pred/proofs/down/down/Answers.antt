@@ -1,4 +1,4 @@
-use Rattle.std.proofs.Common.{rules, ◌≡◌, ◌∙◌, ap, ℤ, ℕ, pos, ◌+ℤ◌, ◌-ℤ◌, ◌*◌, ◌+◌, arith}
+use Rattle.std.proofs.Common.{rules, ◌≡◌, ◌∙◌, ap, ℤ, ℕ, pos, ◌-ℤ◌, ◌*◌, ◌+◌, arith}
 use Rattle.std.proofs.lemmas.Int.{ints, to_z-of_z}
 use Rattle.std.specs.Int.{int_shr}
 use mir.Val.{SFits}

@@ -1,10 +1,8 @@
-use Rattle.std.proofs.Common.{rules, ◌≡◌, ◌<◌, ◌+◌, ℕ, ℤ, pos, ◌+ℤ◌, length, ◌∙◌, ap, sym, to_z, of_z, arith}
+use Rattle.std.proofs.Common.{rules, ◌≡◌, pos, length, arith}
 use Rattle.std.proofs.lemmas.Int.{ints, to_z-of_z}
 use Rattle.std.specs.Int.RustNames.{unsigned_abs}
 use mir.Val.{SFits}
 use mir.Syntax.{w32}
-use Rattle.spec_inter_prediction.specs.Taps.{clamped}
-use Rattle.inter_pred.specs.Passes.{at}
 use Rattle.inter_pred.proofs.Inside.{clamped_inside}
 use Rattle.inter_pred.proofs.line.clamped_line.Goals as goal
 

@@ -1,4 +1,4 @@
-use Rattle.std.proofs.Common.{◌≡◌, ◌<◌, ℕ, ◌+◌, pos, ◌+ℤ◌, length}
+use Rattle.std.proofs.Common.{◌≡◌, ◌<◌, ℕ, pos, ◌+ℤ◌, length}
 use Rattle.spec_inter_prediction.specs.Taps.{clamped}
 use Rattle.inter_pred.specs.Passes.{at}
 use Rattle.inter_pred.proofs.line.outside_line.Given as goal

@@ -1,6 +1,4 @@
-use Rattle.std.proofs.Common.{◌≡◌, ◌+◌, ◌-◌, ◌*◌, ◌<◌, ◌≤◌, ◌^◌, ◌∙◌, arith}
 use Rattle.inter_pred.proofs.Raising.{raised_high, raised_is}
-use Rattle.inter_pred.specs.Passes.{IsRaised}
 use Rattle.inter_pred.proofs.window.raised.Goals as goal
 
 pub returns-clause-value : goal.returns-clause-value

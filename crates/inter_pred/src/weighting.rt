@@ -1,0 +1,174 @@
+//! Blocks of one or two predictions (8.5.3.3.4).
+
+ghost use Rattle.std.specs.Prelude.{◌≡◌, ◌<◌, ◌≤◌, ◌+◌, ◌*◌, ℕ, ℤ, length, cond, nat_le, nat_lt, ◌&&◌};
+ghost use Rattle.std.specs.List.{All};
+ghost use Rattle.spec_inter_prediction.specs.Taps.{IsDepth};
+ghost use Rattle.spec_inter_prediction.specs.Weighting.{weighted_one, weighted_two, IsWeight, IsWeighting};
+ghost use Rattle.inter_pred.specs.Passes.{at, at_z, IsSmall};
+ghost use Rattle.inter_pred.specs.Samples.{sample};
+
+use crate::prediction::Prediction;
+use crate::sample::{default_one, default_two, explicit_one, explicit_two};
+use spec_inter_prediction::{Weight, Weighting};
+
+/// What samples are made by: the bit depth, log2WD, and the weights of the first and the second prediction.
+#[derive(Clone, Copy)]
+struct Scale {
+    depth: u32,
+    log2_wd: u32,
+    first: Weight,
+    second: Weight,
+}
+
+/// No weight.
+const NONE: Weight = Weight {
+    weight: 0,
+    offset: 0,
+};
+
+/// A sample of one or two predictions.
+#[inline(always)]
+#[tactic(auto, unfolding(crate::specs::Samples::sample))]
+fn sample<const KIND: u32>(scale: Scale, p: i32, q: i32) -> u16
+    requires depth { IsDepth scale.depth }
+    requires log2_wd { scale.log2_wd ≤ 13 }
+    requires first { IsWeight scale.first }
+    requires second { IsWeight scale.second }
+    requires p { IsSmall p }
+    requires q { IsSmall q }
+    ensures { result ≡ sample KIND scale.depth scale.log2_wd scale.first scale.second p q }
+{
+    match KIND {
+        0 => default_one(scale.depth, p),
+        1 => default_two(scale.depth, p, q),
+        2 => explicit_one(scale.depth, scale.log2_wd, scale.first, p),
+        _ => explicit_two(scale.depth, scale.log2_wd, scale.first, scale.second, p, q),
+    }
+}
+
+/// A line of samples, from a place on.
+fn line<const KIND: u32>(
+    scale: Scale,
+    p: &[i32],
+    q: &[i32],
+    from: usize,
+    width: usize,
+    out: &mut [u16],
+)
+    requires depth { IsDepth scale.depth }
+    requires log2_wd { scale.log2_wd ≤ 13 }
+    requires first { IsWeight scale.first }
+    requires second { IsWeight scale.second }
+    requires p { All IsSmall p.now }
+    requires q { All IsSmall q.now }
+    requires room { (from + width ≤ length p.now) × (from + width ≤ length q.now) × (from + width ≤ length out.old) }
+    ensures { (i : ℕ) → at out.new i ≡ cond (nat_le from i && nat_lt i (from + width)) (sample KIND scale.depth scale.log2_wd scale.first scale.second (at_z p.now i) (at_z q.now i)) (at out.old i) }
+{
+    for k in 0..width {
+        out[from + k] = sample::<KIND>(scale, p[from + k], q[from + k]);
+    }
+}
+
+/// The samples of a block.
+fn lines<const KIND: u32>(
+    scale: Scale,
+    p: &Prediction,
+    q: &Prediction,
+    width: usize,
+    height: usize,
+    out: &mut [u16; 4096],
+)
+    requires depth { IsDepth scale.depth }
+    requires log2_wd { scale.log2_wd ≤ 13 }
+    requires first { IsWeight scale.first }
+    requires second { IsWeight scale.second }
+    requires size { (width ≤ 64) × (height ≤ 64) }
+    ensures { (x y : ℕ) → x < width → y < height → at out.new (64 * y + x) ≡ sample KIND scale.depth scale.log2_wd scale.first scale.second (at_z p.now (64 * y + x)) (at_z q.now (64 * y + x)) }
+{
+    for y in 0..height {
+        line::<KIND>(scale, &p.samples, &q.samples, 64 * y, width, out);
+    }
+}
+
+/// Writes the samples of a block that is predicted from one list, `list` 0 or 1 (8.5.3.3.4.2, 8.5.3.3.4.3), in lines of 64.
+#[tactic(auto, unfolding(crate::specs::Samples::sample, spec_inter_prediction::specs::Weighting::weighted_one))]
+pub fn weigh_one(
+    prediction: &Prediction,
+    list: u8,
+    weighting: Weighting,
+    depth: u32,
+    width: usize,
+    height: usize,
+    out: &mut [u16; 4096],
+)
+    requires depth { IsDepth depth }
+    requires weights { IsWeighting weighting }
+    requires size { (width ≤ 64) × (height ≤ 64) }
+    ensures { (x y : ℕ) → x < width → y < height → at out.new (64 * y + x) ≡ weighted_one depth weighting list (at_z prediction.now (64 * y + x)) }
+{
+    match weighting {
+        Weighting::Default => {
+            let scale = unweighted(depth);
+            lines::<0>(scale, prediction, prediction, width, height, out);
+        }
+        Weighting::Explicit(weights) => {
+            let scale = Scale {
+                depth,
+                log2_wd: u32::from(weights.log2_denominator) + (14 - depth),
+                first: if list == 0 {
+                    weights.list0
+                } else {
+                    weights.list1
+                },
+                second: NONE,
+            };
+            lines::<2>(scale, prediction, prediction, width, height, out);
+        }
+    }
+}
+
+/// Writes the samples of a block that is predicted from both lists, in lines of 64.
+#[tactic(auto, unfolding(crate::specs::Samples::sample, spec_inter_prediction::specs::Weighting::weighted_two))]
+pub fn weigh_two(
+    list0: &Prediction,
+    list1: &Prediction,
+    weighting: Weighting,
+    depth: u32,
+    width: usize,
+    height: usize,
+    out: &mut [u16; 4096],
+)
+    requires depth { IsDepth depth }
+    requires weights { IsWeighting weighting }
+    requires size { (width ≤ 64) × (height ≤ 64) }
+    ensures { (x y : ℕ) → x < width → y < height → at out.new (64 * y + x) ≡ weighted_two depth weighting (at_z list0.now (64 * y + x)) (at_z list1.now (64 * y + x)) }
+{
+    match weighting {
+        Weighting::Default => lines::<1>(unweighted(depth), list0, list1, width, height, out),
+        Weighting::Explicit(weights) => {
+            let scale = Scale {
+                depth,
+                log2_wd: u32::from(weights.log2_denominator) + (14 - depth),
+                first: weights.list0,
+                second: weights.list1,
+            };
+            lines::<3>(scale, list0, list1, width, height, out);
+        }
+    }
+}
+
+/// A scale without weights.
+fn unweighted(depth: u32) -> Scale
+    requires { IsDepth depth }
+    ensures depth { result.depth ≡ depth }
+    ensures log2_wd { result.log2_wd ≤ 13 }
+    ensures first { IsWeight result.first }
+    ensures second { IsWeight result.second }
+{
+    Scale {
+        depth,
+        log2_wd: 14 - depth,
+        first: NONE,
+        second: NONE,
+    }
+}
