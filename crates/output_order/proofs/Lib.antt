@@ -1,2 +1,3 @@
 pub mod Discarded
 pub mod MarkedPictures
+pub mod Sizes

@@ -15,7 +15,8 @@ pub(crate) fn is_kept(picture: &DpbPicture) -> bool
     picture.needed_for_output || is_reference(picture.mark)
 }
 
-fn is_reference(mark: Mark) -> bool
+/// Whether a picture with this mark is one for reference.
+pub(crate) fn is_reference(mark: Mark) -> bool
     ensures { result ≡ is_reference mark }
 {
     !matches!(mark, Mark::Unused)

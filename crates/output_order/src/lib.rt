@@ -2,9 +2,17 @@
 #![tactic(auto)]
 
 mod bumping;
+mod current;
+mod dpb;
+mod full;
 mod kept;
 mod marking;
 mod next_output;
 mod outputs;
+#[cfg(test)]
+mod tests;
 
+pub use current::current_picture;
+pub use dpb::Dpb;
+pub use full::is_full_of_references;
 pub use outputs::{last_outputs, outputs_of};

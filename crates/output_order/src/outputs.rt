@@ -1,7 +1,7 @@
 //! What a picture puts out, and what the end of the input does (C.5.2.2, C.5.2.3).
 
-ghost use Rattle.std.specs.Prelude.{◌≡◌, ◌^◌, ◌<◌, IfOk, OnOk, ◌++◌, length};
-ghost use Rattle.spec_output_order.specs.OutputOrder.{ended, last_outputs, outputs_of, started};
+ghost use Rattle.std.specs.Prelude.{◌≡◌, ◌^◌, ◌<◌, IfOk, OnOk, None, [], ◌∷◌, ◌++◌, length};
+ghost use Rattle.spec_output_order.specs.OutputOrder.{bumped, ended, last_outputs, newest, outputs_of, started};
 
 use crate::bumping::{bump, discard};
 use crate::kept::{kept_pictures, kept_places};
@@ -43,7 +43,7 @@ pub fn outputs_of(
 /// Before the current picture is decoded: where it begins anew the pictures that are needed for output are discarded or
 /// all go out, else pictures go out until there is room (C.5.2.2).
 #[tactic(auto, unfolding(spec_output_order::specs::OutputOrder::started))]
-fn start(
+pub(crate) fn start(
     current: CurrentPicture,
     out: &mut FieldList<u32>,
     pictures: &mut FieldList<DpbPicture>,
@@ -82,12 +82,40 @@ fn end(
     ensures left { OnOk result (pictures.new ≡ (ended current pictures.old).left) }
     ensures few { OnOk result (length pictures.new < 2 ^ 32) }
 {
-    pictures.push(DpbPicture {
-        poc: current.poc,
+    let picture = newest(current.poc, current.pic_output_flag);
+    enter(
+        current.ordering.max_num_reorder_pics,
+        picture,
+        out,
+        pictures,
+    )
+}
+
+/// A picture of this order count as it enters the buffer.
+pub(crate) fn newest(poc: i32, pic_output_flag: bool) -> DpbPicture
+    ensures { result ≡ newest poc pic_output_flag }
+{
+    DpbPicture {
+        poc,
         mark: Mark::Short,
-        needed_for_output: current.pic_output_flag,
-    })?;
-    bump(current.ordering.max_num_reorder_pics, None, out, pictures)
+        needed_for_output: pic_output_flag,
+    }
+}
+
+/// A picture enters the buffer, and pictures go out until no more are needed for output than `reorder`.
+pub(crate) fn enter(
+    reorder: u32,
+    picture: DpbPicture,
+    out: &mut FieldList<u32>,
+    pictures: &mut FieldList<DpbPicture>,
+) -> Result<(), AllocError>
+    requires few { length pictures.old < 2 ^ 16 }
+    ensures out { OnOk result (out.new ≡ out.old ++ (bumped reorder None (pictures.old ++ picture ∷ [])).out) }
+    ensures left { OnOk result (pictures.new ≡ (bumped reorder None (pictures.old ++ picture ∷ [])).left) }
+    ensures few { OnOk result (length pictures.new < 2 ^ 32) }
+{
+    pictures.push(picture)?;
+    bump(reorder, None, out, pictures)
 }
 
 /// The places of the pictures that go out where the input ends, in output order: all that are needed for output, where
@@ -104,7 +132,7 @@ pub fn last_outputs(alloc: Global, dpb: &[DpbPicture]) -> Result<FieldList<u32>,
 }
 
 /// The pictures of the buffer once more.
-fn copied(alloc: Global, dpb: &[DpbPicture]) -> Result<FieldList<DpbPicture>, AllocError>
+pub(crate) fn copied(alloc: Global, dpb: &[DpbPicture]) -> Result<FieldList<DpbPicture>, AllocError>
     ensures { IfOk result (λ pictures. pictures ≡ dpb.now) }
 {
     Ok(FieldList::from_items(Vec::from_slice(alloc, dpb)?))
