@@ -22,3 +22,6 @@ pub use prediction::Prediction;
 pub use reference::RefWindow;
 pub use scratch::Scratch;
 pub use weighting::{weigh_one, weigh_two};
+
+#[cfg(test)]
+mod tests;

@@ -1,5 +1,5 @@
 -- Weighted sample prediction (8.5.3.3.4): samples of 14 bits become samples of a picture.
-use Rattle.std.specs.Prelude.{◌≡◌, ℕ, ◌+◌, ◌-◌, ◌^◌, ◌≤◌, ◌==◌, ℤ, pos, negsuc, ◌+ℤ◌, ◌-ℤ◌, ◌*ℤ◌, ◌≤ℤ◌, if◌then◌else◌}
+use Rattle.std.specs.Prelude.{ℕ, ◌+◌, ◌-◌, ◌^◌, ◌≤◌, ◌==◌, ℤ, pos, negsuc, ◌+ℤ◌, ◌-ℤ◌, ◌*ℤ◌, ◌≤ℤ◌, if◌then◌else◌}
 use Rattle.std.specs.Int.{int_shr, int_max, int_min}
 use Rattle.std.specs.Int.RustNames.{unsigned_abs}
 use Rattle.spec_inter_prediction.specs.declared.weighting.Weight.{Weight}
@@ -60,4 +60,5 @@ pub record IsWeights (w : Weights) : Type 0 where
   pub list1 : IsWeight w.list1
 
 abbrev pub IsWeighting : Weighting → Type 0
-IsWeighting weighting = (w : Weights) → weighting ≡ Explicit w → IsWeights w
+IsWeighting Default = Unit {0}
+IsWeighting (Explicit w) = IsWeights w

@@ -2,6 +2,10 @@
 //! two predictions become samples.
 #![tactic(auto)]
 
+mod laws;
 mod weighting;
 
+pub use laws::{
+    filters_are_mirrored, filters_keep_equal_samples, luma_samples_depend_on_their_lines,
+};
 pub use weighting::{Weight, Weighting, Weights};

@@ -1,7 +1,8 @@
 use Rattle.std.proofs.Common.{arith}
+use Rattle.spec_inter_prediction.specs.Weighting.{IsWeights}
 use Rattle.inter_pred.proofs.weighting.weigh_one.Goals as goal
 
 pub lines-requires-in-Explicit-clause-log2_wd : goal.lines-requires-in-Explicit-clause-log2_wd
 lines-requires-in-Explicit-clause-log2_wd c =
-    let w = c.requires.weights c.in-Explicit.weights c.in-Explicit.is in
+    let w : IsWeights c.in-Explicit.weights = rw c.in-Explicit.is at c.requires.weights in
     omega (arith, w.denominator, c.from.ensures, c.requires.depth)
