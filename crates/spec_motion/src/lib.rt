@@ -3,11 +3,13 @@
 #![tactic(auto)]
 
 mod collocation;
+mod laws;
 mod pairs;
 mod slice_motion;
 mod vectors;
 
 pub use collocation::{Collocated, CollocatedVector};
+pub use laws::{merge_lists_are_full, predictors_are_two, vectors_over_two_pictures_are_halved};
 pub use pairs::COMBINED_PAIRS;
 pub use slice_motion::SliceMotion;
 pub use vectors::{Motion, Reference, Vector};
