@@ -4,7 +4,7 @@ use Rattle.std.specs.List.{All}
 use Rattle.std.proofs.Math.ListN.{get_or-eq_default}
 use Rattle.std.proofs.lemmas.Bool.{cases_lt}
 use Rattle.ctu_records.specs.declared.item.Item.{Item}
-use Rattle.ctu_records.specs.declared.item.Item.TheVariants.{Unit, Luma, Chroma, Pcm, Sample, Transform, Delta, Block, Level}
+use Rattle.ctu_records.specs.declared.item.Item.TheVariants.{Unit, Luma, Chroma, Prediction, Pcm, Sample, Transform, Delta, Block, Level}
 use Rattle.spec_reconstruction.specs.declared.format.UnitFormat.{UnitFormat}
 use Rattle.spec_reconstruction.specs.Pulses.{sample_of}
 use Rattle.spec_reconstruction.specs.Sound.{IsPulse, IsSound}
@@ -16,6 +16,7 @@ sound_small : (format : UnitFormat) (item : Item) → IsSound format item → Is
 sound_small format (Unit unit) sound = none_small format
 sound_small format (Luma luma) sound = none_small format
 sound_small format (Chroma mode) sound = none_small format
+sound_small format (Prediction unit) sound = none_small format
 sound_small format (Pcm square) sound = none_small format
 sound_small format (Sample value) sound = sound
 sound_small format (Transform unit) sound = none_small format

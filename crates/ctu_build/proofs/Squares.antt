@@ -8,6 +8,7 @@ use Rattle.ctu_records.specs.declared.item.Square.{Square}
 use Rattle.ctu_build.proofs.Sizes.{chroma_side, luma_side}
 use Rattle.spec_reconstruction.specs.declared.format.UnitFormat.{UnitFormat}
 use Rattle.spec_reconstruction.specs.Parameters.{depth_of, parameter_of}
+use Rattle.spec_reconstruction.specs.declared.unit_mode.UnitMode.{UnitMode}
 use Rattle.spec_reconstruction.specs.Residuals.{levels_behind, residuals, residuals_behind}
 use Rattle.spec_slice_data.specs.Residual.{samples_of_place}
 use Rattle.spec_transforms.specs.Scaling.{Is16}
@@ -48,25 +49,25 @@ placed format block place depth f g before after told at e same =
     (rw (e, at) at told) ∙ constructed_same _ _ _ _ _ f g before same
 
 -- a block whose levels are its residuals
-pub bypass_constructed : (format : UnitFormat) (bypass : Bool) (block : CodedBlock) (qp : ℕ) (items : List Item) (levels : List ℤ) (count : ℕ) (place : Place) (depth : ℕ) (before after : Known)
+pub bypass_constructed : (format : UnitFormat) (mode : UnitMode) (block : CodedBlock) (qp : ℕ) (items : List Item) (levels : List ℤ) (count : ℕ) (place : Place) (depth : ℕ) (before after : Known)
     → after ≡ constructed depth place.c place.x place.y (2 ^ place.log2) (block_in (2 ^ place.log2) levels) before → place ≡ place_of block → depth ≡ depth_of format block.component
-    → bypass ≡ true → levels ≡ levels_behind count items → count ≡ 2 ^ block.log2_size * 2 ^ block.log2_size
-    → after ≡ constructed (depth_of format block.component) block.component (samples_of_place block.component * block.x) (samples_of_place block.component * block.y) (2 ^ block.log2_size) (residuals_behind format bypass block qp items) before
+    → mode.transquant_bypass ≡ true → levels ≡ levels_behind count items → count ≡ 2 ^ block.log2_size * 2 ^ block.log2_size
+    → after ≡ constructed (depth_of format block.component) block.component (samples_of_place block.component * block.x) (samples_of_place block.component * block.y) (2 ^ block.log2_size) (residuals_behind format mode block qp items) before
 unfolding residuals
-bypass_constructed format bypass block qp items levels count place depth before after told at e bypasses read counts =
+bypass_constructed format mode block qp items levels count place depth before after told at e bypasses read counts =
     placed format block place depth _ _ before after told at e
     (λ i j hi hj. rw (bypasses, at) (ap (λ (l : List ℤ). block_in (2 ^ block.log2_size) l i j) (read ∙ ap (λ (n : ℕ). levels_behind n items) counts)))
 
 -- a block whose levels are scaled
-pub scaled_constructed : (format : UnitFormat) (bypass : Bool) (block : CodedBlock) (qp parameter : ℕ) (items : List Item) (levels out : List ℤ) (count : ℕ) (place : Place) (depth : ℕ) (before after : Known)
+pub scaled_constructed : (format : UnitFormat) (mode : UnitMode) (block : CodedBlock) (qp parameter : ℕ) (items : List Item) (levels out : List ℤ) (count : ℕ) (place : Place) (depth : ℕ) (before after : Known)
     → after ≡ constructed depth place.c place.x place.y (2 ^ place.log2) (block_in (2 ^ place.log2) out) before → place ≡ place_of block → depth ≡ depth_of format block.component
-    → bypass ≡ false → levels ≡ levels_behind count items → count ≡ 2 ^ block.log2_size * 2 ^ block.log2_size
+    → mode.transquant_bypass ≡ false → levels ≡ levels_behind count items → count ≡ 2 ^ block.log2_size * 2 ^ block.log2_size
     → parameter ≡ parameter_of format block.component qp
-    → ((x y : ℕ) → x < 2 ^ block.log2_size → y < 2 ^ block.log2_size → block_in (2 ^ block.log2_size) out x y ≡ residuals format false block parameter levels x y)
-    → after ≡ constructed (depth_of format block.component) block.component (samples_of_place block.component * block.x) (samples_of_place block.component * block.y) (2 ^ block.log2_size) (residuals_behind format bypass block qp items) before
-scaled_constructed format bypass block qp parameter items levels out count place depth before after told at e scales read counts is gave =
+    → ((x y : ℕ) → x < 2 ^ block.log2_size → y < 2 ^ block.log2_size → block_in (2 ^ block.log2_size) out x y ≡ residuals format mode block parameter levels x y)
+    → after ≡ constructed (depth_of format block.component) block.component (samples_of_place block.component * block.x) (samples_of_place block.component * block.y) (2 ^ block.log2_size) (residuals_behind format mode block qp items) before
+scaled_constructed format mode block qp parameter items levels out count place depth before after told at e scales read counts is gave =
     placed format block place depth _ _ before after told at e
-    (λ i j hi hj. rw (scales, at) (gave i j hi hj ∙ ap (λ (p : ℕ). residuals format false block p levels i j) is ∙ ap (λ (l : List ℤ). residuals format false block (parameter_of format block.component qp) l i j) (read ∙ ap (λ (n : ℕ). levels_behind n items) counts)))
+    (λ i j hi hj. rw at (gave i j hi hj ∙ ap (λ (p : ℕ). residuals format mode block p levels i j) is ∙ ap (λ (l : List ℤ). residuals format mode block (parameter_of format block.component qp) l i j) (read ∙ ap (λ (n : ℕ). levels_behind n items) counts)))
 
 -- a predicted block
 pub predicted_laid : (format : UnitFormat) (place : Place) (mode depth : ℕ) (edge samples : List ℕ) (before after : Known)

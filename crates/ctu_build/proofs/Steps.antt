@@ -43,8 +43,8 @@ built_all format all items k building end le told =
 
 -- a coded block
 pub block_built : (format : UnitFormat) (all : List Item) (coding : Coding) (coded : InUnit) (block : CodedBlock) (item : Item) (behind : List Item) (before after : Known)
-    → after ≡ constructed (depth_of format coded.block.component) coded.block.component (samples_of_place coded.block.component * coded.block.x) (samples_of_place coded.block.component * coded.block.y) (2 ^ coded.block.log2_size) (residuals_behind format coded.transquant_bypass coded.block coded.qp behind) before
-    → coded.block ≡ block → coded.transquant_bypass ≡ coding.transquant_bypass → coded.qp ≡ qp_at all block.x block.y → item ≡ Block block
+    → after ≡ constructed (depth_of format coded.block.component) coded.block.component (samples_of_place coded.block.component * coded.block.x) (samples_of_place coded.block.component * coded.block.y) (2 ^ coded.block.log2_size) (residuals_behind format coded.mode coded.block coded.qp behind) before
+    → coded.block ≡ block → coded.mode ≡ coding.mode → coded.qp ≡ qp_at all block.x block.y → item ≡ Block block
     → building coding after ≡ item_built format all (building coding before) item behind
 unfolding block_constructed
 block_built format all coding coded block item behind before after told eb et eq is = rw (told, eb, et, eq, is) refl

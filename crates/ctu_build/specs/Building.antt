@@ -5,4 +5,4 @@ use Rattle.spec_reconstruction.specs.Unit.{Building}
 
 -- what is known of the coding unit, and the samples
 abbrev pub building : Coding → Known → Building
-building coding known = record { transquant_bypass = coding.transquant_bypass; chroma_mode = coding.chroma_mode; known = known }
+building coding known = record { mode = coding.mode; chroma_mode = coding.chroma_mode; known = known }

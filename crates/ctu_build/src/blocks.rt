@@ -17,13 +17,13 @@ use crate::residuals::{Quantized, residuals_of};
 use crate::scratch::Scratch;
 use crate::unit_samples::UnitSamples;
 use ctu_records::{CodedBlock, Item};
-use spec_reconstruction::UnitFormat;
+use spec_reconstruction::{UnitFormat, UnitMode};
 
-/// A coded block, cu_transquant_bypass_flag and Qp'Y of its coding unit.
+/// A coded block, and how its coding unit is coded, with its Qp'Y.
 #[derive(Clone, Copy)]
 pub(crate) struct InUnit {
     pub(crate) block: CodedBlock,
-    pub(crate) transquant_bypass: bool,
+    pub(crate) mode: UnitMode,
     pub(crate) qp: u8,
 }
 
@@ -38,9 +38,9 @@ pub(crate) fn construct(
     requires format { IsFormat format.now }
     requires block { IsCoded coded.block }
     requires qp { IsParameter format.now.luma_depth coded.qp }
-    ensures { held samples.new ≡ constructed (depth_of format.now coded.block.component) coded.block.component (samples_of_place coded.block.component * coded.block.x) (samples_of_place coded.block.component * coded.block.y) (2 ^ coded.block.log2_size) (residuals_behind format.now coded.transquant_bypass coded.block coded.qp items.now) (held samples.old) }
+    ensures { held samples.new ≡ constructed (depth_of format.now coded.block.component) coded.block.component (samples_of_place coded.block.component * coded.block.x) (samples_of_place coded.block.component * coded.block.y) (2 ^ coded.block.log2_size) (residuals_behind format.now coded.mode coded.block coded.qp items.now) (held samples.old) }
 {
-    if coded.transquant_bypass {
+    if coded.mode.transquant_bypass {
         add_levels(format, coded, items, &mut scratch.levels, samples);
     } else {
         add_residuals(format, coded, items, scratch, samples);
@@ -58,8 +58,8 @@ fn add_levels(
 )
     requires format { IsFormat format.now }
     requires block { IsCoded coded.block }
-    requires bypass { coded.transquant_bypass ≡ true }
-    ensures { held samples.new ≡ constructed (depth_of format.now coded.block.component) coded.block.component (samples_of_place coded.block.component * coded.block.x) (samples_of_place coded.block.component * coded.block.y) (2 ^ coded.block.log2_size) (residuals_behind format.now coded.transquant_bypass coded.block coded.qp items.now) (held samples.old) }
+    requires bypass { coded.mode.transquant_bypass ≡ true }
+    ensures { held samples.new ≡ constructed (depth_of format.now coded.block.component) coded.block.component (samples_of_place coded.block.component * coded.block.x) (samples_of_place coded.block.component * coded.block.y) (2 ^ coded.block.log2_size) (residuals_behind format.now coded.mode coded.block coded.qp items.now) (held samples.old) }
 {
     let place = place_of(coded.block);
     let side = place.side();
@@ -80,8 +80,8 @@ fn add_residuals(
     requires format { IsFormat format.now }
     requires block { IsCoded coded.block }
     requires qp { IsParameter format.now.luma_depth coded.qp }
-    requires bypass { coded.transquant_bypass ≡ false }
-    ensures { held samples.new ≡ constructed (depth_of format.now coded.block.component) coded.block.component (samples_of_place coded.block.component * coded.block.x) (samples_of_place coded.block.component * coded.block.y) (2 ^ coded.block.log2_size) (residuals_behind format.now coded.transquant_bypass coded.block coded.qp items.now) (held samples.old) }
+    requires bypass { coded.mode.transquant_bypass ≡ false }
+    ensures { held samples.new ≡ constructed (depth_of format.now coded.block.component) coded.block.component (samples_of_place coded.block.component * coded.block.x) (samples_of_place coded.block.component * coded.block.y) (2 ^ coded.block.log2_size) (residuals_behind format.now coded.mode coded.block coded.qp items.now) (held samples.old) }
 {
     let block = coded.block;
     let place = place_of(block);
@@ -95,6 +95,11 @@ fn add_residuals(
     let scaled = &mut scaled[..side * side];
     let residuals = &mut residuals[..side * side];
     read_levels(items, levels);
-    residuals_of(format, Quantized { block, qp }, levels, scaled, residuals);
+    let quantized = Quantized {
+        block,
+        mode: coded.mode,
+        qp,
+    };
+    residuals_of(format, quantized, levels, scaled, residuals);
     samples.add(place, residuals, depth);
 }

@@ -56,6 +56,7 @@ fn lay_item(levels: &mut [i32], item: Item) -> bool
         Item::Unit(_)
         | Item::Luma(_)
         | Item::Chroma(_)
+        | Item::Prediction(_)
         | Item::Pcm(_)
         | Item::Sample(_)
         | Item::Transform(_)

@@ -22,6 +22,7 @@ fn sample_of(item: Item) -> u16
         Item::Unit(_)
         | Item::Luma(_)
         | Item::Chroma(_)
+        | Item::Prediction(_)
         | Item::Pcm(_)
         | Item::Transform(_)
         | Item::Delta(_)

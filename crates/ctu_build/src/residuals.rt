@@ -11,7 +11,7 @@ ghost use Rattle.spec_reconstruction.specs.Sound.{IsCoded, IsFormat};
 use crate::parameters::{depth_of, factors_of};
 use ctu_records::CodedBlock;
 use residual_transform::{inverse, scale, skip};
-use spec_reconstruction::UnitFormat;
+use spec_reconstruction::{UnitFormat, UnitMode};
 
 /// The scaled coefficients of a block's levels.
 fn scale_levels(format: &UnitFormat, block: CodedBlock, qp: u32, levels: &[i32], scaled: &mut [i32])
@@ -32,25 +32,31 @@ fn scale_levels(format: &UnitFormat, block: CodedBlock, qp: u32, levels: &[i32],
 }
 
 /// Whether a block has the transform of sines.
-fn has_sines(block: CodedBlock) -> bool
-    ensures { result ≡ has_sines block.component block.log2_size }
+fn has_sines(mode: UnitMode, block: CodedBlock) -> bool
+    ensures { result ≡ has_sines mode block.component block.log2_size }
 {
-    block.component == 0 && block.log2_size == 2
+    mode.intra && (block.component == 0 && block.log2_size == 2)
 }
 
 /// The residuals of scaled coefficients by the block's transform.
-fn transform(format: &UnitFormat, block: CodedBlock, scaled: &[i32], out: &mut [i32])
+fn transform(
+    format: &UnitFormat,
+    mode: UnitMode,
+    block: CodedBlock,
+    scaled: &[i32],
+    out: &mut [i32],
+)
     requires format { IsFormat format.now }
     requires block { IsCoded block }
     requires scaled { All Is16 scaled.now }
     requires count { length scaled.now ≡ 2 ^ block.log2_size * 2 ^ block.log2_size }
     requires room { length out.old ≡ length scaled.now }
-    ensures value { (x y : ℕ) → x < 2 ^ block.log2_size → y < 2 ^ block.log2_size → block_in (2 ^ block.log2_size) out.new x y ≡ transformed (depth_of format.now block.component) (has_sines block.component block.log2_size) (2 ^ block.log2_size) (block_in (2 ^ block.log2_size) scaled.now) x y }
+    ensures value { (x y : ℕ) → x < 2 ^ block.log2_size → y < 2 ^ block.log2_size → block_in (2 ^ block.log2_size) out.new x y ≡ transformed (depth_of format.now block.component) (has_sines mode block.component block.log2_size) (2 ^ block.log2_size) (block_in (2 ^ block.log2_size) scaled.now) x y }
     ensures small { All IsResidual out.new }
 {
     let depth = depth_of(format, block.component);
     let log2 = u32::from(block.log2_size);
-    inverse(scaled, log2, has_sines(block), depth, out);
+    inverse(scaled, log2, has_sines(mode, block), depth, out);
 }
 
 /// The residuals of scaled coefficients whose transform is skipped.
@@ -68,10 +74,11 @@ fn skip_transform(format: &UnitFormat, block: CodedBlock, scaled: &[i32], out: &
     skip(scaled, u32::from(block.log2_size), depth, out);
 }
 
-/// A coded block and its qP.
+/// A coded block, how its coding unit is coded, and its qP.
 #[derive(Clone, Copy)]
 pub(crate) struct Quantized {
     pub(crate) block: CodedBlock,
+    pub(crate) mode: UnitMode,
     pub(crate) qp: u32,
 }
 
@@ -85,12 +92,13 @@ pub(crate) fn residuals_of(
 )
     requires format { IsFormat format.now }
     requires block { IsCoded coded.block }
+    requires bypass { coded.mode.transquant_bypass ≡ false }
     requires qp { IsParameter (depth_of format.now coded.block.component) coded.qp }
     requires levels { All Is16 levels.now }
     requires count { length levels.now ≡ 2 ^ coded.block.log2_size * 2 ^ coded.block.log2_size }
     requires scaled { length scaled.old ≡ length levels.now }
     requires room { length out.old ≡ length levels.now }
-    ensures value { (x y : ℕ) → x < 2 ^ coded.block.log2_size → y < 2 ^ coded.block.log2_size → block_in (2 ^ coded.block.log2_size) out.new x y ≡ residuals format.now false coded.block coded.qp levels.now x y }
+    ensures value { (x y : ℕ) → x < 2 ^ coded.block.log2_size → y < 2 ^ coded.block.log2_size → block_in (2 ^ coded.block.log2_size) out.new x y ≡ residuals format.now coded.mode coded.block coded.qp levels.now x y }
     ensures small { All IsResidual out.new }
 {
     let block = coded.block;
@@ -98,6 +106,6 @@ pub(crate) fn residuals_of(
     if block.transform_skip {
         skip_transform(format, block, scaled, out);
     } else {
-        transform(format, block, scaled, out);
+        transform(format, coded.mode, block, scaled, out);
     }
 }

@@ -16,13 +16,12 @@ use crate::soundness::{is_coded, is_square};
 use crate::transform_units::{Modes, predict_unit};
 use crate::unit_samples::UnitSamples;
 use ctu_records::{CodedBlock, Item, Records, Square};
-use spec_reconstruction::UnitFormat;
+use spec_reconstruction::{UnitFormat, UnitMode};
 
 /// What is known of the coding unit that is built.
 #[derive(Clone, Copy, Debug, PartialEq, Eq)]
 pub(crate) struct Coding {
-    /// cu_transquant_bypass_flag.
-    pub(crate) transquant_bypass: bool,
+    pub(crate) mode: UnitMode,
     /// IntraPredModeC.
     pub(crate) chroma_mode: u8,
 }
@@ -62,7 +61,10 @@ fn build_items(unit: &Unit<'_>, items: &[Item], scratch: &mut Scratch, samples: 
     ensures { AreSound unit.now.format.now unit.now.records.now.items → All (IsSound unit.now.format.now) items.now → (items_built unit.now.format.now unit.now.records.now.items items.now (before_unit (held samples.old))).known ≡ held samples.new }
 {
     let mut coding = Coding {
-        transquant_bypass: false,
+        mode: UnitMode {
+            transquant_bypass: false,
+            intra: false,
+        },
         chroma_mode: 0,
     };
     for k in 0..items.len() {
@@ -89,11 +91,14 @@ fn build_item(
 {
     match next.item {
         Item::Unit(begun) => Coding {
-            transquant_bypass: begun.transquant_bypass,
+            mode: UnitMode {
+                transquant_bypass: begun.transquant_bypass,
+                intra: begun.intra,
+            },
             chroma_mode: coding.chroma_mode,
         },
         Item::Chroma(mode) => Coding {
-            transquant_bypass: coding.transquant_bypass,
+            mode: coding.mode,
             chroma_mode: mode.min(34),
         },
         Item::Pcm(square) => {
@@ -122,7 +127,11 @@ fn build_item(
             }
             coding
         }
-        Item::Luma(_) | Item::Sample(_) | Item::Delta(_) | Item::Level(_, _) => coding,
+        Item::Luma(_)
+        | Item::Prediction(_)
+        | Item::Sample(_)
+        | Item::Delta(_)
+        | Item::Level(_, _) => coding,
     }
 }
 
@@ -145,14 +154,14 @@ fn in_unit(unit: &Unit<'_>, coding: Coding, block: CodedBlock) -> InUnit
     requires format { IsFormat unit.now.format.now }
     requires block { IsCoded block }
     ensures block { result.block ≡ block }
-    ensures bypass { result.transquant_bypass ≡ coding.transquant_bypass }
+    ensures mode { result.mode ≡ coding.mode }
     ensures qp { IsParameter unit.now.format.now.luma_depth (qp_at unit.now.records.now.items block.x block.y) → result.qp ≡ qp_at unit.now.records.now.items block.x block.y }
     ensures range { IsParameter unit.now.format.now.luma_depth result.qp }
 {
     let qp = unit.records.qp(usize::from(block.x), usize::from(block.y));
     InUnit {
         block,
-        transquant_bypass: coding.transquant_bypass,
+        mode: coding.mode,
         qp: qp.min(51 + 6 * (unit.format.luma_depth - 8)),
     }
 }

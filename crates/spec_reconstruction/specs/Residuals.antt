@@ -5,6 +5,7 @@ use Rattle.ctu_records.specs.declared.item.Item.{Item}
 use Rattle.ctu_records.specs.declared.item.Item.TheVariants as item
 use Rattle.ctu_records.specs.declared.item.Item.TheVariants.{Unit, Luma, Chroma, Prediction, Pcm, Sample, Transform, Delta, Level}
 use Rattle.spec_reconstruction.specs.declared.format.UnitFormat.{UnitFormat}
+use Rattle.spec_reconstruction.specs.declared.unit_mode.UnitMode.{UnitMode}
 use Rattle.spec_reconstruction.specs.Factors.{factor}
 use Rattle.spec_reconstruction.specs.Parameters.{depth_of, parameter_of}
 use Rattle.spec_transforms.specs.Scaling.{scaled}
@@ -33,20 +34,20 @@ abbrev pub scaled_block : UnitFormat → ℕ → ℕ → ℕ → List ℤ → Bl
 scaled_block format c log2 qp levels x y =
     scaled (depth_of format c) log2 qp (factor format.factors log2 c (2 ^ log2 * y + x)) (block_in (2 ^ log2) levels x y)
 
--- whether a block of an intra coding unit has the transform of sines: luma of 4x4 samples (8.6.4.2)
-abbrev pub has_sines : ℕ → ℕ → Bool
-has_sines c log2 = c == 0 && log2 == 2
+-- whether a block has the transform of sines: luma of 4x4 samples in an intra coding unit (8.6.4.2)
+abbrev pub has_sines : UnitMode → ℕ → ℕ → Bool
+has_sines mode c log2 = mode.intra && (c == 0 && log2 == 2)
 
 -- residuals by column and line: the levels themselves where cu_transquant_bypass_flag is 1, else the scaled coefficients
 -- transformed, or with the transform skipped
-unfoldable pub residuals : UnitFormat → Bool → CodedBlock → ℕ → List ℤ → Block
-residuals format transquant_bypass block qp levels x y =
-    if transquant_bypass then block_in (2 ^ block.log2_size) levels x y
+unfoldable pub residuals : UnitFormat → UnitMode → CodedBlock → ℕ → List ℤ → Block
+residuals format mode block qp levels x y =
+    if mode.transquant_bypass then block_in (2 ^ block.log2_size) levels x y
     else (if block.transform_skip
     then skipped (depth_of format block.component) (scaled_block format block.component block.log2_size qp levels x y)
-    else transformed (depth_of format block.component) (has_sines block.component block.log2_size) (2 ^ block.log2_size) (scaled_block format block.component block.log2_size qp levels) x y)
+    else transformed (depth_of format block.component) (has_sines mode block.component block.log2_size) (2 ^ block.log2_size) (scaled_block format block.component block.log2_size qp levels) x y)
 
 -- the residuals of a block in a coding unit whose Qp'Y is qp, by the items behind it
-abbrev pub residuals_behind : UnitFormat → Bool → CodedBlock → ℕ → List Item → Block
-residuals_behind format transquant_bypass block qp items =
-    residuals format transquant_bypass block (parameter_of format block.component qp) (levels_behind (2 ^ block.log2_size * 2 ^ block.log2_size) items)
+abbrev pub residuals_behind : UnitFormat → UnitMode → CodedBlock → ℕ → List Item → Block
+residuals_behind format mode block qp items =
+    residuals format mode block (parameter_of format block.component qp) (levels_behind (2 ^ block.log2_size * 2 ^ block.log2_size) items)

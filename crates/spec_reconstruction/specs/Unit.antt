@@ -1,11 +1,13 @@
 -- The samples of a coding tree unit of an I slice by what was read of it (8.4.4.1, 8.6.5).
-use Rattle.std.specs.Prelude.{ℕ, ◌+◌, ◌*◌, ◌^◌, ◌==◌, Bool, true, false, List, [], ◌∷◌, if◌then◌else◌}
+use Rattle.std.specs.Prelude.{ℕ, ◌+◌, ◌*◌, ◌^◌, ◌==◌, false, List, [], ◌∷◌, if◌then◌else◌}
 use Rattle.ctu_records.specs.declared.item.CodedBlock.{CodedBlock}
+use Rattle.ctu_records.specs.declared.item.CodingUnit.{CodingUnit}
 use Rattle.ctu_records.specs.declared.item.Item.{Item}
 use Rattle.ctu_records.specs.declared.item.Item.TheVariants.{Unit, Luma, Chroma, Prediction, Pcm, Sample, Transform, Delta, Block, Level}
 use Rattle.ctu_records.specs.declared.item.Square.{Square}
 use Rattle.ctu_records.specs.Tree.{luma_mode_at, qp_at}
 use Rattle.spec_reconstruction.specs.declared.format.UnitFormat.{UnitFormat}
+use Rattle.spec_reconstruction.specs.declared.unit_mode.UnitMode.{UnitMode}
 use Rattle.spec_reconstruction.specs.Known.{Known, constructed}
 use Rattle.spec_reconstruction.specs.Parameters.{depth_of}
 use Rattle.spec_reconstruction.specs.Prediction.{unit_predicted}
@@ -13,31 +15,34 @@ use Rattle.spec_reconstruction.specs.Pulses.{pulses_laid}
 use Rattle.spec_reconstruction.specs.Residuals.{residuals_behind}
 use Rattle.spec_slice_data.specs.Residual.{samples_of_place}
 
--- cu_transquant_bypass_flag and IntraPredModeC of the coding unit, and the samples that are known
+-- how the coding unit is coded, its IntraPredModeC, and the samples that are known
 pub record Building : Type 0 where
-  pub transquant_bypass : Bool
+  pub mode : UnitMode
   pub chroma_mode : ℕ
   pub known : Known
 
 -- before the first item
 abbrev pub before_unit : Known → Building
-before_unit known = record { transquant_bypass = false; chroma_mode = 0; known = known }
+before_unit known = record { mode = record { transquant_bypass = false; intra = false }; chroma_mode = 0; known = known }
 
 abbrev pub with_known : Building → Known → Building
-with_known building known = record { transquant_bypass = building.transquant_bypass; chroma_mode = building.chroma_mode; known = known }
+with_known building known = record { mode = building.mode; chroma_mode = building.chroma_mode; known = known }
+
+abbrev pub mode_of : CodingUnit → UnitMode
+mode_of unit = record { transquant_bypass = unit.transquant_bypass; intra = unit.intra }
 
 -- the residuals of a block are added to its predicted samples
-unfoldable pub block_constructed : UnitFormat → List Item → Bool → CodedBlock → List Item → Known → Known
-block_constructed format all transquant_bypass block items =
+unfoldable pub block_constructed : UnitFormat → List Item → UnitMode → CodedBlock → List Item → Known → Known
+block_constructed format all mode block items =
     constructed (depth_of format block.component) block.component (samples_of_place block.component * block.x) (samples_of_place block.component * block.y) (2 ^ block.log2_size)
-    (residuals_behind format transquant_bypass block (qp_at all block.x block.y) items)
+    (residuals_behind format mode block (qp_at all block.x block.y) items)
 
 -- an item of a unit of which all was read, with the items behind it: a transform unit's blocks are predicted from what is
 -- known so far, and each of its coded blocks is constructed behind that
 abbrev pub item_built : UnitFormat → List Item → Building → Item → List Item → Building
-item_built format all building (Unit unit) items = record { transquant_bypass = unit.transquant_bypass; chroma_mode = building.chroma_mode; known = building.known }
+item_built format all building (Unit unit) items = record { mode = mode_of unit; chroma_mode = building.chroma_mode; known = building.known }
 item_built format all building (Luma luma) items = building
-item_built format all building (Chroma mode) items = record { transquant_bypass = building.transquant_bypass; chroma_mode = mode; known = building.known }
+item_built format all building (Chroma mode) items = record { mode = building.mode; chroma_mode = mode; known = building.known }
 item_built format all building (Prediction unit) items = building
 item_built format all building (Pcm square) items = with_known building (pulses_laid format square items building.known)
 item_built format all building (Sample value) items = building
@@ -45,7 +50,7 @@ item_built format all building (Transform unit) items =
     with_known building (unit_predicted format (luma_mode_at all unit.square.x unit.square.y) building.chroma_mode unit.square building.known)
 item_built format all building (Delta delta) items = building
 item_built format all building (Block block) items =
-    with_known building (block_constructed format all building.transquant_bypass block items building.known)
+    with_known building (block_constructed format all building.mode block items building.known)
 item_built format all building (Level place value) items = building
 
 -- items in reading order, of a unit of which all was read

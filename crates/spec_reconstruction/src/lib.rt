@@ -4,6 +4,8 @@
 
 mod format;
 mod laws;
+mod unit_mode;
 
 pub use format::{ScalingFactors, UnitFormat};
 pub use laws::chroma_parameters_are_held;
+pub use unit_mode::UnitMode;
