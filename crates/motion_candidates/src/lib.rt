@@ -15,9 +15,11 @@ mod temporal;
 mod unit_motion;
 mod view;
 
+pub use blocks::part_block;
 pub use merging::merge;
 pub use predictors::amvp;
 pub use unit_motion::derive;
+pub use references::reference_in;
 pub use view::MotionView;
 
 #[cfg(test)]

@@ -7,7 +7,7 @@ use spec_motion::{Reference, SliceMotion};
 
 /// RefPicListX\[ i \].
 #[tactic(auto, unfolding(spec_motion::specs::Vectors::reference_in))]
-pub(crate) fn reference_in(slice: &SliceMotion, list: u8, i: u8) -> Reference
+pub fn reference_in(slice: &SliceMotion, list: u8, i: u8) -> Reference
     ensures { result ≡ reference_in slice.now list i }
 {
     if list == 0 {

@@ -4,3 +4,4 @@ pub mod Temporal
 pub mod Merging
 pub mod VectorPrediction
 pub mod Derivation
+pub mod Units
