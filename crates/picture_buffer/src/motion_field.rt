@@ -1,0 +1,82 @@
+//! The motion of a picture.
+
+ghost use Rattle.std.specs.Prelude.{◌≡◌, ℕ, ◌+◌, ◌-◌, ◌*◌, ◌<◌, ◌≤◌, ◌==◌, ◌&&◌, nat_le, nat_lt, length, slice_index_or, IfOk, None, if◌then◌else◌};
+ghost use Rattle.picture_buffer.specs.Motion.{HasPlaces, motions_of};
+
+use crate::place_motion::PlaceMotion;
+use std::alloc::{AllocError, Global};
+use std::marker::Model;
+
+/// The motion of a picture's places, in rows of `across`: `None` where a place is predicted in intra mode.
+#[derive(Drop)]
+pub struct MotionField {
+    across: u32,
+    down: u32,
+    places: Vec<Option<PlaceMotion>>,
+}
+
+impl Model for MotionField {
+    ghost use Rattle.picture_buffer.specs.Motion.{FieldPlaces, IsField};
+
+    ghost Value = { FieldPlaces };
+
+    ghost view = { λ f. record { across = f.across; down = f.down; places = f.places.items } };
+
+    ghost invariant = { λ f. IsField f.across f.down f.places.items };
+}
+
+impl MotionField {
+    /// A field of a picture of so many places across and down, without motion.
+    #[tactic(auto, unfolding(crate::specs::Motion::motions_of))]
+    pub fn new(alloc: Global, across: u32, down: u32) -> Result<MotionField, AllocError>
+        requires columns { across ≤ 2048 }
+        requires rows { down ≤ 2048 }
+        ensures sides { IfOk result (λ f. HasPlaces f across down) }
+        ensures places { IfOk result (λ f. (x y : ℕ) → motions_of f x y ≡ None) }
+    {
+        let places = vec![in alloc; None; across as usize * down as usize]?;
+        Ok(MotionField {
+            across,
+            down,
+            places,
+        })
+    }
+
+    /// How many places a row has.
+    pub fn across(&self) -> u32
+        ensures { result ≡ self.now.across }
+    {
+        self.across
+    }
+
+    /// How many rows of places there are.
+    pub fn down(&self) -> u32
+        ensures { result ≡ self.now.down }
+    {
+        self.down
+    }
+
+    /// The motion of a place; `None` outside the picture.
+    #[tactic(auto, unfolding(crate::specs::Motion::motions_of))]
+    pub fn at(&self, x: usize, y: usize) -> Option<PlaceMotion>
+        ensures { result ≡ motions_of self.now x y }
+    {
+        if x < self.across as usize && y < self.down as usize {
+            self.places[self.across as usize * y + x]
+        } else {
+            None
+        }
+    }
+
+    /// The motion of a place.
+    #[tactic(auto, unfolding(crate::specs::Motion::motions_of))]
+    pub fn put(&mut self, x: usize, y: usize, motion: Option<PlaceMotion>)
+        requires column { x < self.old.across }
+        requires row { y < self.old.down }
+        ensures sides { (across down : ℕ) → HasPlaces self.old across down → HasPlaces self.new across down }
+        ensures places { (i j : ℕ) → motions_of self.new i j ≡ (if i == x && j == y then motion else motions_of self.old i j) }
+    {
+        let place = self.across as usize * y + x;
+        self.places[place] = motion;
+    }
+}
