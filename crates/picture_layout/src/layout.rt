@@ -1,0 +1,101 @@
+//! A picture's coding tree units by place (6.3.1).
+
+ghost use Rattle.std.specs.Prelude.{◌≡◌, ◌+◌, ◌-◌, ◌*◌, ◌/◌, ◌%◌, ◌^◌, ◌<◌, ◌≤◌};
+ghost use Rattle.picture_layout.specs.Shape.{IsShape};
+ghost use Rattle.spec_picture_data.specs.Shapes.{picture_shape};
+ghost use Rattle.spec_slice_data.specs.Segment.{column_of, row_of};
+
+use plan_types::PicturePlan;
+use std::marker::Model;
+
+/// A picture's size in coding tree units and in places of 4x4 luma samples.
+#[derive(Clone, Copy)]
+pub struct Layout {
+    width: u32,
+    across: u32,
+    down: u32,
+    size: u8,
+    sync: bool,
+}
+
+impl Model for Layout {
+    ghost use Rattle.spec_slice_data.specs.Segment.{PictureShape};
+    ghost use Rattle.picture_layout.specs.Shape.{IsShape};
+
+    ghost Value = { PictureShape };
+
+    ghost view = { λ l. record { width = l.width; across = l.across; down = l.down; size = l.size; sync = l.sync } };
+
+    ghost inverse = { λ s. record { width = s.width; across = s.across; down = s.down; size = s.size; sync = s.sync } };
+
+    ghost invariant = { λ l. IsShape (record { width = l.width; across = l.across; down = l.down; size = l.size; sync = l.sync }) };
+}
+
+impl Layout {
+    /// That of a picture.
+    #[tactic(auto, unfolding(spec_picture_data::specs::Shapes::picture_shape))]
+    pub fn new(plan: &PicturePlan) -> Layout
+        ensures value { result ≡ picture_shape plan.now.sps plan.now.pps }
+        ensures across { 4 * result.across ≡ plan.now.sps.format.pic_width_in_luma_samples }
+        ensures down { 4 * result.down ≡ plan.now.sps.format.pic_height_in_luma_samples }
+    {
+        let sps = &plan.sps;
+        let format = &sps.fields().format;
+        Layout {
+            width: sps.width_in_ctbs(),
+            across: format.pic_width_in_luma_samples / 4,
+            down: format.pic_height_in_luma_samples / 4,
+            size: (sps.ctb_log2() - 2) as u8,
+            sync: plan.pps.fields().entropy_coding_sync_enabled_flag,
+        }
+    }
+
+    /// The units of a row.
+    pub fn width(&self) -> u32
+        ensures { result ≡ self.now.width }
+    {
+        self.width
+    }
+
+    /// The picture's width in places.
+    pub fn across(&self) -> u32
+        ensures value { result ≡ self.now.across }
+        ensures few { result ≤ 2048 }
+    {
+        self.across
+    }
+
+    /// Its height in places.
+    pub fn down(&self) -> u32
+        ensures value { result ≡ self.now.down }
+        ensures few { result ≤ 2048 }
+    {
+        self.down
+    }
+
+    /// The column of the unit at an address.
+    pub fn column(&self, address: u32) -> u32
+        ensures value { result ≡ column_of self.now address }
+        ensures below { result < self.now.width }
+        ensures small { result < 512 }
+    {
+        address % self.width
+    }
+
+    /// The row of the unit at an address.
+    pub fn row(&self, address: u32) -> u32
+        ensures { result ≡ row_of self.now address }
+    {
+        address / self.width
+    }
+
+    /// A unit's side in places.
+    #[tactic(auto, using(crate::proofs::Powers::few_places))]
+    pub fn side(&self) -> usize
+        ensures value { result ≡ 2 ^ self.now.size }
+        ensures some { 1 ≤ result }
+        ensures small { result ≤ 16 }
+    {
+        1 << self.size
+    }
+}
