@@ -64,7 +64,7 @@ local-then {m = m} {f = f} first next = record {
 }
 
 -- a field that was read was there whole
-whole-some : {X : Type 0} (rules : FieldRules) (o : Option (X × List Bool)) (r : X × List Bool) → whole rules o ≡ Ok r → o ≡ Some r
+pub whole-some : {X : Type 0} (rules : FieldRules) (o : Option (X × List Bool)) (r : X × List Bool) → whole rules o ≡ Ok r → o ≡ Some r
 whole-some rules None r e = absurd cc
 whole-some rules (Some x) r e = ap Some (ok_parts x r (Ok x) refl e)
 

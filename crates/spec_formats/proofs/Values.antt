@@ -1,16 +1,18 @@
 -- What values a header can have, whatever the bits.
-use Rattle.std.proofs.Common.{◌≡◌, ◌≤◌, Bool, true, List, Ok, ap, ◌∙◌}
+use Rattle.std.proofs.Common.{◌≡◌, ◌<◌, ◌≤◌, ◌^◌, Bool, true, List, Ok, ap, ◌∙◌}
 use Rattle.std.proofs.lemmas.Bool.{leb-true}
 use Rattle.hv_base.specs.declared.field_rules.FieldRules.{FieldRules}
+use Rattle.spec_bits.specs.Bits.{u_at}
 use Rattle.spec_bits.specs.ExpGolomb.{ue_at, se_at}
+use Rattle.spec_bits.proofs.Digits.{u_at-only}
 use Rattle.spec_formats.specs.Format.{Give, Refuse, One, Then}
 use Rattle.spec_formats.specs.Fields.{Field, U, Flag, Ue, Se, UeTo, SeWithin, Within, FieldValue, field_at, Header, read, whole, is_within}
 use Rattle.spec_formats.proofs.Agreement.{ok_is, bind_ok}
-use Rattle.spec_formats.proofs.Locality.{held}
+use Rattle.spec_formats.proofs.Locality.{held, whole-some}
 
 -- whether a field can be a value
 abbrev pub IsIn : (field : Field) → FieldValue field → Type 0
-IsIn (U n) x = Unit {0}
+IsIn (U n) x = x < 2 ^ n
 IsIn Flag x = Unit {0}
 IsIn Ue x = Unit {0}
 IsIn Se x = Unit {0}
@@ -27,7 +29,7 @@ CanBe (Then {X} m f) y = (x : X) × CanBe m x × CanBe (f x) y
 
 field_can_be : (rules : FieldRules) (field : Field) (bits rest : List Bool) (x : FieldValue field) → field_at rules field bits ≡ Ok (x, rest) → IsIn field x
 unfolding field_at
-field_can_be rules (U n) bits rest x e = tt
+field_can_be rules (U n) bits rest x e = (u_at-only n bits x rest (whole-some rules (u_at n bits) (x, rest) e)).0
 field_can_be rules Flag bits rest x e = tt
 field_can_be rules Ue bits rest x e = tt
 field_can_be rules Se bits rest x e = tt

@@ -131,7 +131,7 @@ four_in_range a b c d of_4x4 of_8x8 of_16x16 of_32x32 =
     let rest : All Q (drop 6 (a ++ (b ++ (c ++ d)))) = rw (drop_at a (b ++ (c ++ d)) 6 of_4x4.count) others in
     record { count = rw regrouped count; least_size = rw regrouped first; others = rw regrouped rest }
 
-data_can_be : (s : ScalingLists) → CanBe scaling_list_data s → IsScalingLists s
+pub data_can_be : (s : ScalingLists) → CanBe scaling_list_data s → IsScalingLists s
 unfolding scaling_list_data
 data_can_be s (a, is_a, (b, is_b, (c, is_c, (d, is_d, e)))) = rw (← e) (four_in_range a b c d (of_size_in_range 0 a is_a) (of_size_in_range 1 b is_b) (of_size_in_range 2 c is_c) (of_size_in_range 3 d is_d))
 

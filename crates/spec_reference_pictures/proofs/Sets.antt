@@ -266,6 +266,12 @@ set_is rules index count former greatest bits s left h =
     let p = can_be rules (st_ref_pic_set index count former greatest) bits left s h in
     by_kind index count former greatest p.0 s p.2
 
+-- a set that can be read is near, where those before it are
+pub can_be_near : (index count : ℕ) (former : List StRps) (greatest : ℕ) (s : StRps) (n : ℕ) → greatest ≤ 15 → 14 ≤ n → All (IsStRps n) former
+    → CanBe (st_ref_pic_set index count former greatest) s → IsStRps (n + 1) s
+unfolding st_ref_pic_set
+can_be_near index count former greatest s n small far all is = (by_kind index count former greatest is.0 s is.2).1 small n far all
+
 pub nearest_first : KeepsOrder
 nearest_first rules index count former greatest bits s left all h = (set_is rules index count former greatest bits s left h).0 all
 
