@@ -6,6 +6,7 @@ use Rattle.hv_base.specs.declared.breach.Breach.TheVariants as breach
 use Rattle.hv_base.specs.declared.refusal.Stop.{Stop}
 use Rattle.hv_base.specs.declared.refusal.Stop.TheVariants as stop
 use Rattle.header_types.specs.declared.former.Former.{Former}
+use Rattle.header_types.specs.declared.reference_pictures.DpbPicture.{DpbPicture}
 use Rattle.plan_types.specs.declared.picture_plan.PicturePlan.{PicturePlan}
 use Rattle.plan_types.specs.declared.segment_plan.SegmentPlan.{SegmentPlan}
 use Rattle.plan_types.specs.declared.between.Between.{Between}
@@ -51,9 +52,10 @@ Stops nal refusal.Memory e = ⊥
 Stops nal (refusal.Fault kind) e = e ≡ stop_at nal (breach.Fault kind)
 Stops nal (refusal.Limit kind) e = e ≡ stop_at nal (breach.Limit kind)
 
--- the picture that has these parts, and this unit and header as its first slice segment
-abbrev pub begun_by : NalUnit → SliceHeaderFields → Parts → PicturePlan
-begun_by u header parts = record {
+-- the picture that has these parts, and this unit and header as its first slice segment, and before which the buffer has
+-- these pictures
+abbrev pub begun_by : List DpbPicture → NalUnit → SliceHeaderFields → Parts → PicturePlan
+begun_by dpb u header parts = record {
   nal = u.index;
   kind = header.kind;
   sps = parts.sps;
@@ -61,7 +63,7 @@ begun_by u header parts = record {
   poc = parts.poc;
   rps = parts.rps;
   outputs = parts.outputs;
-  segments = segment_of [] parts.rps u header ∷ [];
+  segments = segment_of [] dpb parts.rps u header ∷ [];
 }
 
 -- a picture with one more segment

@@ -18,7 +18,8 @@ use crate::outputs::outputs_at;
 use crate::segments::segment_of;
 use crate::state::State;
 use header_types::{
-    FieldList, Former, PictureKind, Pps, ReferenceFields, Rps, Sets, Shared, SliceHeader, Sps,
+    DpbPicture, FieldList, Former, PictureKind, Pps, ReferenceFields, Rps, Sets, Shared,
+    SliceHeader, Sps,
 };
 use hv_base::{FaultKind, Nal, Refusal};
 use plan_types::{Outputs, PicturePlan, SegmentPlan};
@@ -51,18 +52,20 @@ fn reference_set(
     derive_rps(alloc, kind, references, poc, former.dpb.as_slice())
 }
 
-/// A list of one segment, the first of a picture with this reference picture set.
+/// A list of one segment, the first of a picture with this reference picture set, before which the buffer has these
+/// pictures.
 fn only_segment(
     alloc: Global,
+    dpb: &[DpbPicture],
     rps: &Rps,
     nal: Nal,
     header: SliceHeader,
 ) -> Result<FieldList<SegmentPlan>, AllocError>
     requires { HasLists header }
-    ensures { IfOk result (λ segments. segments ≡ segment_of [] rps.now (unit_of nal) header ∷ []) }
+    ensures { IfOk result (λ segments. segments ≡ segment_of [] dpb.now rps.now (unit_of nal) header ∷ []) }
 {
     let mut segments = FieldList::new(alloc);
-    segments.push(segment_of(alloc, &[], rps, nal, header)?)?;
+    segments.push(segment_of(alloc, &[], dpb, rps, nal, header)?)?;
     Ok(segments)
 }
 
@@ -113,7 +116,7 @@ fn parts_under<'a>(
 ) -> Result<Parts, Refusal>
     requires few { length former.now.dpb ≤ 128 }
     requires in_range { IsInRange header.now }
-    ensures value { (u : NalUnit) → Parses (begun_by u header.now) result (with_order former.now u header.now (record { pps = named.entry.pps.now; sps = named.entry.sps.now }) (pic_order_cnt_val header.now.kind header.now.slice.references.slice_pic_order_cnt_lsb former.now.prev_tid0_pic_order_cnt)) }
+    ensures value { (u : NalUnit) → Parses (begun_by former.now.dpb u header.now) result (with_order former.now u header.now (record { pps = named.entry.pps.now; sps = named.entry.sps.now }) (pic_order_cnt_val header.now.kind header.now.slice.references.slice_pic_order_cnt_lsb former.now.prev_tid0_pic_order_cnt)) }
     ensures few { IfOk result (λ parts. length parts.outputs.dpb ≤ 128) }
 {
     let fields = header.fields();
@@ -137,7 +140,7 @@ fn parts_of(
 ) -> Result<Parts, Refusal>
     requires few { length former.now.dpb ≤ 128 }
     requires in_range { IsInRange header.now }
-    ensures value { (u : NalUnit) → Parses (begun_by u header.now) result (picture_of sets.now former.now u header.now) }
+    ensures value { (u : NalUnit) → Parses (begun_by former.now.dpb u header.now) result (picture_of sets.now former.now u header.now) }
     ensures few { IfOk result (λ parts. length parts.outputs.dpb ≤ 128) }
 {
     let Some(pps) = sets.pps(header.fields().segment.slice_pic_parameter_set_id) else {
@@ -172,19 +175,21 @@ impl Parts {
     }
 }
 
-/// The picture that has these parts, and this unit and header as its first slice segment.
+/// The picture that has these parts, and this unit and header as its first slice segment. Before it the buffer has these
+/// pictures.
 fn picture_with(
     alloc: Global,
+    dpb: &[DpbPicture],
     nal: Nal,
     header: SliceHeader,
     parts: Parts,
 ) -> Result<PicturePlan, AllocError>
     requires { HasLists header }
-    ensures { IfOk result (λ p. p ≡ begun_by (unit_of nal) header parts) }
+    ensures { IfOk result (λ p. p ≡ begun_by dpb.now (unit_of nal) header parts) }
 {
     let index = nal.index;
     let kind = header.fields().kind;
-    let segments = only_segment(alloc, &parts.rps, nal, header)?;
+    let segments = only_segment(alloc, dpb, &parts.rps, nal, header)?;
     Ok(parts.into_picture(index, kind, segments))
 }
 
@@ -203,7 +208,8 @@ fn picture_of(
     ensures few { IfOk result KeepsFew }
 {
     let parts = parts_of(alloc, sets, former, &header)?;
-    Ok(picture_with(alloc, nal, header, parts)?)
+    let dpb = former.dpb.as_slice();
+    Ok(picture_with(alloc, dpb, nal, header, parts)?)
 }
 
 /// The picture that a slice segment opens while none is open.

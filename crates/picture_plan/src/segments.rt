@@ -7,28 +7,30 @@ ghost use Rattle.spec_slice_headers.specs.Context.{last_segment, slice_of};
 ghost use Rattle.spec_pictures.specs.Steps.{lists_of, segment_of, slice_number};
 ghost use Rattle.picture_plan.specs.Bounds.{HasLists};
 
-use header_types::{FieldList, Lists, Rps, SliceHeader, Substream};
+use header_types::{DpbPicture, FieldList, Lists, Rps, SliceHeader, Substream};
 use hv_base::Nal;
 use plan_types::SegmentPlan;
 use ref_picture_sets::build_lists;
 use slice_headers::substreams;
 use std::alloc::{AllocError, Global};
 
-/// A slice segment behind these of its picture, whose reference picture set this is.
+/// A slice segment behind these of its picture, before which the buffer has these pictures, and whose reference picture
+/// set this is.
 pub(crate) fn segment_of(
     alloc: Global,
     before: &[SegmentPlan],
+    dpb: &[DpbPicture],
     rps: &Rps,
     nal: Nal,
     header: SliceHeader,
 ) -> Result<SegmentPlan, AllocError>
     requires { HasLists header }
-    ensures { IfOk result (λ s. s ≡ segment_of before.now rps.now (unit_of nal) header) }
+    ensures { IfOk result (λ s. s ≡ segment_of before.now dpb.now rps.now (unit_of nal) header) }
 {
     let substreams = substreams_of(alloc, &nal, &header)?;
     Ok(SegmentPlan {
         slice: slice_number(before, &header),
-        lists: lists_of(&header, rps),
+        lists: lists_of(dpb, &header, rps),
         header,
         payload: nal.rbsp,
         removed: nal.removed,
@@ -76,14 +78,14 @@ fn last_slice(segments: &[SegmentPlan]) -> usize
 }
 
 /// The reference picture lists of the slice that a segment begins.
-fn lists_of(header: &SliceHeader, rps: &Rps) -> Option<Lists>
+fn lists_of(dpb: &[DpbPicture], header: &SliceHeader, rps: &Rps) -> Option<Lists>
     requires { HasLists header.now }
-    ensures { result ≡ lists_of header.now rps.now }
+    ensures { result ≡ lists_of dpb.now header.now rps.now }
 {
     let fields = header.fields();
     if fields.segment.dependent_slice_segment_flag {
         None
     } else {
-        Some(build_lists(&fields.slice, rps))
+        Some(build_lists(&fields.slice, rps, dpb))
     }
 }

@@ -75,7 +75,8 @@ impl State {
         let picture = between.picture.as_ref().unwrap();
         let segments = picture.segments.as_slice();
         let header = judge_header(alloc, &between.sets, &between.former, segments, &nal)?;
-        Ok(segment_of(alloc, segments, &picture.rps, nal, header)?)
+        let dpb = between.former.dpb.as_slice();
+        Ok(segment_of(alloc, segments, dpb, &picture.rps, nal, header)?)
     }
 
     /// Plans a slice segment that begins a picture, or has none to go on with.

@@ -1,22 +1,25 @@
 //! Reference picture lists (8.3.4).
 
 ghost use Rattle.std.specs.Prelude.{◌≡◌, ◌+◌, ◌<◌, ◌≤◌, Option, List, length, map, slice_index_or};
-ghost use Rattle.spec_reference_pictures.specs.ReferenceLists.{HasFewActive, IsNoneOrAtMost, entry_taken, in_turn, list_0, list_1, list_1_of, no_reference, reference_list, reference_lists, temporary_entry};
+ghost use Rattle.spec_reference_pictures.specs.ReferenceLists.{HasFewActive, IsNoneOrAtMost, entry_taken, in_turn, list_0, list_1, list_1_of, no_reference, order_count_at, reference_list, reference_lists, temporary_entry};
 
-use header_types::{FieldList, InterFields, Lists, RefEntry, RefList, Rps, SliceFields};
+use header_types::{
+    DpbPicture, FieldList, InterFields, Lists, RefEntry, RefList, Rps, SliceFields,
+};
 use std::marker::Model;
 
 /// The reference picture lists of a slice (8.3.4). A slice without fields of P and B slices has none, one without
-/// num_ref_idx_l1_active_minus1 has no list 1, and where NumPicTotalCurr is 0 there is none.
+/// num_ref_idx_l1_active_minus1 has no list 1, and where NumPicTotalCurr is 0 there is none. `dpb` is the decoded picture
+/// buffer in decoding order, before this picture.
 #[tactic(auto, unfolding(spec_reference_pictures::specs::ReferenceLists::reference_lists))]
-pub fn build_lists(slice: &SliceFields, rps: &Rps) -> Lists
+pub fn build_lists(slice: &SliceFields, rps: &Rps, dpb: &[DpbPicture]) -> Lists
     requires { HasFewActive slice.now.inter }
-    ensures { result ≡ reference_lists slice.now rps.now }
+    ensures { result ≡ reference_lists slice.now rps.now dpb.now }
 {
     match &slice.inter {
         Some(fields) => Lists {
-            l0: list_0(fields, rps),
-            l1: list_1(fields, rps),
+            l0: list_0(fields, rps, dpb),
+            l1: list_1(fields, rps, dpb),
         },
         None => Lists {
             l0: RefList::new(),
@@ -26,11 +29,12 @@ pub fn build_lists(slice: &SliceFields, rps: &Rps) -> Lists
 }
 
 /// List 0 of a P or B slice.
-fn list_0(fields: &InterFields, rps: &Rps) -> RefList
+fn list_0(fields: &InterFields, rps: &Rps, dpb: &[DpbPicture]) -> RefList
     requires { fields.now.num_ref_idx_l0_active_minus1 ≤ 15 }
-    ensures { result ≡ reference_list (in_turn rps.now.st_curr_before rps.now.st_curr_after rps.now.lt_curr) (fields.now.num_ref_idx_l0_active_minus1 + 1) fields.now.list_entry_l0 }
+    ensures { result ≡ reference_list (in_turn dpb.now rps.now.st_curr_before rps.now.st_curr_after rps.now.lt_curr) (fields.now.num_ref_idx_l0_active_minus1 + 1) fields.now.list_entry_l0 }
 {
     let turn = Turn {
+        dpb,
         first: rps.st_curr_before.as_slice(),
         second: rps.st_curr_after.as_slice(),
         long: rps.lt_curr.as_slice(),
@@ -43,15 +47,16 @@ fn list_0(fields: &InterFields, rps: &Rps) -> RefList
 }
 
 /// List 1 of a P or B slice.
-fn list_1(fields: &InterFields, rps: &Rps) -> RefList
+fn list_1(fields: &InterFields, rps: &Rps, dpb: &[DpbPicture]) -> RefList
     requires { IsNoneOrAtMost 15 fields.now.num_ref_idx_l1_active_minus1 }
-    ensures { result ≡ list_1_of fields.now.num_ref_idx_l1_active_minus1 fields.now.list_entry_l1 rps.now }
+    ensures { result ≡ list_1_of fields.now.num_ref_idx_l1_active_minus1 fields.now.list_entry_l1 rps.now dpb.now }
 {
     let active_minus1 = match fields.num_ref_idx_l1_active_minus1 {
         Some(active_minus1) => active_minus1,
         None => return RefList::new(),
     };
     let turn = Turn {
+        dpb,
         first: rps.st_curr_after.as_slice(),
         second: rps.st_curr_before.as_slice(),
         long: rps.lt_curr.as_slice(),
@@ -100,6 +105,7 @@ fn at(entries: &[u32], i: usize) -> usize
 /// The pictures that a picture may use, in the order of a list. Contracts see the entries.
 #[derive(Drop)]
 struct Turn<'a> {
+    dpb: &'a [DpbPicture],
     first: &'a [u32],
     second: &'a [u32],
     long: &'a [u32],
@@ -112,7 +118,7 @@ impl<'a> Model for Turn<'a> {
 
     ghost Value = { List RefEntry };
 
-    ghost view = { λ t. in_turn t.first.now t.second.now t.long.now };
+    ghost view = { λ t. in_turn t.dpb.now t.first.now t.second.now t.long.now };
 }
 
 impl<'a> Turn<'a> {
@@ -131,22 +137,33 @@ impl<'a> Turn<'a> {
         ensures { result ≡ slice_index_or self.now i no_reference }
     {
         if i < self.first.len() {
-            return entry(self.first[i], false);
+            return entry(self.dpb, self.first[i], false);
         }
         let i = i - self.first.len();
         if i < self.second.len() {
-            return entry(self.second[i], false);
+            return entry(self.dpb, self.second[i], false);
         }
-        entry(self.long[i - self.second.len()], true)
+        entry(self.dpb, self.long[i - self.second.len()], true)
     }
 }
 
-/// An entry.
-fn entry(place: u32, is_long_term: bool) -> RefEntry
-    ensures { result ≡ record { place = place; is_long_term = is_long_term } }
+/// The order count of the picture at a place of the buffer.
+fn order_count_at(dpb: &[DpbPicture], place: u32) -> i32
+    ensures { result ≡ order_count_at dpb.now place }
+{
+    match dpb.get(place as usize) {
+        Some(picture) => picture.poc,
+        None => 0,
+    }
+}
+
+/// The entry for the picture at a place of the buffer.
+fn entry(dpb: &[DpbPicture], place: u32, is_long_term: bool) -> RefEntry
+    ensures { result ≡ record { place = place; poc = order_count_at dpb.now place; is_long_term = is_long_term } }
 {
     RefEntry {
         place,
+        poc: order_count_at(dpb, place),
         is_long_term,
     }
 }

@@ -185,7 +185,7 @@ set_goes nal (Err e) f none = tt
 -- ---- slice segments
 
 segment_is : (sets : Sets) (former : Former) (before : List SegmentPlan) (u : NalUnit) (p : PicturePlan) (h : SliceHeaderFields)
-    → judged_header sets former before u ≡ Ok h → IsSegmentOf u (segment_of before p.rps u h)
+    → judged_header sets former before u ≡ Ok h → IsSegmentOf u (segment_of before former.dpb p.rps u h)
 segment_is sets former before u p h e = record { number = judged_number sets former before u h e; payload = refl; removed = refl }
 
 -- the picture that a slice segment opens has this segment alone
@@ -202,7 +202,7 @@ rps_opens : (former : Former) (u : NalUnit) (h : SliceHeaderFields) (n : Named) 
     → (r : Result Rps FaultKind) → with_set former.dpb u h n poc r ≡ Ok p → Opens u p
 rps_opens former u h n poc p number (Err f) e = absurd cc
 rps_opens former u h n poc p number (Ok rps) e = record {
-  segment = segment_of [] rps u h;
+  segment = segment_of [] former.dpb rps u h;
   only = sym (ap segments_in e);
   is = record { number = number; payload = refl; removed = refl };
 }
@@ -254,15 +254,15 @@ judged_none u s none = rw none (open_by_goes u s (opening s.sets s.former u) ref
 -- the open picture goes on
 continued_goes : (u : NalUnit) (s : Between) (p : PicturePlan) → IsWhole p → first_flag (bits u.payload) ≡ Some false
     → (r : Result SliceHeaderFields Breach) → judged_header s.sets s.former p.segments u ≡ r
-    → NextGoes p.segments [] (u ∷ []) (behind_read u.index (continued_by u p r) (continued s))
+    → NextGoes p.segments [] (u ∷ []) (behind_read u.index (continued_by s.former u p r) (continued s))
 continued_goes u s p whole flag (Err e) is = record { rest = p.segments; all = refl; begins = at_most p.segments whole }
 continued_goes u s p whole flag (Ok h) is =
     let segment = segment_is s.sets s.former p.segments u p h is in
     record {
-      own = segment_of p.segments p.rps u h ∷ [];
+      own = segment_of p.segments s.former.dpb p.rps u h ∷ [];
       zip = (segment, tt);
       all = refl;
-      begun = one_more p.segments (segment_of p.segments p.rps u h) whole (flag_of u (segment_of p.segments p.rps u h) false segment flag);
+      begun = one_more p.segments (segment_of p.segments s.former.dpb p.rps u h) whole (flag_of u (segment_of p.segments s.former.dpb p.rps u h) false segment flag);
     }
 
 continuing_goes : (u : NalUnit) (s : Between) (p : PicturePlan) → IsWhole p → first_flag (bits u.payload) ≡ Some false

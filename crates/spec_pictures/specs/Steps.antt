@@ -113,18 +113,20 @@ abbrev pub slice_number : List SegmentPlan → SliceHeaderFields → ℕ
 slice_number before header =
     if header.segment.dependent_slice_segment_flag then slice_of (last_segment before) else length before
 
--- the lists of the slice that a segment begins
-abbrev pub lists_of : SliceHeaderFields → Rps → Option Lists
-lists_of header rps = if header.segment.dependent_slice_segment_flag then None else Some (reference_lists header.slice rps)
+-- the lists of the slice that a segment begins, of a picture before which the buffer has these pictures
+abbrev pub lists_of : List DpbPicture → SliceHeaderFields → Rps → Option Lists
+lists_of dpb header rps =
+    if header.segment.dependent_slice_segment_flag then None else Some (reference_lists header.slice rps dpb)
 
--- a segment behind these of its picture, which has this reference picture set
-abbrev pub segment_of : List SegmentPlan → Rps → NalUnit → SliceHeaderFields → SegmentPlan
-segment_of before rps u header = record {
+-- a segment behind these of its picture, before which the buffer has these pictures, and which has this reference
+-- picture set
+abbrev pub segment_of : List SegmentPlan → List DpbPicture → Rps → NalUnit → SliceHeaderFields → SegmentPlan
+segment_of before dpb rps u header = record {
   header = header;
   payload = u.payload;
   removed = u.removed;
   slice = slice_number before header;
-  lists = lists_of header rps;
+  lists = lists_of dpb header rps;
   substreams = substream_ranges u.payload u.removed header.data_place header.entry_points;
 }
 
@@ -153,7 +155,7 @@ with_set dpb u header n poc (Ok rps) = Ok (record {
   poc = poc;
   rps = rps;
   outputs = outputs_of (current_picture header n.sps poc) dpb rps.marks;
-  segments = segment_of [] rps u header ∷ [];
+  segments = segment_of [] dpb rps u header ∷ [];
 })
 
 abbrev pub with_order : Former → NalUnit → SliceHeaderFields → Named → Result ℤ FaultKind → Result PicturePlan Breach
@@ -180,8 +182,8 @@ begun s p = record s { drops_rasl = drops_after s.drops_rasl p.kind; picture = S
 abbrev pub continued : Between → PicturePlan → Between
 continued s p = record s { picture = Some p }
 
-abbrev pub with_segment : NalUnit → SliceHeaderFields → PicturePlan → PicturePlan
-with_segment u header p = record p { segments = p.segments ++ segment_of p.segments p.rps u header ∷ [] }
+abbrev pub with_segment : List DpbPicture → NalUnit → SliceHeaderFields → PicturePlan → PicturePlan
+with_segment dpb u header p = record p { segments = p.segments ++ segment_of p.segments dpb p.rps u header ∷ [] }
 
 -- the header of a slice segment behind these of its picture: the first picture of a sequence is an intra random access
 -- point, a picture has at most 4096 segments, and the header keeps its rules
@@ -200,13 +202,13 @@ opened_by sets former u (Ok header) = picture_of sets former u header
 unfoldable pub opening : Sets → Former → NalUnit → Result PicturePlan Breach
 opening sets former u = opened_by sets former u (judged_header sets former [] u)
 
-abbrev pub continued_by : NalUnit → PicturePlan → Result SliceHeaderFields Breach → Result PicturePlan Breach
-continued_by u p (Err e) = Err e
-continued_by u p (Ok header) = Ok (with_segment u header p)
+abbrev pub continued_by : Former → NalUnit → PicturePlan → Result SliceHeaderFields Breach → Result PicturePlan Breach
+continued_by former u p (Err e) = Err e
+continued_by former u p (Ok header) = Ok (with_segment former.dpb u header p)
 
 -- the open picture with one more slice segment
 unfoldable pub continuing : Sets → Former → NalUnit → PicturePlan → Result PicturePlan Breach
-continuing sets former u p = continued_by u p (judged_header sets former p.segments u)
+continuing sets former u p = continued_by former u p (judged_header sets former p.segments u)
 
 abbrev pub joined : NalUnit → Between → Option PicturePlan → Result Between Stop
 joined u s None = behind_read u.index (opening s.sets s.former u) (begun s)

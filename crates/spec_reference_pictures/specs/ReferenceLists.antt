@@ -1,27 +1,33 @@
 -- Reference picture lists (8.3.4).
-use Rattle.std.specs.Prelude.{ℕ, ◌+◌, ◌%◌, ◌≤◌, ◌⊎◌, true, false, ◌==◌, List, [], ◌++◌, map, length, slice_index_or, Option, Some, None, if◌then◌else◌}
+use Rattle.std.specs.Prelude.{◌≡◌, ℕ, ℤ, pos, ◌+◌, ◌%◌, ◌≤◌, ◌⊎◌, true, false, ◌==◌, List, [], ◌++◌, map, length, slice_index_or, Option, Some, None, if◌then◌else◌}
 use Rattle.std.specs.Bool.{MatchBool}
 use Rattle.std.specs.List.{Contains, range_with_len}
+use Rattle.header_types.specs.declared.reference_pictures.DpbPicture.{DpbPicture}
 use Rattle.header_types.specs.declared.reference_pictures.Lists.{Lists}
 use Rattle.header_types.specs.declared.reference_pictures.RefEntry.{RefEntry}
 use Rattle.header_types.specs.declared.reference_pictures.Rps.{Rps}
 use Rattle.header_types.specs.declared.slice.InterFields.{InterFields}
 use Rattle.header_types.specs.declared.slice.SliceFields.{SliceFields}
+use Rattle.spec_reference_pictures.specs.ReferencePictureSet.{no_picture}
 
--- the entries for pictures at these places
-abbrev pub short_entry : ℕ → RefEntry
-short_entry place = record { place = place; is_long_term = false }
+-- PicOrderCntVal of the picture at a place of the buffer: 0 where there is none
+abbrev pub order_count_at : List DpbPicture → ℕ → ℤ
+order_count_at dpb place = (slice_index_or dpb place no_picture).poc
 
-abbrev pub long_entry : ℕ → RefEntry
-long_entry place = record { place = place; is_long_term = true }
+-- the entries for pictures at these places of the buffer
+abbrev pub short_entry : List DpbPicture → ℕ → RefEntry
+short_entry dpb place = record { place = place; poc = order_count_at dpb place; is_long_term = false }
+
+abbrev pub long_entry : List DpbPicture → ℕ → RefEntry
+long_entry dpb place = record { place = place; poc = order_count_at dpb place; is_long_term = true }
 
 -- what stands at a place that no list has
 abbrev pub no_reference : RefEntry
-no_reference = record { place = 0; is_long_term = false }
+no_reference = record { place = 0; poc = pos 0; is_long_term = false }
 
 -- NumPicTotalCurr pictures in the order of a list: those of the short-term lists, then the long-term ones
-unfoldable pub in_turn : List ℕ → List ℕ → List ℕ → List RefEntry
-in_turn first second long = map short_entry first ++ (map short_entry second ++ map long_entry long)
+unfoldable pub in_turn : List DpbPicture → List ℕ → List ℕ → List ℕ → List RefEntry
+in_turn dpb first second long = map (short_entry dpb) first ++ (map (short_entry dpb) second ++ map (long_entry dpb) long)
 
 -- entry i of the temporary list, which has these in turn again and again (8-8, 8-10). It is the same however long the
 -- list is made, in the standard the greater of num_ref_idx_active_minus1 + 1 and NumPicTotalCurr
@@ -39,24 +45,24 @@ reference_list turn active list_entry =
     if length turn == 0 then [] else map (λ i. temporary_entry turn (entry_taken list_entry i)) (range_with_len 0 active)
 
 -- list 0 of a slice with these fields: none of an I slice, which has no fields of P and B slices
-abbrev pub list_0 : Option InterFields → Rps → List RefEntry
-list_0 None rps = []
-list_0 (Some fields) rps =
-    reference_list (in_turn rps.st_curr_before rps.st_curr_after rps.lt_curr) (fields.num_ref_idx_l0_active_minus1 + 1) fields.list_entry_l0
+abbrev pub list_0 : Option InterFields → Rps → List DpbPicture → List RefEntry
+list_0 None rps dpb = []
+list_0 (Some fields) rps dpb =
+    reference_list (in_turn dpb rps.st_curr_before rps.st_curr_after rps.lt_curr) (fields.num_ref_idx_l0_active_minus1 + 1) fields.list_entry_l0
 
 -- list 1 of a slice that has so many entries in it: none of a P slice
-abbrev pub list_1_of : Option ℕ → Option (List ℕ) → Rps → List RefEntry
-list_1_of None list_entry rps = []
-list_1_of (Some active_minus1) list_entry rps =
-    reference_list (in_turn rps.st_curr_after rps.st_curr_before rps.lt_curr) (active_minus1 + 1) list_entry
+abbrev pub list_1_of : Option ℕ → Option (List ℕ) → Rps → List DpbPicture → List RefEntry
+list_1_of None list_entry rps dpb = []
+list_1_of (Some active_minus1) list_entry rps dpb =
+    reference_list (in_turn dpb rps.st_curr_after rps.st_curr_before rps.lt_curr) (active_minus1 + 1) list_entry
 
-abbrev pub list_1 : Option InterFields → Rps → List RefEntry
-list_1 None rps = []
-list_1 (Some fields) rps = list_1_of fields.num_ref_idx_l1_active_minus1 fields.list_entry_l1 rps
+abbrev pub list_1 : Option InterFields → Rps → List DpbPicture → List RefEntry
+list_1 None rps dpb = []
+list_1 (Some fields) rps dpb = list_1_of fields.num_ref_idx_l1_active_minus1 fields.list_entry_l1 rps dpb
 
--- the lists of a slice
-unfoldable pub reference_lists : SliceFields → Rps → Lists
-reference_lists slice rps = record { l0 = list_0 slice.inter rps; l1 = list_1 slice.inter rps }
+-- the lists of a slice of a picture before which the buffer has these pictures
+unfoldable pub reference_lists : SliceFields → Rps → List DpbPicture → Lists
+reference_lists slice rps dpb = record { l0 = list_0 slice.inter rps dpb; l1 = list_1 slice.inter rps dpb }
 
 -- num_ref_idx_l0_active_minus1 and num_ref_idx_l1_active_minus1 in their range
 abbrev pub IsNoneOrAtMost : ℕ → Option ℕ → Type 0
@@ -66,6 +72,10 @@ IsNoneOrAtMost greatest (Some n) = n ≤ greatest
 abbrev pub HasFewActive : Option InterFields → Type 0
 HasFewActive None = Unit {0}
 HasFewActive (Some fields) = (fields.num_ref_idx_l0_active_minus1 ≤ 15) × IsNoneOrAtMost 15 fields.num_ref_idx_l1_active_minus1
+
+-- an entry tells the order count of its picture in the buffer
+abbrev pub TellsOrderCount : List DpbPicture → RefEntry → Type 0
+TellsOrderCount dpb entry = entry.poc ≡ order_count_at dpb entry.place
 
 -- whether an entry is for a picture that the picture itself may use, as what it stands there
 abbrev pub IsCurrent : Rps → RefEntry → Type 0

@@ -4,8 +4,8 @@ use Rattle.spec_reference_pictures.proofs.laws_references.lists_have_current_pic
 
 pub returns-clause-l0 : goal.returns-clause-l0
 unfolding reference_lists
-returns-clause-l0 c slice rps = list_0_current rps slice.inter
+returns-clause-l0 c slice rps dpb = list_0_current dpb rps slice.inter
 
 pub returns-clause-l1 : goal.returns-clause-l1
 unfolding reference_lists
-returns-clause-l1 c slice rps = list_1_current rps slice.inter
+returns-clause-l1 c slice rps dpb = list_1_current dpb rps slice.inter
