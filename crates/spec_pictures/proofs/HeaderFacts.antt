@@ -187,7 +187,7 @@ header_read false true c e f g r h is = absurd cc
 header_read false false true e f g r h is = absurd cc
 header_read false false false e f g r h is = is
 
-judged_reads : (sets : Sets) (former : Former) (segments : List SegmentPlan) (u : NalUnit) (h : SliceHeaderFields)
+pub judged_reads : (sets : Sets) (former : Former) (segments : List SegmentPlan) (u : NalUnit) (h : SliceHeaderFields)
     → judged_header sets former segments u ≡ Ok h → slice_header_of (context_of sets former segments u) u.payload ≡ Ok h
 unfolding judged_header
 judged_reads sets former segments u h e =

@@ -4,4 +4,4 @@
 
 mod laws;
 
-pub use laws::{headers_are_in_range, parameter_sets_are_in_range};
+pub use laws::{headers_are_in_range, parameter_sets_are_in_range, plans_are_in_range};
