@@ -1,10 +1,12 @@
 //! Laws of what a planner gives over a stream of units.
 
-ghost use Rattle.std.specs.Prelude.{ℕ, ◌≤◌, true, false, List};
+ghost use Rattle.std.specs.Prelude.{ℕ, ◌≤◌, All, true, false, List};
 ghost use Rattle.spec_units.specs.Judged.{Told};
 ghost use Rattle.spec_pictures.specs.Pictures.{beginning};
 ghost use Rattle.spec_pictures.specs.Planned.{planned_from};
+ghost use Rattle.spec_plan_ranges.specs.Plans.{IsPlan};
 ghost use Rattle.flight_laws.specs.Calls.{AreAllGiven, AreGiven, AreMaximal, over, planned_behind, still, with_pending};
+ghost use Rattle.picture_plan.specs.Flights.{pictures_of};
 ghost use Rattle.picture_plan.specs.Plans.{Plans, at_end, halted};
 ghost use Rattle.flight_laws.specs.Runs.{AreFlights, ArePlanned, new_plans, run};
 
@@ -39,4 +41,9 @@ pub fn flights_are_maximal()
 /// Each flight has one to `ahead` pictures, all of one sequence parameter set.
 pub fn flights_are_of_one_set()
     ensures { (ahead : ℕ) (told : List Told) → 1 ≤ ahead → AreFlights ahead (run (new_plans ahead) told).flights }
+{}
+
+/// Each picture of the flights is in range.
+pub fn flights_are_in_range()
+    ensures { (ahead : ℕ) (told : List Told) → All IsPlan (pictures_of (run (new_plans ahead) told).flights) }
 {}
