@@ -14,6 +14,7 @@ use Rattle.spec_formats.specs.Fields.{Parses}
 use Rattle.spec_units.specs.Judged.{NalUnit}
 use Rattle.header_types.specs.declared.slice.SliceHeaderFields.{SliceHeaderFields}
 use Rattle.spec_pictures.specs.Steps.{Stepped, begun, close, continuing, put_pps, put_sps, segment_of, sequence_end, stop_at}
+use Rattle.picture_plan.specs.Bounds.{IsWithin}
 use Rattle.picture_plan.specs.declared.change.Change.{Change}
 use Rattle.picture_plan.specs.declared.change.Change.TheVariants as change
 use Rattle.picture_plan.specs.declared.change.Closing.{Closing}
@@ -31,11 +32,11 @@ over s former = record { sets = s.sets; former = former; drops_rasl = s.drops_ra
 abbrev pub closed_over : Between → Former → Stepped
 closed_over s former = record { closed = pictures_in s.picture; next = Ok (over s former) }
 
--- this is how the open picture is closed, and few pictures are in the buffer then
+-- this is how the open picture is closed, and the buffer holds no more than it may then
 abbrev pub Closes : Closing → Between → Type 0
 Closes closing.Nothing s = (close s ≡ record { closed = []; next = Ok s }) × (s.picture ≡ None)
 Closes (closing.Broken f) s = close s ≡ record { closed = []; next = Err (stop.Fault f) }
-Closes (closing.Over former) s = (close s ≡ closed_over s former) × (length former.dpb ≤ 128)
+Closes (closing.Over former) s = (close s ≡ closed_over s former) × IsWithin former
 
 -- what is known behind a change, or what stops the stream
 abbrev pub applied : Between → Change → Result Between Stop

@@ -16,7 +16,7 @@ use std::alloc::AllocError;
 pub(crate) enum Closing {
     /// No picture is open.
     Nothing,
-    /// Its slice segments break a rule together.
+    /// It breaks a rule that is judged once all its slice segments are there.
     Broken(Fault),
     /// It is over, and leaves this to the next one.
     Over(Former),

@@ -1,27 +1,64 @@
-//! What is judged over the slice segments of a picture once all of them are there (7.4.7.1).
+//! What is judged of a picture once all its slice segments are there (7.4.7.1, C.5.2.2).
 
-ghost use Rattle.std.specs.Prelude.{◌≡◌, ◌-◌, ◌/◌, ◌≤◌, nat_lt, sum};
+ghost use Rattle.std.specs.Prelude.{◌≡◌, ◌-◌, ◌/◌, ◌≤◌, None, length, nat_lt, sum};
+ghost use Rattle.header_types.specs.SequenceParameterSets.{highest_ordering};
+ghost use Rattle.spec_output_order.specs.OutputOrder.{size_of};
+ghost use Rattle.picture_plan.specs.Bounds.{IsWithinSize, KeepsFew};
 ghost use Rattle.spec_pictures.specs.Closing.{
   address_of,
   broken_at,
+  broken_at_closing,
   broken_from,
   broken_in,
   end_of,
   entry_points_fit,
+  is_buffer_full,
   passes_row,
   segment_breaks,
   slice_start,
 };
 
 use hv_base::{Fault, FaultKind};
+use output_order::is_full_of_references;
 use plan_types::{PicturePlan, SegmentPlan};
+use ref_picture_sets::begins_anew;
 use slice_headers::data_size;
+
+/// The first rule that a picture breaks as it is closed: of those on its slice segments, and then that the decoded picture
+/// buffer has room for it (`DpbFull`), told at its first slice segment.
+pub(crate) fn broken_at_closing(picture: &PicturePlan) -> Option<Fault>
+    ensures value { result ≡ broken_at_closing picture.now }
+    ensures room { KeepsFew picture.now → result ≡ None → IsWithinSize picture.now }
+{
+    match broken_in(picture) {
+        Some(fault) => Some(fault),
+        None if is_buffer_full(picture) => Some(Fault {
+            kind: FaultKind::DpbFull,
+            nal: picture.nal,
+            ctu: None,
+        }),
+        None => None,
+    }
+}
+
+/// Whether the decoded picture buffer has no room for a picture.
+fn is_buffer_full(picture: &PicturePlan) -> bool
+    ensures value { result ≡ is_buffer_full picture.now }
+    ensures few { size_of (highest_ordering picture.now.sps.sub_layer_ordering) ≤ 16 }
+{
+    let ordering = picture.sps.highest_ordering();
+    is_full_of_references(
+        begins_anew(picture.kind),
+        ordering,
+        picture.rps.marks.as_slice(),
+    )
+}
 
 /// The first rule that the slice segments of a picture break together: with entropy coding sync, a slice or a segment
 /// that begins inside a row of coding tree units ends in it (`SliceOrder`), and there is an entry point for each row of
 /// a segment but its first, inside the segment's data (`EntryPoints`).
 #[tactic(auto, unfolding(spec_pictures::specs::Closing::broken_in))]
-pub(crate) fn broken_in(picture: &PicturePlan) -> Option<Fault>
+fn broken_in(picture: &PicturePlan) -> Option<Fault>
     ensures { result ≡ broken_in picture.now }
 {
     if !picture.pps.fields().entropy_coding_sync_enabled_flag {
@@ -33,7 +70,7 @@ pub(crate) fn broken_in(picture: &PicturePlan) -> Option<Fault>
 }
 
 /// The rule that the first of these segments breaks, the first ones of a picture.
-pub(crate) fn broken_from(width: u32, size: u32, segments: &[SegmentPlan]) -> Option<Fault>
+fn broken_from(width: u32, size: u32, segments: &[SegmentPlan]) -> Option<Fault>
     requires { 1 ≤ width }
     ensures { result ≡ broken_from width size 0 segments.now }
 {

@@ -1,9 +1,9 @@
 //! What a picture leaves behind (8.3.1).
 
-ghost use Rattle.std.specs.Prelude.{◌≡◌, ◌≤◌, IfOk, length};
+ghost use Rattle.std.specs.Prelude.{◌≡◌, IfOk};
 ghost use Rattle.spec_pictures.specs.Pictures.{former_after, prev_after};
 ghost use Rattle.spec_pictures.specs.UnitKinds.{is_order_base};
-ghost use Rattle.picture_plan.specs.Bounds.{KeepsFew};
+ghost use Rattle.picture_plan.specs.Bounds.{IsWithin, IsWithinSize};
 
 use crate::unit_kinds::{is_radl, is_rasl, is_sub_layer_non_reference};
 use header_types::Former;
@@ -17,9 +17,9 @@ pub(crate) fn former_after(
     former: &Former,
     picture: &PicturePlan,
 ) -> Result<Former, AllocError>
-    requires { KeepsFew picture.now }
+    requires { IsWithinSize picture.now }
     ensures value { IfOk result (λ f. f ≡ former_after former.now picture.now) }
-    ensures few { IfOk result (λ f. length f.dpb ≤ 128) }
+    ensures few { IfOk result IsWithin }
 {
     Ok(Former {
         active: Some(picture.sps.clone()?),

@@ -39,7 +39,7 @@ pub(crate) fn judge_header(
     segments: &[SegmentPlan],
     nal: &Nal,
 ) -> Result<SliceHeader, Refusal>
-    requires { length former.now.dpb ≤ 128 }
+    requires { length former.now.dpb ≤ 16 }
     ensures value { Parses (λ x. x) result (judged_header sets.now former.now segments.now (unit_of nal.now)) }
     ensures in_range { segments.now ≡ [] → IfOk result IsInRange }
     ensures active { IfOk result HasLists }

@@ -1,15 +1,15 @@
 //! The picture that a first slice segment opens (8.3).
 
-ghost use Rattle.std.specs.Prelude.{◌≡◌, ◌≤◌, ◌∷◌, [], None, Ok, length, IfOk};
+ghost use Rattle.std.specs.Prelude.{◌≡◌, ◌≤◌, ◌∷◌, [], None, Ok, true, length, IfOk};
 ghost use Rattle.std.specs.List.{count_by};
 ghost use Rattle.slice_headers.specs.Ranges.{AreReferences, IsInRange};
 ghost use Rattle.spec_formats.specs.Fields.{Parses};
 ghost use Rattle.plan_types.specs.declared.between.Between.{Between};
 ghost use Rattle.spec_pictures.specs.Steps.{opening, picture_of, segment_of, slice_judged, with_order};
-ghost use Rattle.spec_reference_pictures.specs.PictureOrderCount.{pic_order_cnt_val};
+ghost use Rattle.spec_reference_pictures.specs.PictureOrderCount.{begins_anew, pic_order_cnt_val};
 ghost use Rattle.spec_reference_pictures.specs.ReferencePictureSet.{GivesSet, is_reference, reference_picture_set};
 ghost use Rattle.spec_units.specs.Judged.{NalUnit, unit_of};
-ghost use Rattle.picture_plan.specs.Bounds.{ChangesFew, HasLists, KeepsFew};
+ghost use Rattle.picture_plan.specs.Bounds.{ChangesFew, Fits, HasLists, KeepsFew};
 ghost use Rattle.picture_plan.specs.Changes.{applied, begun_by};
 
 use crate::change::{Change, stop_at};
@@ -33,8 +33,8 @@ struct Named<'a> {
     pps: &'a Shared<Pps>,
 }
 
-/// The reference picture set of a picture. It keeps few pictures, since its header names few.
-#[tactic(auto, using(crate::proofs::KeptPictures::set_keeps_few))]
+/// The reference picture set of a picture, which marks none as reference where it begins anew.
+#[tactic(auto, using(crate::proofs::KeptPictures::set_begins_anew))]
 fn reference_set(
     alloc: Global,
     former: &Former,
@@ -42,12 +42,12 @@ fn reference_set(
     references: &ReferenceFields,
     poc: i32,
 ) -> Result<Rps, Refusal>
-    requires few { length former.now.dpb ≤ 128 }
+    requires few { length former.now.dpb ≤ 16 }
     requires low { 16 ≤ kind.max_lsb }
     requires high { kind.max_lsb ≤ 65536 }
     requires references { AreReferences kind.max_lsb references.now }
     ensures value { GivesSet result (reference_picture_set kind references.now poc former.now.dpb) }
-    ensures few { IfOk result (λ rps. count_by is_reference rps.marks ≤ 112) }
+    ensures anew { IfOk result (λ rps. begins_anew kind ≡ true → count_by is_reference rps.marks ≡ 0) }
 {
     derive_rps(alloc, kind, references, poc, former.dpb.as_slice())
 }
@@ -114,10 +114,10 @@ fn parts_under<'a>(
     named: Named<'a>,
     header: &SliceHeader,
 ) -> Result<Parts, Refusal>
-    requires few { length former.now.dpb ≤ 128 }
+    requires few { length former.now.dpb ≤ 16 }
     requires in_range { IsInRange header.now }
     ensures value { (u : NalUnit) → Parses (begun_by former.now.dpb u header.now) result (with_order former.now u header.now (record { pps = named.entry.pps.now; sps = named.entry.sps.now }) (pic_order_cnt_val header.now.kind header.now.slice.references.slice_pic_order_cnt_lsb former.now.prev_tid0_pic_order_cnt)) }
-    ensures few { IfOk result (λ parts. length parts.outputs.dpb ≤ 128) }
+    ensures fits { IfOk result (λ parts. Fits header.now.kind parts.sps parts.rps.marks parts.outputs.dpb) }
 {
     let fields = header.fields();
     let references = &fields.slice.references;
@@ -138,10 +138,10 @@ fn parts_of(
     former: &Former,
     header: &SliceHeader,
 ) -> Result<Parts, Refusal>
-    requires few { length former.now.dpb ≤ 128 }
+    requires few { length former.now.dpb ≤ 16 }
     requires in_range { IsInRange header.now }
     ensures value { (u : NalUnit) → Parses (begun_by former.now.dpb u header.now) result (picture_of sets.now former.now u header.now) }
-    ensures few { IfOk result (λ parts. length parts.outputs.dpb ≤ 128) }
+    ensures fits { IfOk result (λ parts. Fits header.now.kind parts.sps parts.rps.marks parts.outputs.dpb) }
 {
     let Some(pps) = sets.pps(header.fields().segment.slice_pic_parameter_set_id) else {
         return Err(Refusal::Fault(FaultKind::MissingSet));
@@ -201,7 +201,7 @@ fn picture_of(
     nal: Nal,
     header: SliceHeader,
 ) -> Result<PicturePlan, Refusal>
-    requires few { length former.now.dpb ≤ 128 }
+    requires few { length former.now.dpb ≤ 16 }
     requires in_range { IsInRange header }
     requires lists { HasLists header }
     ensures value { Parses (λ x. x) result (picture_of sets.now former.now (unit_of nal) header) }
@@ -215,7 +215,7 @@ fn picture_of(
 /// The picture that a slice segment opens while none is open.
 #[tactic(auto, unfolding(spec_pictures::specs::Steps::opening))]
 fn open(alloc: Global, sets: &Sets, former: &Former, nal: Nal) -> Result<PicturePlan, Refusal>
-    requires { length former.now.dpb ≤ 128 }
+    requires { length former.now.dpb ≤ 16 }
     ensures value { Parses (λ x. x) result (opening sets.now former.now (unit_of nal)) }
     ensures few { IfOk result KeepsFew }
 {
@@ -227,7 +227,7 @@ impl State {
     /// Judges a slice segment while no picture is open, and this is left to its picture.
     #[tactic(auto, unfolding(spec_pictures::specs::Steps::slice_judged))]
     pub(crate) fn judge_opening(&self, former: &Former, nal: Nal) -> Result<Change, AllocError>
-        requires few { length former.now.dpb ≤ 128 }
+        requires few { length former.now.dpb ≤ 16 }
         ensures value { IfOk result (λ change. (t : Between) → t.sets ≡ self.now.between.sets → t.former ≡ former.now → t.picture ≡ None → applied t change ≡ slice_judged (unit_of nal) t) }
         ensures few { IfOk result ChangesFew }
     {

@@ -11,7 +11,7 @@ ghost use Rattle.picture_plan.specs.Flights.{waiting, with_pictures};
 ghost use Rattle.picture_plan.specs.Taken.{changed_behind, ended_by, left_by, taken};
 
 use crate::change::{Change, Closing, apply};
-use crate::closing::broken_in;
+use crate::closing::broken_at_closing;
 use crate::flight::{Ended, Flight};
 use crate::former::former_after;
 use crate::state::State;
@@ -51,7 +51,7 @@ impl State {
         let between = &self.between;
         match &between.picture {
             None => Ok(Closing::Nothing),
-            Some(picture) => match broken_in(picture) {
+            Some(picture) => match broken_at_closing(picture) {
                 Some(fault) => Ok(Closing::Broken(fault)),
                 None => {
                     let former = former_after(self.alloc, &between.former, picture)?;

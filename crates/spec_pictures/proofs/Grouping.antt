@@ -24,7 +24,7 @@ use Rattle.spec_slice_headers.specs.NamedSets.{Named, named_by}
 use Rattle.spec_pictures.specs.declared.unit_kind.UnitKind.{UnitKind}
 use Rattle.spec_pictures.specs.declared.unit_kind.UnitKind.TheVariants as unit
 use Rattle.spec_pictures.specs.UnitKinds.{is_rasl, is_slice, kind_of_type}
-use Rattle.spec_pictures.specs.Closing.{broken_in}
+use Rattle.spec_pictures.specs.Closing.{broken_at_closing}
 use Rattle.spec_pictures.specs.Pictures.{beginning}
 use Rattle.spec_pictures.specs.Steps.{Stepped, begun, behind_read, close, closed_by, closed_open, closing, continued, continued_by, continuing, first_flag, goes_on, joined, judged_header, kind_step, opened_by, opening, picture_of, put_pps, put_sps, segment_of, sequence_end, slice_judged, slice_step, step, then_next, unit_step, with_order, with_set, with_sets}
 use Rattle.spec_pictures.specs.Planned.{Planned, at_end, behind_closed, planned_end, planned_from, planned_next}
@@ -108,7 +108,7 @@ closed_by_goes s p (Some f) whole = record {
 
 closed_open_goes : (s : Between) (p : Option PicturePlan) → s.picture ≡ p → IfSome p IsWhole → ClosedGoes (open_of p) (closed_open s p)
 closed_open_goes s None is whole = record { begins = All-nil IsWhole; next = (refl, is) }
-closed_open_goes s (Some p) is whole = closed_by_goes s p (broken_in p) whole
+closed_open_goes s (Some p) is whole = closed_by_goes s p (broken_at_closing p) whole
 
 close_goes : (s : Between) → IsBegun s → ClosedGoes (open_of s.picture) (close s)
 unfolding close

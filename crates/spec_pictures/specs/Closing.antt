@@ -1,11 +1,13 @@
--- What is judged over the slice segments of a picture once all of them are there (7.4.7.1).
+-- What is judged of a picture once all its slice segments are there (7.4.7.1, C.5.2.2).
 use Rattle.std.specs.Prelude.{ℕ, zero, suc, ◌+◌, ◌-◌, ◌/◌, ◌%◌, Bool, true, false, not, ◌&&◌, ◌||◌, List, [], ◌∷◌, length, sum, Option, Some, None, nat_lt, ◌==◌, if◌then◌else◌}
 use Rattle.hv_base.specs.declared.fault.FaultKind.{FaultKind}
 use Rattle.hv_base.specs.declared.fault.FaultKind.TheVariants as rule
 use Rattle.hv_base.specs.declared.fault.Fault.{Fault}
 use Rattle.header_types.specs.declared.slice.SliceHeaderFields.{SliceHeaderFields}
-use Rattle.header_types.specs.SequenceParameterSets.{width_in_ctbs, size_in_ctbs}
+use Rattle.header_types.specs.SequenceParameterSets.{highest_ordering, width_in_ctbs, size_in_ctbs}
+use Rattle.spec_reference_pictures.specs.PictureOrderCount.{begins_anew}
 use Rattle.spec_slice_headers.specs.Substreams.{data_size}
+use Rattle.spec_output_order.specs.OutputOrder.{is_full_of_references}
 use Rattle.plan_types.specs.declared.segment_plan.SegmentPlan.{SegmentPlan}
 use Rattle.plan_types.specs.declared.picture_plan.PicturePlan.{PicturePlan}
 
@@ -59,3 +61,15 @@ broken_in p =
     if p.pps.entropy_coding_sync_enabled_flag
     then broken_from (width_in_ctbs p.sps) (size_in_ctbs p.sps) 0 p.segments
     else None
+
+-- whether the decoded picture buffer has no room for a picture: as many pictures are marked as reference as it holds
+-- (C.5.2.2)
+abbrev pub is_buffer_full : PicturePlan → Bool
+is_buffer_full p = is_full_of_references (begins_anew p.kind) (highest_ordering p.sps.sub_layer_ordering) p.rps.marks
+
+abbrev pub full_at : PicturePlan → Option Fault
+full_at p = if is_buffer_full p then Some (record { kind = rule.DpbFull; nal = p.nal; ctu = None }) else None
+
+-- the first rule that a picture breaks as it is closed: of those on its segments, and then on the buffer at its start
+abbrev pub broken_at_closing : PicturePlan → Option Fault
+broken_at_closing p = or_later (broken_in p) (full_at p)

@@ -1,5 +1,5 @@
 -- One unit of a stream after the other: what it closes, how it is judged, and what is known behind it.
-use Rattle.std.specs.Prelude.{ℕ, ◌+◌, ℤ, Bool, true, false, not, ◌&&◌, ◌||◌, List, [], ◌∷◌, ◌++◌, length, slice_set, Option, Some, None, is_none, unwrap_or, Result, Ok, Err, nat_lt, nat_le, ◌==◌, if◌then◌else◌}
+use Rattle.std.specs.Prelude.{ℕ, ◌+◌, ℤ, Bool, true, false, not, ◌&&◌, ◌||◌, List, [], ◌∷◌, ◌++◌, length, slice_set, Option, Some, None, is_none, Result, Ok, Err, nat_lt, nat_le, if◌then◌else◌}
 use Rattle.hv_base.specs.declared.breach.Breach.{Breach}
 use Rattle.hv_base.specs.declared.breach.Breach.TheVariants as breach
 use Rattle.hv_base.specs.declared.fault.FaultKind.{FaultKind}
@@ -7,7 +7,6 @@ use Rattle.hv_base.specs.declared.fault.FaultKind.TheVariants as rule
 use Rattle.hv_base.specs.declared.fault.Fault.{Fault}
 use Rattle.hv_base.specs.declared.limit.LimitKind.TheVariants as bound
 use Rattle.hv_base.specs.declared.limit.Limit.{Limit}
-use Rattle.hv_base.specs.declared.nal_types.TheConstants.{CRA_NUT}
 use Rattle.hv_base.specs.declared.refusal.Stop.{Stop}
 use Rattle.hv_base.specs.declared.refusal.Stop.TheVariants as stop
 use Rattle.header_types.specs.declared.sps.SpsFields.{SpsFields}
@@ -19,19 +18,18 @@ use Rattle.header_types.specs.declared.reference_pictures.Lists.{Lists}
 use Rattle.header_types.specs.declared.reference_pictures.Rps.{Rps}
 use Rattle.header_types.specs.declared.former.Sets.{Sets}
 use Rattle.header_types.specs.declared.former.Former.{Former}
-use Rattle.header_types.specs.SequenceParameterSets.{highest_ordering}
 use Rattle.spec_bits.specs.Bits.{bits}
 use Rattle.spec_units.specs.Judged.{NalUnit, Told}
 use Rattle.spec_parameter_sets.specs.PictureParameterSet.{picture_parameter_set_of}
 use Rattle.spec_parameter_sets.specs.SequenceParameterSet.{sequence_parameter_set_of}
-use Rattle.spec_reference_pictures.specs.PictureOrderCount.{begins_anew, is_irap, pic_order_cnt_val}
+use Rattle.spec_reference_pictures.specs.PictureOrderCount.{is_irap, pic_order_cnt_val}
 use Rattle.spec_reference_pictures.specs.ReferenceLists.{reference_lists}
 use Rattle.spec_reference_pictures.specs.ReferencePictureSet.{reference_picture_set}
 use Rattle.spec_slice_headers.specs.Context.{Context, last_segment, slice_of}
 use Rattle.spec_slice_headers.specs.NamedSets.{Named, named_by}
 use Rattle.spec_slice_headers.specs.SegmentHeader.{slice_header_of}
 use Rattle.spec_slice_headers.specs.Substreams.{substream_ranges}
-use Rattle.spec_output_order.specs.declared.current_picture.CurrentPicture.{CurrentPicture}
+use Rattle.spec_output_order.specs.CurrentPictures.{current_picture}
 use Rattle.spec_output_order.specs.OutputOrder.{outputs_of}
 use Rattle.plan_types.specs.declared.between.Between.{Between}
 use Rattle.spec_pictures.specs.declared.unit_kind.UnitKind.{UnitKind}
@@ -40,7 +38,7 @@ use Rattle.spec_pictures.specs.UnitKinds.{kind_of_type, is_rasl}
 use Rattle.plan_types.specs.declared.segment_plan.SegmentPlan.{SegmentPlan}
 use Rattle.plan_types.specs.declared.picture_plan.PicturePlan.{PicturePlan}
 use Rattle.spec_pictures.specs.Pictures.{former_after}
-use Rattle.spec_pictures.specs.Closing.{broken_in}
+use Rattle.spec_pictures.specs.Closing.{broken_at_closing}
 
 -- the pictures that a unit closes, and what is known behind it or what stops the stream
 pub record Stepped : Type 0 where
@@ -67,9 +65,9 @@ closed_by s p (Some f) = record { closed = []; next = Err (stop.Fault f) }
 
 abbrev pub closed_open : Between → Option PicturePlan → Stepped
 closed_open s None = record { closed = []; next = Ok s }
-closed_open s (Some p) = closed_by s p (broken_in p)
+closed_open s (Some p) = closed_by s p (broken_at_closing p)
 
--- the open picture is closed: its slice segments are judged together
+-- the open picture is closed: its slice segments are judged together, and the buffer at its start
 unfoldable pub close : Between → Stepped
 close s = closed_open s s.picture
 
@@ -128,20 +126,6 @@ segment_of before dpb rps u header = record {
   slice = slice_number before header;
   lists = lists_of dpb header rps;
   substreams = substream_ranges u.payload u.removed header.data_place header.entry_points;
-}
-
--- NoOutputOfPriorPicsFlag: that of the header, but 1 in a clean random access picture (C.5.2.2)
-abbrev pub no_output_of_prior_pics_flag : SliceHeaderFields → Bool
-no_output_of_prior_pics_flag header = (header.kind.nal_type == CRA_NUT) || unwrap_or header.segment.no_output_of_prior_pics_flag false
-
--- what of a picture decides its outputs. PicOutputFlag is pic_output_flag, since skipped leading pictures are dropped
-abbrev pub current_picture : SliceHeaderFields → SpsFields → ℤ → CurrentPicture
-current_picture header sps poc = record {
-  poc = poc;
-  begins_anew = begins_anew header.kind;
-  no_output_of_prior_pics_flag = no_output_of_prior_pics_flag header;
-  pic_output_flag = header.slice.pic_output_flag;
-  ordering = highest_ordering sps.sub_layer_ordering;
 }
 
 -- the picture that a first slice segment opens

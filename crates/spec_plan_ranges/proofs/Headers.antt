@@ -1,6 +1,6 @@
 -- The ranges of slice segment headers that are read.
-use Rattle.std.proofs.Common.{◌≡◌, ◌∙◌, ℕ, zero, suc, ◌+◌, ◌-◌, ◌^◌, ◌/◌, ◌⊎◌, inl, inr, ◌<◌, ◌≤◌, ℤ, pos, negsuc, ◌+ℤ◌, ◌≤ℤ◌, Bool, true, false, not, ◌==◌, ◌&&◌, ◌||◌, List, [], ◌∷◌, length, slice_index_or, Option, Some, None, is_some, IfSome, All, Result, Ok, Err, if◌then◌else◌, refl, sym, ap, subst, arith}
-use Rattle.std.specs.Prelude.{int_le, nat_le, nat_lt, slice_get}
+use Rattle.std.proofs.Common.{◌≡◌, ◌∙◌, ℕ, ◌+◌, ◌-◌, ◌^◌, ◌/◌, inl, inr, ◌<◌, ◌≤◌, ℤ, pos, negsuc, ◌+ℤ◌, ◌≤ℤ◌, Bool, true, false, ◌==◌, ◌&&◌, ◌||◌, List, length, slice_index_or, Option, Some, None, is_some, IfSome, All, Result, Ok, Err, if◌then◌else◌, refl, sym, ap, subst, arith}
+use Rattle.std.specs.Prelude.{int_le, nat_lt, slice_get}
 use Rattle.std.specs.List.{range_with_len}
 use Rattle.std.proofs.Math.Nat.{pow-le-pow_right}
 use Rattle.std.proofs.lemmas.Int.{ints}
@@ -16,7 +16,6 @@ use Rattle.header_types.specs.declared.pps.DeblockingControl.{DeblockingControl}
 use Rattle.header_types.specs.declared.pps.PpsFields.{PpsFields}
 use Rattle.header_types.specs.declared.sps.LongTermCandidate.{LongTermCandidate}
 use Rattle.header_types.specs.declared.sps.SpsFields.{SpsFields}
-use Rattle.header_types.specs.declared.sps.SubLayerOrdering.{SubLayerOrdering}
 use Rattle.header_types.specs.declared.short_term_set.StRps.{StRps}
 use Rattle.header_types.specs.declared.slice.Collocated.{Collocated}
 use Rattle.header_types.specs.declared.slice.InterFields.{InterFields}
@@ -40,7 +39,7 @@ use Rattle.header_types.proofs.ReferencePictures.{IsStRps-weaker}
 use Rattle.plan_types.specs.declared.segment_plan.SegmentPlan.{SegmentPlan}
 use Rattle.spec_bits.specs.Bits.{bits}
 use Rattle.spec_formats.specs.Format.{Then, when◌then◌else◌}
-use Rattle.spec_formats.specs.Fields.{Header, read, give, is_within, optional, se_within, u, ue_to}
+use Rattle.spec_formats.specs.Fields.{Header, read, give, optional, se_within}
 use Rattle.spec_formats.proofs.Values.{CanBe, can_be}
 use Rattle.spec_parameter_sets.specs.Fits.{fits}
 use Rattle.spec_reference_pictures.specs.PictureOrderCount.{is_idr}
@@ -48,9 +47,8 @@ use Rattle.spec_reference_pictures.proofs.Sets.{can_be_near}
 use Rattle.spec_slice_headers.specs.Context.{Context, ◌>>=◌, agrees, fault, first_of, flag_or, header_of, judged, kept, no_rasl_output_flag, last_segment, slice_header, slice_of, ue_or}
 use Rattle.spec_slice_headers.specs.InterFields.{collocated, collocated_minus1, entries_1, index_to, inter_fields, is_b, list_entry, modification}
 use Rattle.spec_slice_headers.specs.NamedSets.{Named, is_active, named_by, named_sets, with_pps, with_sps}
-use Rattle.spec_slice_headers.specs.ReferenceRules.{is_i}
 use Rattle.spec_slice_headers.specs.References.{coded_references, coded_short_term, empty_set, long_term, long_term_entry, long_term_of, named_short_term, no_references, reference_fields, ShortTerm, short_term}
-use Rattle.spec_slice_headers.specs.SegmentHeader.{aligned, alignment, taken_fields, entry_point, entry_points, fields_of_slice, placed, slice_header_of, slice_segment_header}
+use Rattle.spec_slice_headers.specs.SegmentHeader.{aligned, alignment, taken_fields, entry_point, entry_points, placed, slice_header_of, slice_segment_header}
 use Rattle.spec_slice_headers.specs.SegmentStart.{front, later_place, place}
 use Rattle.spec_slice_headers.specs.SliceFields.{Filters, chroma_offset, control_of, deblocking, filter_fields, inter_of, later_fields, own_deblocking, pps_deblocking, qp_delta, slice_fields, slice_qp}
 use Rattle.spec_slice_headers.specs.Weights.{chroma_weight, chroma_weights, entry_weights, list_weights, luma_weight, pred_weight_table, weights_at}

@@ -1,14 +1,11 @@
 -- The ranges of picture parameter sets that are read.
-use Rattle.std.proofs.Common.{◌≡◌, ℕ, ◌^◌, ◌<◌, ◌≤◌, ℤ, pos, Bool, true, false, List, Option, IfSome, Result, Ok, Err, refl, arith}
-use Rattle.std.proofs.lemmas.Int.{ints}
-use Rattle.hv_base.specs.declared.breach.Breach.{Breach}
+use Rattle.std.proofs.Common.{◌≡◌, ℕ, ℤ, Bool, true, false, List, Ok, arith}
 use Rattle.hv_base.specs.declared.field_rules.TheConstants.{PARAMETER_SET_RULES}
 use Rattle.header_types.specs.declared.pps.DeblockingControl.{DeblockingControl}
 use Rattle.header_types.specs.declared.pps.PpsFields.{PpsFields}
 use Rattle.header_types.specs.PictureParameterSet.{IsDeblockingControl, IsPps, IsWithin}
 use Rattle.header_types.specs.Scaling.{IsScalingLists}
 use Rattle.spec_bits.specs.Bits.{bits}
-use Rattle.spec_formats.specs.Fields.{Header, read, value_of}
 use Rattle.spec_formats.proofs.Values.{CanBe}
 use Rattle.spec_parameter_sets.specs.PictureParameterSet.{deblocking_control, deblocking_offset, picture_parameter_set, picture_parameter_set_of}
 use Rattle.spec_parameter_sets.specs.Scaling.{scaling_list_data}

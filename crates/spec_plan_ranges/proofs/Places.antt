@@ -1,7 +1,7 @@
 -- Where accepted slice segments begin, and which parameter sets they name.
-use Rattle.std.proofs.Common.{◌≡◌, ◌∙◌, ℕ, zero, suc, ◌<◌, Bool, true, false, ◌||◌, ◌&&◌, ◌==◌, List, [], ◌∷◌, length, Option, Some, None, Result, Ok, Err, refl, sym, ap, subst, arith}
+use Rattle.std.proofs.Common.{◌≡◌, ◌∙◌, ℕ, ◌<◌, Bool, true, false, ◌||◌, ◌==◌, List, [], ◌∷◌, Option, Some, None, Result, Ok, refl, sym, ap, subst, arith}
 use Rattle.std.specs.Prelude.{nat_lt, slice_get}
-use Rattle.std.proofs.lemmas.Bool.{and_parts, eqb-true, ltb-true}
+use Rattle.std.proofs.lemmas.Bool.{and_parts, ltb-true}
 use Rattle.hv_base.specs.declared.breach.Breach.{Breach}
 use Rattle.hv_base.specs.declared.field_rules.FieldRules.{FieldRules}
 use Rattle.hv_base.specs.declared.field_rules.TheConstants.{SLICE_HEADER_RULES}
@@ -10,11 +10,10 @@ use Rattle.header_types.specs.declared.former.Former.{Former}
 use Rattle.header_types.specs.declared.slice.SegmentFields.{SegmentFields}
 use Rattle.header_types.specs.declared.slice.SliceHeaderFields.{SliceHeaderFields}
 use Rattle.header_types.specs.SequenceParameterSets.{size_in_ctbs}
-use Rattle.plan_types.specs.declared.segment_plan.SegmentPlan.{SegmentPlan}
 use Rattle.spec_bits.specs.Bits.{bits, flag_at}
 use Rattle.spec_units.specs.Judged.{NalUnit}
 use Rattle.spec_formats.specs.Format.{Format, Give, Refuse, One, Then, when◌then◌else◌}
-use Rattle.spec_formats.specs.Fields.{Field, U, Flag, Ue, Se, UeTo, SeWithin, Within, FieldValue, Header, field_at, give, read}
+use Rattle.spec_formats.specs.Fields.{Field, U, Flag, Ue, Se, UeTo, SeWithin, Within, FieldValue, field_at, give, read}
 use Rattle.spec_formats.proofs.Agreement.{bind_ok}
 use Rattle.spec_formats.proofs.Values.{CanBe, can_be}
 use Rattle.spec_slice_headers.specs.Context.{Context, agrees, first_of, header_of, last_address}
@@ -22,7 +21,7 @@ use Rattle.spec_slice_headers.specs.NamedSets.{Named, named_by}
 use Rattle.spec_slice_headers.specs.SegmentHeader.{slice_header_of, slice_segment_header}
 use Rattle.spec_slice_headers.specs.SegmentStart.{front, is_above, later_place, place}
 use Rattle.spec_pictures.specs.Steps.{context_of, first_flag}
-use Rattle.spec_plan_ranges.proofs.Headers.{AreNamed, IsPlaced, are_named, place_id, read_from}
+use Rattle.spec_plan_ranges.proofs.Headers.{are_named, place_id, read_from}
 use Rattle.spec_plan_ranges.proofs.Values.{wanted_is}
 
 abbrev R : FieldRules

@@ -1,5 +1,5 @@
 -- The open picture as it grows, and the picture that it is once it is closed.
-use Rattle.std.proofs.Common.{◌≡◌, ◌∙◌, ℕ, zero, suc, ◌+◌, ◌-◌, ◌*◌, ◌/◌, ◌^◌, ◌<◌, ◌≤◌, ◌⊎◌, inl, inr, ℤ, Bool, true, false, ◌==◌, List, [], ◌∷◌, ◌++◌, length, Option, Some, None, IfSome, All, Result, Ok, Err, if◌then◌else◌, refl, sym, ap, subst, arith}
+use Rattle.std.proofs.Common.{◌≡◌, ◌∙◌, ℕ, ◌+◌, ◌-◌, ◌*◌, ◌<◌, ◌≤◌, ◌⊎◌, inl, inr, ℤ, Bool, true, false, ◌==◌, List, [], ◌∷◌, ◌++◌, length, Option, Some, None, IfSome, All, Ok, if◌then◌else◌, refl, sym, ap, subst, arith}
 use Rattle.std.specs.Prelude.{slice_get}
 use Rattle.std.specs.Bool.{MatchBool}
 use Rattle.std.specs.List.{Contains}
@@ -7,11 +7,9 @@ use Rattle.std.proofs.Math.Nat.{mul-pos, one-le-pow}
 use Rattle.std.proofs.lemmas.Nat.{le-div}
 use Rattle.std.proofs.lemmas.Bool.{eqb-true}
 use Rattle.std.proofs.lemmas.List.Elements.{All-cons, All-nil, All-push, All-weaker}
-use Rattle.hv_base.specs.declared.fault.FaultKind.{FaultKind}
 use Rattle.header_types.specs.declared.former.Sets.{Sets}
 use Rattle.header_types.specs.declared.former.Former.{Former}
 use Rattle.header_types.specs.declared.reference_pictures.DpbPicture.{DpbPicture}
-use Rattle.header_types.specs.declared.reference_pictures.Lists.{Lists}
 use Rattle.header_types.specs.declared.reference_pictures.Mark.TheVariants as mark
 use Rattle.header_types.specs.declared.reference_pictures.RefEntry.{RefEntry}
 use Rattle.header_types.specs.declared.reference_pictures.Rps.{Rps}
@@ -26,18 +24,17 @@ use Rattle.plan_types.specs.declared.picture_plan.PicturePlan.{PicturePlan}
 use Rattle.plan_types.specs.declared.segment_plan.SegmentPlan.{SegmentPlan}
 use Rattle.spec_units.specs.Judged.{NalUnit}
 use Rattle.spec_reference_pictures.specs.ReferenceLists.{IsCurrent, list_0, list_1, reference_lists}
-use Rattle.spec_reference_pictures.specs.ReferencePictureSet.{IsLongTerm, IsMarked, IsShortTerm, named_sets, reference_picture_set}
+use Rattle.spec_reference_pictures.specs.ReferencePictureSet.{IsLongTerm, IsMarked, IsShortTerm, reference_picture_set}
 use Rattle.spec_reference_pictures.proofs.DerivedSets.{long_marked, set_is, short_marked}
 use Rattle.spec_reference_pictures.proofs.Entries.{list_0_current, list_1_current}
 use Rattle.spec_slice_headers.specs.Context.{agrees, header_of}
 use Rattle.spec_slice_headers.specs.NamedSets.{Named, named_by}
-use Rattle.spec_slice_headers.specs.Substreams.{substream_ranges}
 use Rattle.spec_pictures.specs.Closing.{address_of, broken_from, broken_in}
 use Rattle.spec_pictures.specs.Steps.{context_of, lists_of, segment_of, with_segment}
 use Rattle.spec_plan_ranges.specs.Plans.{AreInOrder, AreReferences, BeginSlicesFrom, HaveRows, IsPlan}
-use Rattle.spec_plan_ranges.specs.Ranges.{AreSets, HaveSlices}
+use Rattle.spec_plan_ranges.specs.Ranges.{HaveSlices}
 use Rattle.spec_plan_ranges.proofs.Headers.{IsNamed}
-use Rattle.spec_plan_ranges.proofs.Places.{IsFirst, IsLater}
+use Rattle.spec_plan_ranges.proofs.Places.{IsLater}
 use Rattle.spec_plan_ranges.proofs.Segments.{IsCut, cut_is, order_more, rows_are, slices_one_more}
 
 -- ---- references

@@ -1,16 +1,15 @@
 -- Segments of a picture, one more behind those that are there.
-use Rattle.std.proofs.Common.{◌≡◌, ◌∙◌, ℕ, zero, suc, ◌+◌, ◌-◌, ◌/◌, ◌<◌, ◌≤◌, Bool, true, false, not, ◌&&◌, ◌||◌, ◌==◌, List, [], ◌∷◌, ◌++◌, length, Option, Some, None, IfSome, All, refl, sym, ap, arith, if◌then◌else◌}
+use Rattle.std.proofs.Common.{◌≡◌, ◌∙◌, ℕ, ◌+◌, ◌-◌, ◌/◌, ◌<◌, ◌≤◌, Bool, true, false, not, ◌||◌, ◌==◌, List, [], ◌∷◌, ◌++◌, length, Option, Some, None, All, refl, sym, ap, arith, if◌then◌else◌}
 use Rattle.std.specs.Prelude.{nat_lt, slice_get, sum}
 use Rattle.std.proofs.lemmas.Bool.{and_parts, eqb-true}
 use Rattle.std.proofs.lemmas.List.Elements.{All-head, All-tail}
 use Rattle.hv_base.specs.declared.fault.Fault.{Fault}
 use Rattle.hv_base.specs.declared.fault.FaultKind.TheVariants as rule
 use Rattle.header_types.specs.declared.slice.SliceHeaderFields.{SliceHeaderFields}
-use Rattle.header_types.specs.declared.substream.Substream.{Substream}
 use Rattle.plan_types.specs.declared.segment_plan.SegmentPlan.{SegmentPlan}
 use Rattle.spec_slice_headers.specs.Context.{address_of as address_in, header_of, last_address, last_segment, slice_of}
 use Rattle.spec_slice_headers.specs.Substreams.{data_size, ranges_from, substream_ranges, unit_place}
-use Rattle.spec_pictures.specs.Closing.{address_of, broken_at, broken_from, end_of, entry_points_fit, or_later, passes_row, segment_breaks, slice_start}
+use Rattle.spec_pictures.specs.Closing.{address_of, broken_at, broken_from, end_of, entry_points_fit, or_later, passes_row, slice_start}
 use Rattle.spec_pictures.specs.Steps.{slice_number}
 use Rattle.spec_plan_ranges.specs.Plans.{AreInOrder, BeginSlicesFrom, HaveRows, RiseBehind}
 

@@ -1,9 +1,8 @@
 -- The ranges of sequence parameter sets that are read.
-use Rattle.std.proofs.Common.{◌≡◌, ◌∙◌, ℕ, zero, suc, ◌+◌, ◌-◌, ◌*◌, ◌%◌, ◌^◌, ◌<◌, ◌≤◌, Bool, true, false, ◌&&◌, ◌==◌, List, [], ◌∷◌, ◌++◌, length, slice_index_or, Option, Some, None, IfSome, All, Result, Ok, Err, min, if◌then◌else◌, refl, sym, ap, length-append, arith}
-use Rattle.std.specs.Prelude.{nat_le, nat_lt}
+use Rattle.std.proofs.Common.{◌≡◌, ◌∙◌, ℕ, zero, suc, ◌+◌, ◌-◌, ◌*◌, ◌%◌, ◌^◌, ◌<◌, ◌≤◌, Bool, true, false, ◌&&◌, ◌==◌, List, [], ◌∷◌, ◌++◌, length, Option, IfSome, All, Ok, min, sym, length-append, arith}
+use Rattle.std.specs.Prelude.{nat_le}
 use Rattle.std.proofs.lemmas.Bool.{and_parts, eqb-true, leb-true, ltb-true}
-use Rattle.std.proofs.lemmas.List.Elements.{All-get_or, All-nil, All-push, All-weaker}
-use Rattle.hv_base.specs.declared.breach.Breach.{Breach}
+use Rattle.std.proofs.lemmas.List.Elements.{All-get_or, All-nil, All-push}
 use Rattle.hv_base.specs.declared.field_rules.TheConstants.{PARAMETER_SET_RULES}
 use Rattle.header_types.specs.declared.scaling.ScalingLists.{ScalingLists}
 use Rattle.header_types.specs.declared.short_term_set.StRps.{StRps}
@@ -19,7 +18,6 @@ use Rattle.header_types.specs.Scaling.{IsScalingLists}
 use Rattle.header_types.specs.SequenceParameterSets.{IsBlockSizes, IsConformanceWindow, IsLongTerm, IsPcmFormat, IsPictureFormat, IsSps, IsSubLayerOrdering, ctb_log2, highest_ordering, max_lsb_of, min_cb_log2, no_ordering}
 use Rattle.header_types.proofs.ReferencePictures.{All-IsStRps-weaker}
 use Rattle.spec_bits.specs.Bits.{bits}
-use Rattle.spec_formats.specs.Fields.{Header, read, value_of}
 use Rattle.spec_formats.proofs.Values.{CanBe}
 use Rattle.spec_parameter_sets.specs.Scaling.{scaling_list_data}
 use Rattle.spec_parameter_sets.specs.SequenceParameterSet.{block_sizes, conformance_window, long_term_candidate, long_term_candidates, main_only, ordered_sub_layers, pcm_bit_depth, pcm_format, picture_format, present_scaling_lists, scaling_lists, sequence_parameter_set, sequence_parameter_set_of, sets_behind, short_term_ref_pic_sets, side, sub_layer_ordering, sub_layers}

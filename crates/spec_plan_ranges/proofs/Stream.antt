@@ -1,6 +1,6 @@
 -- All pictures that are planned of a stream are in range.
-use Rattle.std.proofs.Common.{◌≡◌, ◌∙◌, ℕ, ℤ, Bool, true, false, not, ◌&&◌, List, [], ◌∷◌, ◌++◌, Option, Some, None, IfSome, if◌then◌else◌, Result, Ok, Err, refl, sym, ap, subst}
-use Rattle.std.specs.Prelude.{is_none, nat_le, nat_lt, slice_set}
+use Rattle.std.proofs.Common.{◌≡◌, ℕ, ℤ, Bool, true, false, ◌&&◌, List, [], ◌∷◌, Option, Some, None, IfSome, if◌then◌else◌, Result, Ok, Err, refl, sym, subst}
+use Rattle.std.specs.Prelude.{nat_lt}
 use Rattle.std.specs.List.{All}
 use Rattle.std.proofs.lemmas.List.Elements.{All-append, All-cons, All-nil, All-replicate, All-set}
 use Rattle.hv_base.specs.declared.breach.Breach.{Breach}
@@ -17,25 +17,23 @@ use Rattle.header_types.specs.PictureParameterSet.{IsPps}
 use Rattle.header_types.specs.SequenceParameterSets.{IsSps}
 use Rattle.plan_types.specs.declared.between.Between.{Between}
 use Rattle.plan_types.specs.declared.picture_plan.PicturePlan.{PicturePlan}
-use Rattle.plan_types.specs.declared.segment_plan.SegmentPlan.{SegmentPlan}
 use Rattle.spec_bits.specs.Bits.{bits}
 use Rattle.spec_units.specs.Judged.{NalUnit, Told, told_of}
 use Rattle.spec_parameter_sets.specs.PictureParameterSet.{picture_parameter_set_of}
 use Rattle.spec_parameter_sets.specs.SequenceParameterSet.{sequence_parameter_set_of}
-use Rattle.spec_reference_pictures.specs.PictureOrderCount.{is_irap, pic_order_cnt_val}
+use Rattle.spec_reference_pictures.specs.PictureOrderCount.{pic_order_cnt_val}
 use Rattle.spec_reference_pictures.specs.ReferencePictureSet.{reference_picture_set}
 use Rattle.spec_slice_headers.specs.NamedSets.{Named, named_by}
-use Rattle.spec_slice_headers.specs.SegmentHeader.{slice_header_of}
 use Rattle.spec_pictures.specs.declared.unit_kind.UnitKind.{UnitKind}
 use Rattle.spec_pictures.specs.declared.unit_kind.UnitKind.TheVariants as unit
 use Rattle.spec_pictures.specs.UnitKinds.{is_rasl, kind_of_type}
-use Rattle.spec_pictures.specs.Closing.{broken_in}
+use Rattle.spec_pictures.specs.Closing.{broken_at_closing, broken_in, full_at, or_later}
 use Rattle.spec_pictures.specs.Pictures.{beginning}
-use Rattle.spec_pictures.specs.Steps.{Stepped, begun, behind_read, close, closed_by, closed_open, closing, context_of, continued, continued_by, continuing, first_flag, goes_on, joined, judged_header, kind_step, opened_by, opening, picture_of, put_pps, put_sps, segment_of, sequence_end, slice_judged, slice_step, step, then_next, unit_step, with_order, with_set, with_sets}
-use Rattle.spec_pictures.specs.Planned.{Planned, at_end, behind_closed, planned_end, planned_from, planned_next, planned_of}
+use Rattle.spec_pictures.specs.Steps.{Stepped, begun, behind_read, close, closed_by, closed_open, closing, context_of, continued, continued_by, continuing, first_flag, goes_on, joined, judged_header, kind_step, opened_by, opening, picture_of, put_pps, put_sps, sequence_end, slice_judged, slice_step, step, then_next, unit_step, with_order, with_set, with_sets}
+use Rattle.spec_pictures.specs.Planned.{Planned, planned_end, planned_from, planned_next, planned_of}
 use Rattle.spec_pictures.proofs.HeaderFacts.{judged_reads}
 use Rattle.spec_plan_ranges.specs.Plans.{IsPlan}
-use Rattle.spec_plan_ranges.specs.Ranges.{AreSets, HaveSlices}
+use Rattle.spec_plan_ranges.specs.Ranges.{AreSets}
 use Rattle.spec_plan_ranges.proofs.Headers.{header_in_range, named_is}
 use Rattle.spec_plan_ranges.proofs.PictureSets.{picture_set_in_range}
 use Rattle.spec_plan_ranges.proofs.Places.{first_is, later_is}
@@ -73,16 +71,21 @@ record IsClosed (t : Stepped) : Type 0 where
 none_open : (n : Between) → AreSets n.sets → n.picture ≡ None → IsBetween n
 none_open n are none = record { sets = are; picture = subst (λ (p : Option PicturePlan). IfSome p (IsOpen n.sets)) (sym none) tt }
 
-closed_by_is : (s : Between) (p : PicturePlan) (f : Option Fault) → broken_in p ≡ f → AreSets s.sets → IsOpen s.sets p → IsClosed (closed_by s p f)
+-- where nothing is broken at last, nothing was broken first
+none_first : (first later : Option Fault) → or_later first later ≡ None → first ≡ None
+none_first None later e = refl
+none_first (Some f) later e = e
+
+closed_by_is : (s : Between) (p : PicturePlan) (f : Option Fault) → broken_at_closing p ≡ f → AreSets s.sets → IsOpen s.sets p → IsClosed (closed_by s p f)
 closed_by_is s p None e are open_is = record {
-  closed = All-cons IsPlan p [] (plan_is s.sets p open_is e) (All-nil IsPlan);
+  closed = All-cons IsPlan p [] (plan_is s.sets p open_is (none_first (broken_in p) (full_at p) e)) (All-nil IsPlan);
   next = (record { sets = are; picture = tt }, refl);
 }
 closed_by_is s p (Some f) e are open_is = record { closed = All-nil IsPlan; next = tt }
 
 closed_open_is : (s : Between) (p : Option PicturePlan) → s.picture ≡ p → AreSets s.sets → IfSome p (IsOpen s.sets) → IsClosed (closed_open s p)
 closed_open_is s None e are open_is = record { closed = All-nil IsPlan; next = (none_open s are e, e) }
-closed_open_is s (Some p) e are open_is = closed_by_is s p (broken_in p) refl are open_is
+closed_open_is s (Some p) e are open_is = closed_by_is s p (broken_at_closing p) refl are open_is
 
 close_is : (s : Between) → IsBetween s → IsClosed (close s)
 unfolding close
