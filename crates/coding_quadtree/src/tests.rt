@@ -7,7 +7,10 @@ use crate::beside::NO_SAO;
 use crate::{UnitPlace, read_ctu};
 use cabac_contexts::{BinReader, Contexts};
 use cabac_engine::Interval;
-use ctu_records::{Item, Neighbours, Picture, Records, Sao, Side};
+use ctu_records::{
+    Item, MotionSyntax, Mv, Neighbours, PartMode, Picture, PredictionUnit, Records, Sao, Side,
+    Square, VectorSyntax,
+};
 use hv_base::{Breach, FaultKind};
 use residual_syntax::Levels;
 use spec_slice_data::{CtuSyntax, End, InterSyntax, PcmSyntax};
@@ -120,7 +123,7 @@ fn end_of(
 {
     let mut reader = BinReader {
         interval: Interval::start(bytes)?,
-        contexts: Contexts::init(i32::from(qp), 0),
+        contexts: Contexts::init(i32::from(qp), if syntax.inter.is_b { 2 } else { 0 }),
     };
     let mut place = PLACE;
     place.last_qp = qp;
@@ -169,5 +172,55 @@ fn units_are_read(rt: HostRuntime) -> Result<(), Fail> {
     let end = end_of(&DATA, 20, &syntax, &mut records, &mut levels);
     assert!(rt; end == Some(Ok(End::Segment)) && records.items().len() == 96);
     assert!(rt; records.items().get(95) == Some(&Item::Level(0, 4)));
+    Ok(())
+}
+
+/// The data of an encoder's B slice of SliceQpY 29: one unit of two prediction units, the first of which points two quarters of
+/// a sample to the left of its prediction in the second reference picture.
+#[rattlefmt::skip]
+const B_SLICE: [u8; 25] = [
+    174, 226, 143, 248, 83, 191, 119, 13, 23, 71, 220, 203, 245, 158, 206, 158, 47, 205, 211,
+    114, 44, 143, 84, 201, 240,
+];
+
+/// The parts of that unit, and its levels up to the end of the slice.
+#[test]
+fn prediction_units_are_read(rt: HostRuntime) -> Result<(), Fail> {
+    let mut records = Records::new(rt.alloc(), 4)?;
+    let mut levels = Levels::new(rt.alloc())?;
+    let mut syntax = SAMPLES;
+    syntax.pcm.enabled = false;
+    syntax.transform_skip_enabled = true;
+    syntax.sign_data_hiding_enabled = true;
+    syntax.inter = InterSyntax {
+        is_inter: true,
+        is_b: true,
+        max_merge: 5,
+        active_0: 2,
+        active_1: 2,
+        mvd_l1_zero: false,
+        amp_enabled: true,
+        max_depth_inter: 2,
+    };
+    let first = PredictionUnit {
+        unit: Square {
+            x: 0,
+            y: 0,
+            log2_size: 1,
+        },
+        part_mode: PartMode::TwoNxN,
+        part: 0,
+        motion: MotionSyntax::Vectors(
+            Some(VectorSyntax {
+                ref_idx: 1,
+                mvd: Mv { x: -2, y: 0 },
+                mvp: false,
+            }),
+            None,
+        ),
+    };
+    let end = end_of(&B_SLICE, 29, &syntax, &mut records, &mut levels);
+    assert!(rt; end == Some(Ok(End::Segment)));
+    assert!(rt; records.items().get(1) == Some(&Item::Prediction(first)));
     Ok(())
 }
