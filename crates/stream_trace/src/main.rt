@@ -6,7 +6,7 @@
 //! With the word `pictures` it prints a line for each planned picture instead, in decoding order: its number, its picture
 //! order count, its `nal_unit_type`, its width and its height inside the conformance window; with the word `slices` the
 //! fields of the picture's slice segment headers follow, and with the word `outputs` the pictures come in output order.
-//! With the word `trees` the coding trees of pictures of I slices come, a line each for what was read; with the word `rows`
+//! With the word `trees` the coding trees of pictures come, a line each for what was read; with the word `rows`
 //! their samples before loop filters, a line each with the MD5 of a row of coding tree blocks.
 //! What stops the stream is told on the error stream then, and by the exit status: 2 where it breaks a rule, 3 where it
 //! meets a limit.
@@ -22,6 +22,7 @@ mod lines;
 mod output_trace;
 mod plan_trace;
 mod pps_lines;
+mod prediction_lines;
 mod reference_lines;
 mod row_lines;
 mod set_lists;

@@ -1,5 +1,6 @@
-//! The coding tree units of I slices as lines, each as it is read (7.3.8.2 to 7.3.8.8).
+//! The coding tree units of slices as lines, each as it is read (7.3.8.2 to 7.3.8.8).
 
+use crate::prediction_lines::prediction_unit;
 use crate::trace_error::TraceError;
 use ctu_records::{CodingUnit, Item, QpDelta, Square, TransformUnit};
 use std::io::Write;
@@ -45,11 +46,21 @@ pub(crate) fn unit_items<W: Write>(
     items: &[Item],
 ) -> Result<(), TraceError> {
     let mut modes = NO_MODES;
+    let mut skipped = false;
     for item in items {
         modes = modes_behind(modes, *item);
-        item_line(out, origin, modes, *item)?;
+        skipped = skipped_behind(skipped, *item);
+        item_line(out, origin, modes, skipped, *item)?;
     }
     Ok(())
+}
+
+/// Whether the coding unit of which this item was read is skipped.
+fn skipped_behind(skipped: bool, item: Item) -> bool {
+    match item {
+        Item::Unit(unit) => unit.skipped,
+        _ => skipped,
+    }
 }
 
 /// The luma modes that were read of a coding unit, behind this item.
@@ -81,11 +92,13 @@ fn item_line<W: Write>(
     out: &mut W,
     origin: UnitOrigin,
     modes: LumaModes,
+    skipped: bool,
     item: Item,
 ) -> Result<(), TraceError> {
     match item {
         Item::Unit(unit) => coding_unit(out, origin, unit),
         Item::Chroma(mode) => intra_modes(out, modes, mode),
+        Item::Prediction(unit) => prediction_unit(out, origin, skipped, unit),
         Item::Delta(delta) => qp_delta(out, origin, delta),
         Item::Transform(unit) => transform_unit(out, origin, unit),
         _ => Ok(()),

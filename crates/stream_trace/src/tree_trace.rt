@@ -1,4 +1,4 @@
-//! The coding trees or the samples of pictures of I slices, read and printed.
+//! The coding trees of pictures, or the samples of pictures of I slices, read and printed.
 
 use crate::row_lines::print_built;
 use crate::trace_error::TraceError;
@@ -35,14 +35,14 @@ impl TreeTrace {
         self.stop
     }
 
-    /// Prints a picture whose slices are all I, where no rule was broken before it.
+    /// Prints a picture where no rule was broken before it; the samples of one whose slices are all I alone.
     pub(crate) fn print_picture<W: Write>(
         &mut self,
         number: u64,
         picture: &PicturePlan,
         out: &mut W,
     ) -> Result<(), TraceError> {
-        if self.stop.is_none() && is_intra(picture) {
+        if self.stop.is_none() && (!self.rows || is_intra(picture)) {
             picture_start(out, number, picture)?;
             self.stop = self.print_read(picture, out)?;
         }
@@ -95,11 +95,21 @@ fn picture_start<W: Write>(
 fn slice_types<W: Write>(out: &mut W, segments: &[SegmentPlan]) -> Result<(), TraceError> {
     for (number, segment) in segments.iter().enumerate() {
         if segment.slice == number {
-            write!(out, "I")?;
+            let letter = letter_of(segment.header.fields().slice.slice_type);
+            write!(out, "{letter}")?;
         }
     }
     writeln!(out)?;
     Ok(())
+}
+
+/// The letter of a slice's type.
+fn letter_of(kind: SliceType) -> &'static str {
+    match kind {
+        SliceType::B => "B",
+        SliceType::P => "P",
+        SliceType::I => "I",
+    }
 }
 
 /// Prints the coding tree units of a picture, and answers what the data break.

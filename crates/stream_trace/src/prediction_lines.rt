@@ -1,0 +1,77 @@
+//! Prediction units as lines, as far as their syntax tells them (7.3.8.6).
+
+ghost use Rattle.std.specs.Prelude.{◌≡◌, ◌^◌, ◌≤◌};
+
+use crate::trace_error::TraceError;
+use crate::tree_lines::UnitOrigin;
+use ctu_records::{MotionSyntax, PartMode, PredictionUnit, Rectangle};
+use std::io::Write;
+
+/// A prediction unit: its first luma sample, its sides, and its candidate where its coding unit is skipped, else the parts of
+/// that unit.
+pub(crate) fn prediction_unit<W: Write>(
+    out: &mut W,
+    origin: UnitOrigin,
+    skipped: bool,
+    unit: PredictionUnit,
+) -> Result<(), TraceError> {
+    let Some(block) = block_of(&unit) else {
+        return Ok(());
+    };
+    let x = origin.x.saturating_add(4 * u32::from(block.x));
+    let y = origin.y.saturating_add(4 * u32::from(block.y));
+    let width = 4 * u32::from(block.width);
+    let height = 4 * u32::from(block.height);
+    let parts = part_name(unit.part_mode);
+    match unit.motion {
+        MotionSyntax::Merge(index) if skipped => {
+            writeln!(out, "merge {x} {y} {width}x{height} index {index}")?;
+        }
+        MotionSyntax::Merge(_) => writeln!(out, "merge {x} {y} {width}x{height} {parts}")?,
+        MotionSyntax::Vectors(_, _) => writeln!(out, "amvp {x} {y} {width}x{height} {parts}")?,
+    }
+    Ok(())
+}
+
+/// Its block, where its coding unit lies inside the greatest coding tree unit.
+fn block_of(unit: &PredictionUnit) -> Option<Rectangle> {
+    let square = unit.unit;
+    if square.log2_size > 4 || unit.part >= 4 {
+        return None;
+    }
+    let side = places(square.log2_size);
+    if u32::from(square.x) + side <= 16 && u32::from(square.y) + side <= 16 {
+        Some(unit.block())
+    } else {
+        None
+    }
+}
+
+/// The side of a square in places.
+fn places(log2_size: u8) -> u32
+    requires { log2_size ≤ 4 }
+    ensures value { result ≡ 2 ^ log2_size }
+    ensures few { result ≤ 16 }
+{
+    match log2_size {
+        0 => 1,
+        1 => 2,
+        2 => 4,
+        3 => 8,
+        _ => 16,
+    }
+}
+
+/// The name of a part mode.
+fn part_name(mode: PartMode) -> &'static str {
+    match mode {
+        PartMode::Whole => "Full",
+        PartMode::TwoNxN => "TwoNxN",
+        PartMode::Nx2N => "Nx2N",
+        PartMode::NxN => "NxN",
+        PartMode::TwoNxnU => "TwoNxnU",
+        PartMode::TwoNxnD => "TwoNxnD",
+        PartMode::NLx2N => "NLx2N",
+        PartMode::NRx2N => "NRx2N",
+    }
+}
