@@ -1,10 +1,9 @@
-use Rattle.std.proofs.Common.{rules, ◌≡◌, ◌∙◌, ap, sym, ◌<◌, ◌+ℤ◌, pos, ℕ, length, arith}
+use Rattle.std.proofs.Common.{rules, ◌+ℤ◌, pos, arith}
 use Rattle.std.proofs.lemmas.Int.{to_z-of_z}
 use mir.Val.{SFits}
 use mir.Syntax.{w32}
-use Rattle.picture_buffer.specs.Planes.{samples_of, plane_width, plane_height}
+use Rattle.picture_buffer.specs.Planes.{plane_width}
 use Rattle.spec_inter_prediction.specs.Taps.{clamped}
-use Rattle.inter_pred.specs.Passes.{at}
 use Rattle.inter_pred.proofs.Inside.{clamped_below}
 use Rattle.inter_pred.proofs.picture.picture_line.Goals as goal
 
