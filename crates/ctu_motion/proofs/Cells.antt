@@ -1,5 +1,5 @@
 -- Cells, and the motion that they hold.
-use Rattle.std.proofs.Common.{◌≡◌, ℕ, ◌+◌, ◌*◌, ◌<◌, ◌≤◌, ◌==◌, ◌&&◌, cond, nat_le, nat_lt, Bool, List, Option, Some, None, inl, inr, get_or, replicate, arith}
+use Rattle.std.proofs.Common.{◌≡◌, ℕ, ◌+◌, ◌<◌, ◌≤◌, ◌&&◌, cond, nat_le, nat_lt, List, Option, Some, None, inl, inr, get_or, replicate, arith}
 use Rattle.std.proofs.Math.ListN.{get_or-eq_default}
 use Rattle.std.proofs.Math.Path.{fun_ext}
 use Rattle.std.proofs.lemmas.Bool.{cases_lt}
@@ -8,7 +8,6 @@ use Rattle.std.proofs.lemmas.List.{get_or-replicate, length-replicate}
 use Rattle.ctu_records.specs.declared.prediction.Rectangle.{Rectangle}
 use Rattle.spec_motion.specs.declared.vectors.Motion.{Motion}
 use Rattle.spec_motion.specs.Derivation.{motion_over}
-use Rattle.spec_motion.specs.Vectors.{Known}
 use Rattle.ctu_motion.specs.Held.{Cells, cell, block_cell, held, held_beneath}
 
 same_at : {A : Type 0} (n k : ℕ) (d : A) → get_or (replicate n d) k d ≡ d

@@ -1,6 +1,5 @@
 -- A picture's size in units and in places.
 use Rattle.std.proofs.Common.{◌≡◌, ℕ, Bool, zero, suc, ◌+◌, ◌-◌, ◌*◌, ◌/◌, ◌%◌, ◌^◌, ◌<◌, ◌≤◌, ap, sym, subst, ◌∙◌, arith}
-use Rattle.std.proofs.Math.Nat.{div-mul-le_self, mul-le-mul, mul-le-mul_left}
 use Rattle.std.proofs.lemmas.Nat.{div-mul-add}
 use Rattle.header_types.specs.declared.sps.SpsFields.{SpsFields}
 use Rattle.header_types.specs.SequenceParameterSets.{IsSps, blocks_across, ctb_log2, width_in_ctbs}

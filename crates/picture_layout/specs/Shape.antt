@@ -1,5 +1,5 @@
 -- The size of a picture in coding tree units and in places of 4x4 luma samples (6.3.1).
-use Rattle.std.specs.Prelude.{ℕ, ◌-◌, ◌*◌, ◌^◌, ◌<◌, ◌≤◌}
+use Rattle.std.specs.Prelude.{◌-◌, ◌*◌, ◌^◌, ◌<◌, ◌≤◌}
 use Rattle.spec_slice_data.specs.Segment.{PictureShape}
 
 -- a picture of sides up to 8192 luma samples: its units cover each of its rows, and each of them has samples

@@ -5,4 +5,4 @@ mod layout;
 mod segments;
 
 pub use layout::Layout;
-pub use segments::{address_of, slice_address};
+pub use segments::{address_of, slice_address, slice_of};

@@ -5,16 +5,23 @@ ghost use Rattle.spec_picture_data.specs.Shapes.{address_of, slice_start};
 
 use plan_types::{PicturePlan, SegmentPlan};
 
+/// The segment that begins a segment's slice.
+pub fn slice_of<'a>(plan: &'a PicturePlan, segment: &'a SegmentPlan) -> &'a SegmentPlan
+    ensures { result.now ≡ slice_start plan.now segment.now }
+{
+    let segments = plan.segments.as_slice();
+    if segment.slice < segments.len() {
+        &segments[segment.slice]
+    } else {
+        segment
+    }
+}
+
 /// The address of the first unit of a segment's slice.
 pub fn slice_address(plan: &PicturePlan, segment: &SegmentPlan) -> u32
     ensures { result ≡ address_of (slice_start plan.now segment.now) }
 {
-    let segments = plan.segments.as_slice();
-    if segment.slice < segments.len() {
-        address_of(&segments[segment.slice])
-    } else {
-        address_of(segment)
-    }
+    address_of(slice_of(plan, segment))
 }
 
 /// slice_segment_address.

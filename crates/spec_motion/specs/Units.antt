@@ -1,6 +1,6 @@
 -- The motion of a coding tree unit by what was read of it (8.5.3.2).
-use Rattle.std.specs.Prelude.{ℕ, ◌≤◌, List, ⊤}
-use Rattle.std.specs.List.{All, fold}
+use Rattle.std.specs.Prelude.{List, ⊤}
+use Rattle.std.specs.List.{fold}
 use Rattle.ctu_records.specs.declared.item.Item.{Item}
 use Rattle.ctu_records.specs.declared.item.Item.TheVariants.{Unit, Luma, Chroma, Prediction, Pcm, Sample, Transform, Delta, Block, Level}
 use Rattle.spec_motion.specs.declared.slice_motion.SliceMotion.{SliceMotion}

@@ -1,4 +1,4 @@
-use Rattle.std.proofs.Common.{rules, refl, arith, ◌∙◌}
+use Rattle.std.proofs.Common.{refl, arith, ◌∙◌}
 use Rattle.ctu_motion.specs.Held.{held, held_beneath}
 use Rattle.ctu_motion.proofs.Steps.{derived_more, derived_all}
 use Rattle.ctu_motion.proofs.items.derive_motion.Goals as goal
