@@ -18,8 +18,8 @@ mod view;
 pub use blocks::part_block;
 pub use merging::merge;
 pub use predictors::amvp;
-pub use unit_motion::derive;
 pub use references::reference_in;
+pub use unit_motion::derive;
 pub use view::MotionView;
 
 #[cfg(test)]

@@ -1,0 +1,4 @@
+pub mod Gathered
+pub mod Blocks
+pub mod Lines
+pub mod References

@@ -1,0 +1,72 @@
+//! The motion of the collocated picture beneath a coding tree unit (8.5.3.2.8).
+
+ghost use Rattle.std.specs.Prelude.{◌≡◌, ℕ, ◌+◌, ◌*◌, ◌<◌, ◌≤◌, ◌==◌, ◌&&◌, nat_lt, None, if◌then◌else◌};
+ghost use Rattle.ctu_motion.specs.Held.{held, held_beneath};
+ghost use Rattle.picture_buffer.specs.Motion.{motions_of};
+ghost use Rattle.spec_picture_motion.specs.Field.{beneath_unit, collocated_of, collocated_vector};
+
+use crate::unit::Unit;
+use ctu_motion::UnitMotion;
+use picture_buffer::{MotionField, PlaceMotion, PlaceVector};
+use spec_motion::{Collocated, CollocatedVector};
+
+/// What the collocated picture has at the blocks of 4x4 places from a unit's first one on becomes known, where
+/// nothing of it was.
+pub fn gather_beneath(unit: &Unit, collocated: &MotionField, motion: &mut UnitMotion)
+    ensures places { held motion.new ≡ held motion.old }
+    ensures beneath { ((i j : ℕ) → held_beneath motion.old i j ≡ None) → held_beneath motion.new ≡ beneath_unit unit.now.layout unit.now.address (motions_of collocated.now) }
+{
+    for row in 0..4 {
+        gather_row(unit, collocated, row, motion);
+    }
+}
+
+/// A row of them.
+fn gather_row(unit: &Unit, collocated: &MotionField, row: usize, motion: &mut UnitMotion)
+    requires { row < 4 }
+    ensures places { held motion.new ≡ held motion.old }
+    ensures beneath { (i j : ℕ) → held_beneath motion.new i j ≡ (if (j == row) && (nat_lt i 5) then beneath_unit unit.now.layout unit.now.address (motions_of collocated.now) i row else held_beneath motion.old i j) }
+{
+    for column in 0..5 {
+        motion.put_beneath(column, row, beneath(unit, collocated, column, row));
+    }
+}
+
+/// What the collocated picture has at a block.
+#[tactic(auto, unfolding(spec_picture_motion::specs::Field::beneath_unit))]
+fn beneath(unit: &Unit, collocated: &MotionField, column: usize, row: usize) -> Option<Collocated>
+    requires column { column < 5 }
+    requires row { row < 4 }
+    ensures { result ≡ beneath_unit unit.now.layout unit.now.address (motions_of collocated.now) column row }
+{
+    let x = unit.first_column() + 4 * column;
+    let y = unit.first_row() + 4 * row;
+    collocated_of(collocated.at(x, y))
+}
+
+/// A place's motion as a collocated picture's.
+fn collocated_of(place: Option<PlaceMotion>) -> Option<Collocated>
+    ensures { result ≡ collocated_of place }
+{
+    match place {
+        Some(place) => Some(Collocated {
+            list_0: collocated_vector(place.list_0),
+            list_1: collocated_vector(place.list_1),
+        }),
+        None => None,
+    }
+}
+
+/// A vector of a collocated picture.
+fn collocated_vector(vector: Option<PlaceVector>) -> Option<CollocatedVector>
+    ensures { result ≡ collocated_vector vector }
+{
+    match vector {
+        Some(vector) => Some(CollocatedVector {
+            mv: vector.vector.mv,
+            order: vector.reference.order,
+            long_term: vector.reference.long_term,
+        }),
+        None => None,
+    }
+}

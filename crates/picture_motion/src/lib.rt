@@ -1,0 +1,16 @@
+//! The motion of a picture, unit after unit (H.265 6.4.1, 8.5.3.2): what is known beside a coding tree unit and beneath it in
+//! the collocated picture, and its motion laid into that of the picture.
+#![tactic(auto)]
+
+mod beneath;
+mod beside;
+mod pointing;
+mod slice;
+mod unit;
+mod unit_lines;
+
+pub use beneath::gather_beneath;
+pub use beside::gather_beside;
+pub use slice::{collocated_entry, slice_motion};
+pub use unit::Unit;
+pub use unit_lines::lay_unit;

@@ -1,0 +1,103 @@
+-- What the motion of a slice's coding tree units depends on (7.4.7.1, 8.3.4).
+use Rattle.std.specs.Prelude.{ℕ, ◌+◌, ◌-◌, ℤ, pos, Bool, true, false, List, [], map, length, min, nat_lt, slice_get, slice_index_or, Option, Some, None, option_and_then, if◌then◌else◌}
+use Rattle.std.specs.List.{range_with_len}
+use Rattle.header_types.specs.declared.pps.PpsFields.{PpsFields}
+use Rattle.header_types.specs.declared.reference_pictures.Lists.{Lists}
+use Rattle.header_types.specs.declared.reference_pictures.RefEntry.{RefEntry}
+use Rattle.header_types.specs.declared.slice.Collocated.{Collocated}
+use Rattle.header_types.specs.declared.slice.InterFields.{InterFields}
+use Rattle.header_types.specs.declared.slice.SliceFields.{SliceFields}
+use Rattle.header_types.specs.declared.slice.SliceType.{SliceType}
+use Rattle.header_types.specs.declared.slice.SliceType.TheVariants as slice_type
+use Rattle.plan_types.specs.declared.segment_plan.SegmentPlan.{SegmentPlan}
+use Rattle.plan_types.specs.declared.picture_plan.PicturePlan.{PicturePlan}
+use Rattle.spec_motion.specs.declared.slice_motion.SliceMotion.{SliceMotion}
+use Rattle.spec_motion.specs.declared.vectors.Reference.{Reference}
+use Rattle.spec_motion.specs.Vectors.{no_reference}
+use Rattle.spec_reference_pictures.specs.ReferenceLists.{no_reference as no_entry}
+use Rattle.spec_picture_data.specs.Shapes.{picture_shape, slice_start}
+use Rattle.spec_slice_data.specs.Segment.{PictureShape}
+use Rattle.spec_picture_motion.specs.Field.{first_column, first_row, unit_places}
+
+-- a picture of a reference picture list
+abbrev pub reference_of : RefEntry → Reference
+reference_of entry = record { picture = entry.place; order = entry.poc; long_term = entry.is_long_term }
+
+-- the entry with this number; behind the last one there is none
+abbrev pub reference_at : List RefEntry → ℕ → Reference
+reference_at entries i = if nat_lt i (length entries) then reference_of (slice_index_or entries i no_entry) else no_reference
+
+-- a list of 16 entries
+unfoldable pub references : List RefEntry → List Reference
+references entries = map (reference_at entries) (range_with_len 0 16)
+
+abbrev pub entries_0 : Option Lists → List RefEntry
+entries_0 None = []
+entries_0 (Some lists) = lists.l0
+
+abbrev pub entries_1 : Option Lists → List RefEntry
+entries_1 None = []
+entries_1 (Some lists) = lists.l1
+
+abbrev pub is_bi_predictive : SliceType → Bool
+is_bi_predictive slice_type.B = true
+is_bi_predictive slice_type.P = false
+is_bi_predictive slice_type.I = false
+
+-- MaxNumMergeCand
+abbrev pub max_candidates : Option InterFields → ℕ
+max_candidates None = 0
+max_candidates (Some fields) = 5 - fields.five_minus_max_num_merge_cand
+
+-- Log2ParMrgLevel: at most CtbLog2SizeY
+abbrev pub log2_parallel : PpsFields → ℕ
+log2_parallel pps = min (pps.log2_parallel_merge_level_minus2 + 2) 6
+
+abbrev pub collocation_of : InterFields → Option Collocated
+collocation_of fields = fields.collocated
+
+-- collocated_from_l0_flag and collocated_ref_idx, where there are candidates of a collocated picture
+abbrev pub collocation : SliceFields → Option Collocated
+collocation slice = if slice.slice_temporal_mvp_enabled_flag then option_and_then collocation_of slice.inter else None
+
+-- the collocated picture of a slice (8.5.3.2.7)
+abbrev pub entry_named : List RefEntry → List RefEntry → Collocated → Option RefEntry
+entry_named l0 l1 c = slice_get (if c.collocated_from_l0_flag then l0 else l1) c.collocated_ref_idx
+
+unfoldable pub collocated_entry : SliceFields → Option Lists → Option RefEntry
+collocated_entry slice lists = option_and_then (entry_named (entries_0 lists) (entries_1 lists)) (collocation slice)
+
+abbrev pub is_there : Option RefEntry → Bool
+is_there None = false
+is_there (Some entry) = true
+
+abbrev pub order_of : Option RefEntry → ℤ
+order_of None = pos 0
+order_of (Some entry) = entry.poc
+
+abbrev pub is_from_list_0 : Option Collocated → Bool
+is_from_list_0 None = true
+is_from_list_0 (Some c) = c.collocated_from_l0_flag
+
+-- of the unit at an address, in a slice of these fields and lists
+unfoldable pub motion_of_slice : PictureShape → PicturePlan → SliceFields → Option Lists → ℕ → SliceMotion
+motion_of_slice picture p slice lists address = record {
+  is_b = is_bi_predictive slice.slice_type;
+  max_candidates = max_candidates slice.inter;
+  log2_parallel = log2_parallel p.pps;
+  order = p.poc;
+  references_0 = references (entries_0 lists);
+  references_1 = references (entries_1 lists);
+  active_0 = min (length (entries_0 lists)) 16;
+  active_1 = min (length (entries_1 lists)) 16;
+  temporal = is_there (collocated_entry slice lists);
+  from_list_0 = is_from_list_0 (collocation slice);
+  collocated_order = order_of (collocated_entry slice lists);
+  side = unit_places picture;
+  right = picture.across - first_column picture address;
+  lower = picture.down - first_row picture address;
+}
+
+-- of the unit at an address, in the slice of a segment
+abbrev pub slice_motion : PicturePlan → SegmentPlan → ℕ → SliceMotion
+slice_motion p s address = motion_of_slice (picture_shape p.sps p.pps) p s.header.slice (slice_start p s).lists address
