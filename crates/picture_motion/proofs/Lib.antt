@@ -2,3 +2,4 @@ pub mod Gathered
 pub mod Blocks
 pub mod Lines
 pub mod References
+pub mod Derived
