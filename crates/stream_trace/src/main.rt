@@ -19,6 +19,7 @@ ghost use Rattle.std.specs.Prelude.{◌≡◌, false};
 
 mod inter_lines;
 mod lines;
+mod motion_buffer;
 mod output_trace;
 mod plan_trace;
 mod pps_lines;

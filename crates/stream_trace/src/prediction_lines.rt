@@ -1,17 +1,20 @@
-//! Prediction units as lines, as far as their syntax tells them (7.3.8.6).
+//! Prediction units as lines (7.3.8.6, 8.5.3.2).
 
 ghost use Rattle.std.specs.Prelude.{◌≡◌, ◌^◌, ◌≤◌};
 
 use crate::trace_error::TraceError;
 use crate::tree_lines::UnitOrigin;
 use ctu_records::{MotionSyntax, PartMode, PredictionUnit, Rectangle};
+use picture_motion::PictureMotion;
+use spec_motion::{Motion, Vector};
 use std::io::Write;
 
-/// A prediction unit: its first luma sample, its sides, and its candidate where its coding unit is skipped, else the parts of
-/// that unit.
+/// A prediction unit: its first luma sample, its sides, its candidate where its coding unit is skipped, else the parts of that
+/// unit, and its motion.
 pub(crate) fn prediction_unit<W: Write>(
     out: &mut W,
     origin: UnitOrigin,
+    motion: &PictureMotion<'_>,
     skipped: bool,
     unit: PredictionUnit,
 ) -> Result<(), TraceError> {
@@ -25,10 +28,39 @@ pub(crate) fn prediction_unit<W: Write>(
     let parts = part_name(unit.part_mode);
     match unit.motion {
         MotionSyntax::Merge(index) if skipped => {
-            writeln!(out, "merge {x} {y} {width}x{height} index {index}")?;
+            write!(out, "merge {x} {y} {width}x{height} index {index}")?;
         }
-        MotionSyntax::Merge(_) => writeln!(out, "merge {x} {y} {width}x{height} {parts}")?,
-        MotionSyntax::Vectors(_, _) => writeln!(out, "amvp {x} {y} {width}x{height} {parts}")?,
+        MotionSyntax::Merge(_) => write!(out, "merge {x} {y} {width}x{height} {parts}")?,
+        MotionSyntax::Vectors(_, _) => write!(out, "amvp {x} {y} {width}x{height} {parts}")?,
+    }
+    let known = motion.motion(usize::from(block.x) + 1, usize::from(block.y) + 1);
+    motion_text(out, known.unwrap_or(NO_MOTION))
+}
+
+/// No vector in either list.
+const NO_MOTION: Motion = Motion {
+    list_0: None,
+    list_1: None,
+};
+
+/// The vectors of both lists, which end the line.
+fn motion_text<W: Write>(out: &mut W, motion: Motion) -> Result<(), TraceError> {
+    write!(out, " l0 ")?;
+    vector_text(out, motion.list_0)?;
+    write!(out, " l1 ")?;
+    vector_text(out, motion.list_1)?;
+    writeln!(out)?;
+    Ok(())
+}
+
+/// A vector and its reference index, or a dash where there is none.
+fn vector_text<W: Write>(out: &mut W, vector: Option<Vector>) -> Result<(), TraceError> {
+    match vector {
+        Some(vector) => {
+            let (index, x, y) = (vector.ref_idx, vector.mv.x, vector.mv.y);
+            write!(out, "{index} {x} {y}")?;
+        }
+        None => write!(out, "-")?,
     }
     Ok(())
 }

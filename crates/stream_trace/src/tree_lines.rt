@@ -3,6 +3,7 @@
 use crate::prediction_lines::prediction_unit;
 use crate::trace_error::TraceError;
 use ctu_records::{CodingUnit, Item, QpDelta, Square, TransformUnit};
+use picture_motion::PictureMotion;
 use std::io::Write;
 
 /// Where a coding tree unit stands, and on what scale its parameters of quantization are.
@@ -43,6 +44,7 @@ pub(crate) fn unit_start<W: Write>(
 pub(crate) fn unit_items<W: Write>(
     out: &mut W,
     origin: UnitOrigin,
+    motion: &PictureMotion<'_>,
     items: &[Item],
 ) -> Result<(), TraceError> {
     let mut modes = NO_MODES;
@@ -50,7 +52,10 @@ pub(crate) fn unit_items<W: Write>(
     for item in items {
         modes = modes_behind(modes, *item);
         skipped = skipped_behind(skipped, *item);
-        item_line(out, origin, modes, skipped, *item)?;
+        match *item {
+            Item::Prediction(unit) => prediction_unit(out, origin, motion, skipped, unit)?,
+            other => item_line(out, origin, modes, other)?,
+        }
     }
     Ok(())
 }
@@ -92,13 +97,11 @@ fn item_line<W: Write>(
     out: &mut W,
     origin: UnitOrigin,
     modes: LumaModes,
-    skipped: bool,
     item: Item,
 ) -> Result<(), TraceError> {
     match item {
         Item::Unit(unit) => coding_unit(out, origin, unit),
         Item::Chroma(mode) => intra_modes(out, modes, mode),
-        Item::Prediction(unit) => prediction_unit(out, origin, skipped, unit),
         Item::Delta(delta) => qp_delta(out, origin, delta),
         Item::Transform(unit) => transform_unit(out, origin, unit),
         _ => Ok(()),

@@ -1,11 +1,14 @@
 //! The coding trees of pictures, or the samples of pictures of I slices, read and printed.
 
+use crate::motion_buffer::MotionBuffer;
 use crate::row_lines::print_built;
 use crate::trace_error::TraceError;
 use crate::tree_lines::{UnitOrigin, unit_items, unit_start};
 use ctu_records::Records;
 use header_types::SliceType;
 use hv_base::{Breach, Fault, Limit, Stop};
+use picture_layout::slice_of;
+use picture_motion::{PictureMotion, collocated_entry};
 use picture_trees::{ReadError, Trees, read_picture};
 use plan_types::{PicturePlan, SegmentPlan};
 use std::alloc::{AllocError, Global};
@@ -18,6 +21,8 @@ pub(crate) struct TreeTrace {
     /// Whether rows of samples are printed.
     rows: bool,
     stop: Option<Stop>,
+    /// The motion of the pictures that later ones refer to.
+    buffer: MotionBuffer,
 }
 
 impl TreeTrace {
@@ -27,6 +32,7 @@ impl TreeTrace {
             alloc,
             rows,
             stop: None,
+            buffer: MotionBuffer::new(alloc),
         }
     }
 
@@ -51,15 +57,17 @@ impl TreeTrace {
 
     /// Prints what is read of a picture, and answers what its data break.
     fn print_read<W: Write>(
-        &self,
+        &mut self,
         picture: &PicturePlan,
         out: &mut W,
     ) -> Result<Option<Stop>, TraceError> {
         if self.rows {
-            print_built(self.alloc, picture, out)
-        } else {
-            print_units(self.alloc, picture, out)
+            return print_built(self.alloc, picture, out);
         }
+        let buffer = std::mem::replace(&mut self.buffer, MotionBuffer::new(self.alloc));
+        let (stop, buffer) = print_units(self.alloc, picture, buffer, out)?;
+        self.buffer = buffer;
+        Ok(stop)
     }
 }
 
@@ -112,20 +120,22 @@ fn letter_of(kind: SliceType) -> &'static str {
     }
 }
 
-/// Prints the coding tree units of a picture, and answers what the data break.
+/// Prints the coding tree units of a picture, and answers what the data break, and the buffer that the picture leaves.
 fn print_units<W: Write>(
     alloc: Global,
     picture: &PicturePlan,
+    buffer: MotionBuffer,
     out: &mut W,
-) -> Result<Option<Stop>, TraceError> {
-    let mut lines = TreeLines::new(picture, out);
-    let read = read_picture(alloc, picture, &mut lines);
-    lines.result?;
-    match read {
-        Ok(()) => Ok(None),
-        Err(ReadError::Memory) => Err(TraceError::Memory),
-        Err(ReadError::Broken { breach, nal, ctu }) => Ok(Some(stop_at(breach, nal, ctu))),
-    }
+) -> Result<(Option<Stop>, MotionBuffer), TraceError> {
+    let motion = PictureMotion::new(alloc, picture)?;
+    let mut lines = TreeLines::new(alloc, picture, motion, buffer);
+    let stop = match read_picture(alloc, picture, &mut lines) {
+        Ok(()) => None,
+        Err(ReadError::Memory) => return Err(TraceError::Memory),
+        Err(ReadError::Broken { breach, nal, ctu }) => Some(stop_at(breach, nal, ctu)),
+    };
+    let left = lines.finish(out)?;
+    Ok((stop, left))
 }
 
 /// What the data of a unit break, with its place.
@@ -140,31 +150,49 @@ pub(crate) fn stop_at(breach: Breach, nal: u32, ctu: u32) -> Stop {
     }
 }
 
-/// Prints the coding tree units of a picture as they are read.
+/// The lines of a picture's coding tree units, and its motion, unit after unit.
 #[derive(Drop)]
-struct TreeLines<'a, W> {
-    out: &'a mut W,
+struct TreeLines<'a> {
+    picture: &'a PicturePlan,
+    motion: PictureMotion<'a>,
+    /// The motion of the pictures in the buffer.
+    buffer: MotionBuffer,
+    text: Vec<u8>,
     /// How many units a row of the picture has.
     width: u32,
     /// The side of a unit in luma samples.
     side: u32,
     /// QpBdOffsetY.
     qp_offset: i64,
-    /// How the first write that failed ended.
-    result: Result<(), TraceError>,
 }
 
-impl<'a, W: Write> TreeLines<'a, W> {
+impl<'a> TreeLines<'a> {
     /// Before the first unit of a picture.
-    fn new(picture: &PicturePlan, out: &'a mut W) -> TreeLines<'a, W> {
+    fn new(
+        alloc: Global,
+        picture: &'a PicturePlan,
+        motion: PictureMotion<'a>,
+        buffer: MotionBuffer,
+    ) -> TreeLines<'a> {
         let depth = picture.sps.fields().format.bit_depth_luma_minus8;
         TreeLines {
-            out,
+            picture,
+            motion,
+            buffer,
+            text: Vec::new(alloc),
             width: picture.sps.width_in_ctbs(),
             side: picture.sps.ctb_size(),
             qp_offset: 6 * i64::from(depth),
-            result: Ok(()),
         }
+    }
+
+    /// Prints the lines. The picture's motion then stands in the buffer.
+    fn finish<W: Write>(self, out: &mut W) -> Result<MotionBuffer, TraceError> {
+        out.write_all(self.text.as_slice())?;
+        let mut buffer = self.buffer;
+        buffer.push(self.motion.into_field())?;
+        buffer.keep(self.picture.outputs.kept.as_slice());
+        Ok(buffer)
     }
 
     /// Where a unit stands.
@@ -177,6 +205,24 @@ impl<'a, W: Write> TreeLines<'a, W> {
         }
     }
 
+    /// Derives the motion of a unit.
+    fn derive(&mut self, segment: usize, address: u32, records: &Records) {
+        if let Some(segment) = self.picture.segments.as_slice().get(segment) {
+            match collocated_place(self.picture, segment) {
+                Some(place) => self.derive_over(segment, address, records, place),
+                None => self.motion.derive(segment, address, records),
+            }
+        }
+    }
+
+    /// Derives the motion of a unit over that of the picture at a place.
+    fn derive_over(&mut self, segment: &SegmentPlan, address: u32, records: &Records, place: u32) {
+        match self.buffer.get(place) {
+            Some(field) => self.motion.derive_over(segment, address, records, field),
+            None => self.motion.derive(segment, address, records),
+        }
+    }
+
     /// The lines of a unit.
     fn print_unit(
         &mut self,
@@ -185,18 +231,28 @@ impl<'a, W: Write> TreeLines<'a, W> {
         records: &Records,
     ) -> Result<(), TraceError> {
         let origin = self.origin(address);
-        unit_start(self.out, address, segment)?;
-        unit_items(self.out, origin, records.items())
+        self.derive(segment, address, records);
+        unit_start(&mut self.text, address, segment)?;
+        unit_items(&mut self.text, origin, &self.motion, records.items())
     }
 }
 
-impl<'a, W: Write> Trees for TreeLines<'a, W> {
+impl<'a> Trees for TreeLines<'a> {
     ghost tells = { λ _ _ _. Unit {0} };
 
     fn unit(&mut self, segment: usize, ctu: u32, records: &Records) -> Result<(), AllocError> {
-        if self.result.is_ok() {
-            self.result = self.print_unit(segment, ctu, records);
+        match self.print_unit(segment, ctu, records) {
+            Ok(()) => Ok(()),
+            Err(_) => Err(AllocError),
         }
-        Ok(())
+    }
+}
+
+/// The place of the collocated picture of a segment's slice.
+fn collocated_place(picture: &PicturePlan, segment: &SegmentPlan) -> Option<u32> {
+    let lists = &slice_of(picture, segment).lists;
+    match collocated_entry(&segment.header.fields().slice, lists) {
+        Some(entry) => Some(entry.place),
+        None => None,
     }
 }
