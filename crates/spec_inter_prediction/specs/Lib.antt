@@ -2,3 +2,4 @@ pub mod Taps
 pub mod Luma
 pub mod Chroma
 pub mod Weighting
+pub mod Tables

@@ -3,9 +3,11 @@
 #![tactic(auto)]
 
 mod laws;
+mod tables;
 mod weighting;
 
 pub use laws::{
     filters_are_mirrored, filters_keep_equal_samples, luma_samples_depend_on_their_lines,
 };
+pub use tables::{ReferenceWeights, SliceWeighting, WeightTable};
 pub use weighting::{Weight, Weighting, Weights};
