@@ -20,9 +20,9 @@ none_at : {A : Type 0} (n k : ℕ) (xs : List (Option A)) → xs ≡ replicate n
 none_at n k xs e = rw e (same_at n k None)
 
 -- cells without motion
-pub nothing_held : (cells : Cells) → cells.places ≡ replicate 306 None → (column row : ℕ) → held cells column row ≡ None
+pub nothing_held : (cells : Cells) → cells.places ≡ replicate 578 None → (column row : ℕ) → held cells column row ≡ None
 unfolding held
-nothing_held cells e column row = let s = none_at 306 (cell column row) cells.places e in grind (arith, nat_tests, s)
+nothing_held cells e column row = let s = none_at 578 (cell column row) cells.places e in grind (arith, nat_tests, s)
 
 pub nothing_beneath : (cells : Cells) → cells.beneath ≡ replicate 20 None → (column row : ℕ) → held_beneath cells column row ≡ None
 unfolding held_beneath
@@ -30,13 +30,13 @@ nothing_beneath cells e column row = let s = none_at 20 (block_cell column row) 
 
 -- a place after a block was laid
 over_at : (old new : Cells) (block : Rectangle) (motion : Motion) (x y width height : ℕ) → x ≡ block.x → y ≡ block.y → width ≡ block.width → height ≡ block.height → block.x + block.width ≤ 16 → block.y + block.height ≤ 16
-    → (i j : ℕ) → (i < 18 → j < 17 → get_or new.places (cell i j) None ≡ cond ((nat_le (x + 1) i && nat_lt i (x + 1 + width)) && (nat_le (y + 1) j && nat_lt j (y + 1 + height))) (Some motion) (get_or old.places (cell i j) None))
+    → (i j : ℕ) → (i < 34 → j < 17 → get_or new.places (cell i j) None ≡ cond ((nat_le (x + 1) i && nat_lt i (x + 1 + width)) && (nat_le (y + 1) j && nat_lt j (y + 1 + height))) (Some motion) (get_or old.places (cell i j) None))
     → held new i j ≡ motion_over block motion (held old) i j
 unfolding held motion_over
 over_at old new block motion x y width height ex ey ew eh hx hy i j told = grind (arith, nat_tests)
 
 pub held_over : (old new : Cells) (places places' : List (Option Motion)) (block : Rectangle) (motion : Motion) (x y width height : ℕ) → old.places ≡ places → new.places ≡ places' → x ≡ block.x → y ≡ block.y → width ≡ block.width → height ≡ block.height → block.x + block.width ≤ 16 → block.y + block.height ≤ 16
-    → ((i j : ℕ) (d : Option Motion) → i < 18 → j < 17 → get_or places' (cell i j) d ≡ cond ((nat_le (x + 1) i && nat_lt i (x + 1 + width)) && (nat_le (y + 1) j && nat_lt j (y + 1 + height))) (Some motion) (get_or places (cell i j) d))
+    → ((i j : ℕ) (d : Option Motion) → i < 34 → j < 17 → get_or places' (cell i j) d ≡ cond ((nat_le (x + 1) i && nat_lt i (x + 1 + width)) && (nat_le (y + 1) j && nat_lt j (y + 1 + height))) (Some motion) (get_or places (cell i j) d))
     → held new ≡ motion_over block motion (held old)
 held_over old new places places' block motion x y width height eo en ex ey ew eh hx hy told =
     fun_ext (λ i. fun_ext (λ j. over_at old new block motion x y width height ex ey ew eh hx hy i j (λ hi hj. rw (eo, en) (told i j None hi hj))))

@@ -4,22 +4,22 @@ use Rattle.spec_motion.specs.declared.collocation.Collocated.{Collocated}
 use Rattle.spec_motion.specs.declared.vectors.Motion.{Motion}
 use Rattle.spec_motion.specs.Vectors.{Beneath, Known}
 
--- the motion of 18 places in each of 17 rows, the first column and the first row beside the unit; and that of the collocated
--- picture in four rows of five blocks
+-- the motion of 34 places in each of 17 rows, the first column and the first row beside the unit, the row as far as twice its
+-- side; and that of the collocated picture in four rows of five blocks
 pub record Cells : Type 0 where
   pub places : List (Option Motion)
   pub beneath : List (Option Collocated)
 
 -- where a place's cell is, and a block's
 abbrev pub cell : ℕ → ℕ → ℕ
-cell column row = 18 * row + column
+cell column row = 34 * row + column
 
 abbrev pub block_cell : ℕ → ℕ → ℕ
 block_cell column row = 5 * row + column
 
 unfoldable pub held : Cells → Known
 held cells column row =
-    if nat_lt column 18 && nat_lt row 17 then slice_index_or cells.places (cell column row) None else None
+    if nat_lt column 34 && nat_lt row 17 then slice_index_or cells.places (cell column row) None else None
 
 unfoldable pub held_beneath : Cells → Beneath
 held_beneath cells column row =

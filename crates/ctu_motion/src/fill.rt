@@ -22,12 +22,12 @@ pub(crate) fn fill_block<T: Copy>(
     height: usize,
     value: T,
 )
-    requires count { length cells.old ≡ 306 }
-    requires x { x + width ≤ 18 }
+    requires count { length cells.old ≡ 578 }
+    requires x { x + width ≤ 34 }
     requires y { y + height ≤ 17 }
-    ensures { (i j : ℕ) (d : T) → i < 18 → j < 17 → slice_index_or cells.new (cell i j) d ≡ cond ((nat_le x i && nat_lt i (x + width)) && (nat_le y j && nat_lt j (y + height))) value (slice_index_or cells.old (cell i j) d) }
+    ensures { (i j : ℕ) (d : T) → i < 34 → j < 17 → slice_index_or cells.new (cell i j) d ≡ cond ((nat_le x i && nat_lt i (x + width)) && (nat_le y j && nat_lt j (y + height))) value (slice_index_or cells.old (cell i j) d) }
 {
     for row in y..y + height {
-        fill(cells, 18 * row + x, width, value);
+        fill(cells, 34 * row + x, width, value);
     }
 }

@@ -13,7 +13,7 @@ use std::marker::Model;
 /// The motion that is known while a unit is derived: its own, that beside it, and that of the collocated picture.
 #[derive(Drop)]
 pub struct UnitMotion {
-    places: [Option<Motion>; 306],
+    places: [Option<Motion>; 578],
     beneath: [Option<Collocated>; 20],
 }
 
@@ -33,7 +33,7 @@ impl UnitMotion {
         ensures beneath { (column row : ℕ) → held_beneath result column row ≡ None }
     {
         UnitMotion {
-            places: [None; 306],
+            places: [None; 578],
             beneath: [None; 20],
         }
     }
@@ -44,19 +44,19 @@ impl UnitMotion {
         ensures places { (column row : ℕ) → held self.new column row ≡ None }
         ensures beneath { (column row : ℕ) → held_beneath self.new column row ≡ None }
     {
-        self.places = [None; 306];
+        self.places = [None; 578];
         self.beneath = [None; 20];
     }
 
     /// What is known of a place.
     #[tactic(auto, unfolding(crate::specs::Held::held, crate::specs::Held::held_beneath))]
     pub fn put(&mut self, column: usize, row: usize, motion: Option<Motion>)
-        requires column { column < 18 }
+        requires column { column < 34 }
         requires row { row < 17 }
         ensures places { (i j : ℕ) → held self.new i j ≡ (if (i == column) && (j == row) then motion else held self.old i j) }
         ensures beneath { held_beneath self.new ≡ held_beneath self.old }
     {
-        self.places[18 * row + column] = motion;
+        self.places[34 * row + column] = motion;
     }
 
     /// What the collocated picture has at a block of 4x4 places.
@@ -109,8 +109,8 @@ impl MotionView for UnitMotion {
 
     #[tactic(auto, unfolding(crate::specs::Held::held))]
     fn motion(&self, column: usize, row: usize) -> Option<Motion> {
-        if column < 18 && row < 17 {
-            self.places[18 * row + column]
+        if column < 34 && row < 17 {
+            self.places[34 * row + column]
         } else {
             None
         }

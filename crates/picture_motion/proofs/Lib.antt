@@ -3,3 +3,4 @@ pub mod Blocks
 pub mod Lines
 pub mod References
 pub mod Derived
+pub mod Joining

@@ -1,6 +1,6 @@
 //! The motion that is known beside a coding tree unit (6.4.1, 6.4.2).
 
-ghost use Rattle.std.specs.Prelude.{◌≡◌, ℕ, ◌+◌, ◌-◌, ◌<◌, ◌≤◌, ◌==◌, ◌&&◌, ◌||◌, nat_le, nat_lt, None, if◌then◌else◌};
+ghost use Rattle.std.specs.Prelude.{◌≡◌, ℕ, ◌+◌, ◌-◌, ◌*◌, ◌<◌, ◌≤◌, ◌==◌, ◌&&◌, ◌||◌, nat_le, nat_lt, None, if◌then◌else◌};
 ghost use Rattle.ctu_motion.specs.Held.{held, held_beneath};
 ghost use Rattle.picture_buffer.specs.Motion.{HasPlaces, motions_of};
 ghost use Rattle.picture_motion.specs.Units.{at_border};
@@ -22,13 +22,13 @@ pub fn gather_beside(unit: &Unit, field: &MotionField, motion: &mut UnitMotion)
     gather_left(unit, field, motion);
 }
 
-/// The row above, as far as the place behind the unit.
+/// The row above, as far as the end of the unit behind it.
 fn gather_above(unit: &Unit, field: &MotionField, motion: &mut UnitMotion)
     requires { HasPlaces field.now unit.now.layout.across unit.now.layout.down }
-    ensures places { (i j : ℕ) → held motion.new i j ≡ (if (j == 0) && (nat_le i (unit_places unit.now.layout + 1)) then at_border unit.now (motions_of field.now) i 0 else held motion.old i j) }
+    ensures places { (i j : ℕ) → held motion.new i j ≡ (if (j == 0) && (nat_le i (2 * unit_places unit.now.layout)) then at_border unit.now (motions_of field.now) i 0 else held motion.old i j) }
     ensures beneath { held_beneath motion.new ≡ held_beneath motion.old }
 {
-    for column in 0..unit.layout.side() as usize + 2 {
+    for column in 0..2 * unit.layout.side() + 1 {
         motion.put(column, 0, motion_beside(unit, field, column, 0));
     }
 }
@@ -39,7 +39,7 @@ fn gather_left(unit: &Unit, field: &MotionField, motion: &mut UnitMotion)
     ensures places { (i j : ℕ) → held motion.new i j ≡ (if (i == 0) && ((nat_le 1 j) && (nat_le j (unit_places unit.now.layout))) then at_border unit.now (motions_of field.now) 0 j else held motion.old i j) }
     ensures beneath { held_beneath motion.new ≡ held_beneath motion.old }
 {
-    for row in 1..unit.layout.side() as usize + 1 {
+    for row in 1..unit.layout.side() + 1 {
         motion.put(0, row, motion_beside(unit, field, 0, row));
     }
 }
@@ -48,8 +48,8 @@ fn gather_left(unit: &Unit, field: &MotionField, motion: &mut UnitMotion)
 #[tactic(auto, unfolding(spec_picture_motion::specs::Field::motion_beside))]
 fn motion_beside(unit: &Unit, field: &MotionField, column: usize, row: usize) -> Option<Motion>
     requires sides { HasPlaces field.now unit.now.layout.across unit.now.layout.down }
-    requires column { column ≤ 17 }
-    requires row { row ≤ 17 }
+    requires column { column ≤ 32 }
+    requires row { row ≤ 16 }
     ensures { result ≡ at_border unit.now (motions_of field.now) column row }
 {
     let x = unit.first_column() + column;

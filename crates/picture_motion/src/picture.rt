@@ -1,6 +1,6 @@
 //! The motion of a picture while its coding tree units are derived.
 
-ghost use Rattle.std.specs.Prelude.{◌≡◌, ◌*◌, ◌/◌, IfOk};
+ghost use Rattle.std.specs.Prelude.{◌≡◌, ℕ, ◌*◌, ◌/◌, IfOk, None};
 ghost use Rattle.std.specs.List.{All};
 ghost use Rattle.ctu_motion.specs.Held.{held, held_beneath};
 ghost use Rattle.picture_buffer.specs.Motion.{HasPlaces, motions_of};
@@ -55,12 +55,23 @@ impl<'a> PictureMotion<'a> {
         ensures field { IfOk result (λ m. motions_of m.field ≡ no_motions) }
     {
         let layout = Layout::new(plan);
-        Ok(PictureMotion {
+        let field = MotionField::new(alloc, layout.across(), layout.down())?;
+        Ok(PictureMotion::over(plan, field))
+    }
+
+    /// The same over a field without motion, of the picture's places. It takes no memory.
+    pub fn over(plan: &'a PicturePlan, field: MotionField) -> PictureMotion<'a>
+        requires sides { HasPlaces field (plan.now.sps.format.pic_width_in_luma_samples / 4) (plan.now.sps.format.pic_height_in_luma_samples / 4) }
+        requires places { (x y : ℕ) → motions_of field x y ≡ None }
+        ensures plan { result.plan ≡ plan.now }
+        ensures field { motions_of result.field ≡ no_motions }
+    {
+        PictureMotion {
             plan,
-            layout,
-            field: MotionField::new(alloc, layout.across(), layout.down())?,
+            layout: Layout::new(plan),
+            field,
             motion: UnitMotion::new(),
-        })
+        }
     }
 
     /// The next unit, of a segment whose slice has no collocated picture.
@@ -124,6 +135,13 @@ impl<'a> PictureMotion<'a> {
         ensures { result ≡ held self.now.last column row }
     {
         self.motion.motion(column, row)
+    }
+
+    /// What is known of the last unit.
+    pub fn unit_motion(&self) -> &UnitMotion
+        ensures { result.now ≡ self.now.last }
+    {
+        &self.motion
     }
 
     /// The motion of the picture.

@@ -62,10 +62,10 @@ motion_beside picture slice address motions column row =
     then motion_of (motions x y)
     else None
 
--- whether a place, counted so, stands in the row above a unit, as far as the place behind it, or in the column on its left:
--- of all others outside the unit none is decoded before it, or asked for
+-- whether a place, counted so, stands in the row above a unit, as far as the end of the unit behind it, or in the column on
+-- its left: of all others outside the unit none is decoded before it, or asked for
 abbrev pub is_border : ℕ → ℕ → ℕ → Bool
-is_border n column row = (row == 0 && nat_le column (n + 1)) || (column == 0 && nat_le row n)
+is_border n column row = (row == 0 && nat_le column (2 * n)) || (column == 0 && nat_le row n)
 
 -- what is known beside the unit at an address
 unfoldable pub known_beside : PictureShape → ℕ → ℕ → Motions → Known
