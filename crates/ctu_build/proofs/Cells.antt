@@ -4,7 +4,7 @@ use Rattle.std.proofs.Math.ListN.{get_or-eq_default}
 use Rattle.std.proofs.lemmas.Bool.{cases_lt}
 use Rattle.std.proofs.lemmas.Bool.Decides.{nat_tests}
 use Rattle.std.proofs.lemmas.List.{get_or-drop, get_or-replicate, get_or-take, length-replicate}
-use Rattle.ctu_build.specs.Held.{AreCells, Cells, added, cell, held, in_cell, inside_of}
+use Rattle.ctu_build.specs.Held.{AreCells, Cells, added, cell, held, inside_of}
 use Rattle.ctu_build.specs.declared.place.Place.{Place}
 use Rattle.spec_reconstruction.specs.Known.{with_residual}
 

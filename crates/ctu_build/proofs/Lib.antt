@@ -8,3 +8,6 @@ pub mod Transforming
 pub mod Sizes
 pub mod Steps
 pub mod Indices
+pub mod Offered
+pub mod Rectangles
+pub mod Parts

@@ -1,5 +1,5 @@
 -- Samples and residuals of a block by place.
-use Rattle.std.proofs.Common.{◌≡◌, ℕ, ◌+◌, ◌*◌, ◌%◌, ◌^◌, ◌<◌, ◌≤◌, Bool, true, false, ℤ, Option, Some, List, get_or, ap, ◌∙◌, ◌-◌, refl, arith}
+use Rattle.std.proofs.Common.{◌≡◌, ℕ, ◌+◌, ◌*◌, ◌%◌, ◌^◌, ◌<◌, ◌≤◌, true, false, ℤ, Some, List, get_or, ap, ◌∙◌, ◌-◌, refl, arith}
 use Rattle.std.specs.List.{All}
 use Rattle.std.proofs.lemmas.Int.{ints}
 use Rattle.ctu_records.specs.declared.item.CodedBlock.{CodedBlock}
@@ -19,7 +19,8 @@ use Rattle.ctu_records.specs.declared.item.Item.TheVariants.{Sample}
 use Rattle.spec_intra_prediction.specs.Neighbours.{beside}
 use Rattle.spec_intra_prediction.specs.Prediction.{predicted}
 use Rattle.spec_intra_prediction.specs.Substitution.{substituted}
-use Rattle.spec_reconstruction.specs.Prediction.{block_predicted}
+use Rattle.spec_motion.specs.Vectors as vectors
+use Rattle.spec_reconstruction.specs.Prediction.{block_predicted, offered}
 use Rattle.spec_reconstruction.specs.Pulses.{sample_of, shifted, pulses_laid}
 use Rattle.std.proofs.Math.Nat.{mod-eq_of_lt, mul-le-mul_left}
 use Rattle.spec_reconstruction.specs.Known.{Known, laid, constructed, with_residual}
@@ -70,17 +71,17 @@ scaled_constructed format mode block qp parameter items levels out count place d
     (λ i j hi hj. rw at (gave i j hi hj ∙ ap (λ (p : ℕ). residuals format mode block p levels i j) is ∙ ap (λ (l : List ℤ). residuals format mode block (parameter_of format block.component qp) l i j) (read ∙ ap (λ (n : ℕ). levels_behind n items) counts)))
 
 -- a predicted block
-pub predicted_laid : (format : UnitFormat) (place : Place) (mode depth : ℕ) (edge samples : List ℕ) (before after : Known)
+pub predicted_laid : (format : UnitFormat) (motion : vectors.Known) (place : Place) (mode depth : ℕ) (edge samples : List ℕ) (before after : Known)
     → after ≡ laid place.c place.x place.y (2 ^ place.log2) (block_of (2 ^ place.log2) samples) before
     → ((x y : ℕ) → x < 2 ^ place.log2 → y < 2 ^ place.log2 → get_or samples (2 ^ place.log2 * y + x) 0 ≡ predicted place.c place.log2 mode format.strong_intra_smoothing depth edge x y)
-    → edge ≡ substituted depth (beside (before place.c) (2 ^ place.log2) place.x place.y) → depth ≡ depth_of format place.c
-    → after ≡ block_predicted format place.c place.log2 mode place.x place.y before
+    → edge ≡ substituted (depth_of format place.c) (beside (offered format motion before place.c) (2 ^ place.log2) place.x place.y) → depth ≡ depth_of format place.c
+    → after ≡ block_predicted format motion place.c place.log2 mode place.x place.y before
 unfolding block_predicted
-predicted_laid format place mode depth edge samples before after told each gathered deep =
+predicted_laid format motion place mode depth edge samples before after told each gathered deep =
     told ∙ laid_same _ _ _ _ _ _ before (λ i j hi hj.
     each i j hi hj
     ∙ ap (λ (p : List ℕ). predicted place.c place.log2 mode format.strong_intra_smoothing depth p i j) gathered
-    ∙ ap (λ (d : ℕ). predicted place.c place.log2 mode format.strong_intra_smoothing d (substituted d (beside (before place.c) (2 ^ place.log2) place.x place.y)) i j) deep)
+    ∙ ap (λ (d : ℕ). predicted place.c place.log2 mode format.strong_intra_smoothing d (substituted (depth_of format place.c) (beside (offered format motion before place.c) (2 ^ place.log2) place.x place.y)) i j) deep)
 
 -- samples by pulse code modulation
 pub pulses_component : (place : Place) (first places count : ℕ) (items : List Item) (block : List ℕ) (before after : Known)

@@ -1,5 +1,5 @@
 -- What is known of a unit between two items.
-use Rattle.ctu_build.specs.declared.unit.Coding.{Coding}
+use Rattle.ctu_build.specs.declared.coding.Coding.{Coding}
 use Rattle.spec_reconstruction.specs.Known.{Known}
 use Rattle.spec_reconstruction.specs.Unit.{Building}
 

@@ -1,3 +1,4 @@
 pub mod Held
 pub mod Building
 pub mod Offsets
+pub mod Inter

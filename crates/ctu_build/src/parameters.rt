@@ -4,11 +4,12 @@ ghost use Rattle.std.specs.Prelude.{◌≡◌, ℕ, ◌+◌, ◌-◌, ◌*◌, �
 ghost use Rattle.ctu_build.specs.Offsets.{near_offset};
 ghost use Rattle.spec_reconstruction.specs.Factors.{factor, first_factor};
 ghost use Rattle.spec_reconstruction.specs.Parameters.{depth_of, depth_offset, chroma_offset, chroma_parameter, offset_parameter, parameter_of};
+ghost use Rattle.spec_reconstruction.specs.Residuals.{factors_of};
 ghost use Rattle.spec_slice_data.specs.Quantization.{chroma_qp_of_index};
 ghost use Rattle.spec_transforms.specs.Scaling.{IsDepth, IsParameter};
 ghost use Rattle.spec_reconstruction.specs.Sound.{IsFormat};
 
-use spec_reconstruction::UnitFormat;
+use spec_reconstruction::{ScalingFactors, UnitFormat, UnitMode};
 
 /// The bit depth of a component.
 pub(crate) fn depth_of(format: &UnitFormat, c: u8) -> u32
@@ -125,18 +126,29 @@ fn chroma_qp_of_index(index: u32) -> u32
     }
 }
 
-/// The scaling factors of blocks of a component and a size.
+/// The scaling factors of the blocks of a coding unit.
+fn unit_factors<'a>(format: &'a UnitFormat, mode: UnitMode) -> &'a ScalingFactors
+    ensures { result.now ≡ factors_of format.now mode }
+{
+    if mode.intra {
+        &format.intra_factors
+    } else {
+        &format.inter_factors
+    }
+}
+
+/// Those of its blocks of a component and a size.
 #[tactic(auto, using(crate::proofs::Sizes::small))]
-pub(crate) fn factors_of<'a>(format: &'a UnitFormat, log2: u32, c: u8) -> &'a [u8]
+pub(crate) fn factors_of<'a>(format: &'a UnitFormat, mode: UnitMode, log2: u32, c: u8) -> &'a [u8]
     requires some { 2 ≤ log2 }
     requires few { log2 ≤ 5 }
     requires c { c < 3 }
     ensures count { length result.now ≡ 2 ^ log2 * 2 ^ log2 }
-    ensures value { (k : ℕ) → k < 2 ^ log2 * 2 ^ log2 → slice_index result.now k ≡ factor format.now.factors log2 c k }
+    ensures value { (k : ℕ) → k < 2 ^ log2 * 2 ^ log2 → slice_index result.now k ≡ factor (factors_of format.now mode) log2 c k }
 {
     let n = 1 << log2;
     let first = first_factor(log2, usize::from(c));
-    &format.factors.by_place[first..first + n * n]
+    &unit_factors(format, mode).by_place[first..first + n * n]
 }
 
 /// Where they begin.

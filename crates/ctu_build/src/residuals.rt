@@ -13,22 +13,31 @@ use ctu_records::CodedBlock;
 use residual_transform::{inverse, scale, skip};
 use spec_reconstruction::{UnitFormat, UnitMode};
 
+/// A coded block, how its coding unit is coded, and its qP.
+#[derive(Clone, Copy)]
+pub(crate) struct Quantized {
+    pub(crate) block: CodedBlock,
+    pub(crate) mode: UnitMode,
+    pub(crate) qp: u32,
+}
+
 /// The scaled coefficients of a block's levels.
-fn scale_levels(format: &UnitFormat, block: CodedBlock, qp: u32, levels: &[i32], scaled: &mut [i32])
+fn scale_levels(format: &UnitFormat, coded: Quantized, levels: &[i32], scaled: &mut [i32])
     requires format { IsFormat format.now }
-    requires block { IsCoded block }
-    requires qp { IsParameter (depth_of format.now block.component) qp }
+    requires block { IsCoded coded.block }
+    requires qp { IsParameter (depth_of format.now coded.block.component) coded.qp }
     requires levels { All Is16 levels.now }
-    requires count { length levels.now ≡ 2 ^ block.log2_size * 2 ^ block.log2_size }
+    requires count { length levels.now ≡ 2 ^ coded.block.log2_size * 2 ^ coded.block.log2_size }
     requires room { length scaled.old ≡ length levels.now }
-    ensures value { (x y : ℕ) → x < 2 ^ block.log2_size → y < 2 ^ block.log2_size → block_in (2 ^ block.log2_size) scaled.new x y ≡ scaled_block format.now block.component block.log2_size qp levels.now x y }
+    ensures value { (x y : ℕ) → x < 2 ^ coded.block.log2_size → y < 2 ^ coded.block.log2_size → block_in (2 ^ coded.block.log2_size) scaled.new x y ≡ scaled_block format.now coded.mode coded.block.component coded.block.log2_size coded.qp levels.now x y }
     ensures small { All Is16 scaled.new }
     ensures count { length scaled.new ≡ length levels.now }
 {
+    let block = coded.block;
     let log2 = u32::from(block.log2_size);
     let depth = depth_of(format, block.component);
-    let factors = factors_of(format, log2, block.component);
-    scale(levels, log2, qp, factors, depth, scaled);
+    let factors = factors_of(format, coded.mode, log2, block.component);
+    scale(levels, log2, coded.qp, factors, depth, scaled);
 }
 
 /// Whether a block has the transform of sines.
@@ -74,14 +83,6 @@ fn skip_transform(format: &UnitFormat, block: CodedBlock, scaled: &[i32], out: &
     skip(scaled, u32::from(block.log2_size), depth, out);
 }
 
-/// A coded block, how its coding unit is coded, and its qP.
-#[derive(Clone, Copy)]
-pub(crate) struct Quantized {
-    pub(crate) block: CodedBlock,
-    pub(crate) mode: UnitMode,
-    pub(crate) qp: u32,
-}
-
 /// The residuals of a block's levels, where cu_transquant_bypass_flag is 0.
 pub(crate) fn residuals_of(
     format: &UnitFormat,
@@ -102,7 +103,7 @@ pub(crate) fn residuals_of(
     ensures small { All IsResidual out.new }
 {
     let block = coded.block;
-    scale_levels(format, block, coded.qp, levels, scaled);
+    scale_levels(format, coded, levels, scaled);
     if block.transform_skip {
         skip_transform(format, block, scaled, out);
     } else {

@@ -2,6 +2,7 @@
 
 ghost use Rattle.std.specs.Prelude.{◌≡◌, ℕ, ◌+◌, ◌-◌, ◌*◌, ◌^◌, ◌<◌, ◌≤◌, ◌==◌, ◌&&◌, None, Some, Option, length, nat_le, nat_lt, slice_index_or, if◌then◌else◌, unwrap_or};
 ghost use Rattle.ctu_build.specs.Held.{cell, held, block_of, IsInside};
+ghost use Rattle.spec_reconstruction.specs.Inter.{rectangle_laid};
 ghost use Rattle.spec_reconstruction.specs.Known.{laid, constructed};
 ghost use Rattle.spec_transforms.specs.Scaling.{IsDepth};
 ghost use Rattle.spec_transforms.specs.Transforms.{IsResidual, block_in};
@@ -9,6 +10,7 @@ ghost use Rattle.std.specs.List.{All};
 
 use crate::lines::{add_lines, copy, fill, lay_lines, mark_lines};
 use crate::place::Place;
+use ctu_records::Rectangle;
 use intra_pred::Border;
 use std::marker::Model;
 
@@ -115,6 +117,24 @@ impl UnitSamples {
         lay_lines(&mut self.values, place, block);
         mark_lines(&mut self.known, place);
         self.lines = self.lines.max(place.y as usize + 1 + place.side());
+    }
+
+    /// A rectangle of samples over what was there, from lines of 64.
+    pub(crate) fn lay_rectangle(&mut self, c: u8, area: Rectangle, samples: &[u16; 4096])
+        requires c { c < 3 }
+        requires x { area.x + area.width ≤ 64 }
+        requires y { area.y + area.height ≤ 64 }
+        ensures { held self.new ≡ rectangle_laid c area (λ x y. slice_index_or samples.now (64 * (y - area.y) + (x - area.x)) 0) (held self.old) }
+    {
+        let width = usize::from(area.width);
+        for line in 0..usize::from(area.height) {
+            self.put_line(
+                usize::from(c),
+                usize::from(area.x) + 1,
+                usize::from(area.y) + 1 + line,
+                &samples[64 * line..64 * line + width],
+            );
+        }
     }
 
     /// Residuals added to a square.

@@ -7,8 +7,10 @@ use Rattle.std.specs.Option.{option_map}
 use Rattle.std.proofs.Math.Seq.{take-length, drop-length}
 use Rattle.std.proofs.lemmas.List.{length-take-le, length-map, map-append}
 use Rattle.std.proofs.lemmas.List.Edits.{length-remove, remove-append_right}
-use Rattle.spec_decoder.specs.Decoder.{DecodedPicture, is_among, kept_from, next_out, picture_out}
-use Rattle.decoder.specs.Buffers.{HeldPicture, picture_of, buffer_of}
+use Rattle.spec_picture_samples.specs.References.{DecodedPicture}
+use Rattle.spec_decoder.specs.Decoder.{is_among, kept_from, next_out, picture_out}
+use Rattle.picture_buffer.specs.Pictures.{HeldPicture}
+use Rattle.picture_build.specs.Pictures.{buffer_of, decoded_of}
 
 -- a list up to a place, the item there, and what stands behind it
 at-place : {A : Type 0} → (n : ℕ) (xs : List A) → n < length xs → (x : A) × ((drop n xs ≡ x ∷ drop (suc n) xs) × (take (suc n) xs ≡ take n xs ++ x ∷ []))
@@ -79,11 +81,11 @@ Keeps places old n now = buffer_of now ≡ take n (buffer_of old) ++ kept_from p
 
 pub held-first : (places : List ℕ) (held : List HeldPicture) → Keeps places held (length held) held
 held-first places held =
-    subst (λ (n : ℕ). buffer_of held ≡ take n (buffer_of held) ++ kept_from places n (drop n (buffer_of held))) (length-map held picture_of)
+    subst (λ (n : ℕ). buffer_of held ≡ take n (buffer_of held) ++ kept_from places n (drop n (buffer_of held))) (length-map held decoded_of)
     (keeps-first places (buffer_of held))
 
 inside : (held : List HeldPicture) (n : ℕ) → n < length held → n < length (buffer_of held)
-inside held n lt = omega (arith, lt, length-map held picture_of)
+inside held n lt = omega (arith, lt, length-map held decoded_of)
 
 less-one : (places : List ℕ) (old now : List HeldPicture) (n : ℕ) → 0 < n → Keeps places old n now → Keeps places old (suc (n - 1)) now
 less-one places old now n some k =
@@ -98,7 +100,7 @@ held-one places old now n some le among k =
 pub held-less : (places : List ℕ) (old now : List HeldPicture) (n : ℕ) → 0 < n → n ≤ length old → is_among places (n - 1) ≡ false → Keeps places old n now → Keeps places old (n - 1) (remove now (n - 1))
 held-less places old now n some le among k =
     let lt : n - 1 < length old = omega (arith, some, le) in
-    map-remove picture_of now (n - 1)
+    map-remove decoded_of now (n - 1)
     ∙ frees-one places (buffer_of old) (buffer_of now) (n - 1) (inside old (n - 1) lt) among (less-one places old now n some k)
 
 -- a picture is judged: what is left, and how much
@@ -121,12 +123,12 @@ held-all places old now n none k =
 -- what goes out at a place
 pub out-none : (held : List HeldPicture) (place : ℕ) → slice_get held place ≡ None → next_out (slice_get (buffer_of held) place) [] ≡ []
 out-none held place e =
-    ap (λ (p : Option DecodedPicture). next_out p []) (slice_get-map picture_of held place ∙ ap (option_map picture_of) e)
+    ap (λ (p : Option DecodedPicture). next_out p []) (slice_get-map decoded_of held place ∙ ap (option_map decoded_of) e)
 
-pub out-some : (held : List HeldPicture) (place : ℕ) (p : HeldPicture) → slice_get held place ≡ Some p → next_out (slice_get (buffer_of held) place) [] ≡ picture_out (picture_of p) ∷ []
+pub out-some : (held : List HeldPicture) (place : ℕ) (p : HeldPicture) → slice_get held place ≡ Some p → next_out (slice_get (buffer_of held) place) [] ≡ picture_out (decoded_of p) ∷ []
 out-some held place p e =
-    ap (λ (q : Option DecodedPicture). next_out q []) (slice_get-map picture_of held place ∙ ap (option_map picture_of) e)
+    ap (λ (q : Option DecodedPicture). next_out q []) (slice_get-map decoded_of held place ∙ ap (option_map decoded_of) e)
 
 -- a picture behind the last
-pub held-more : (old new : List HeldPicture) (p : HeldPicture) → new ≡ old ++ p ∷ [] → buffer_of new ≡ buffer_of old ++ picture_of p ∷ []
-held-more old new p is = ap buffer_of is ∙ map-append picture_of old (p ∷ [])
+pub held-more : (old new : List HeldPicture) (p : HeldPicture) → new ≡ old ++ p ∷ [] → buffer_of new ≡ buffer_of old ++ decoded_of p ∷ []
+held-more old new p is = ap buffer_of is ∙ map-append decoded_of old (p ∷ [])

@@ -14,7 +14,8 @@ use Rattle.spec_pictures.specs.Planned.{Planned, behind_closed, planned_next, pl
 use Rattle.picture_plan.specs.Flights.{Gathered, waiting, cut, with_pictures, cut_at_stop, pictures_of}
 use Rattle.picture_plan.specs.Plans.{Plans, Given, going_on, after_step, behind_unit, all_cut, at_end, halted, last_behind, stop_of}
 use Rattle.picture_plan.proofs.Pictures.{step-all, cut-all, cut-none}
-use Rattle.spec_decoder.specs.Decoder.{DecodedPicture, decoded, decoded_from, finished}
+use Rattle.spec_picture_samples.specs.References.{DecodedPicture}
+use Rattle.spec_decoder.specs.Decoder.{decoded, decoded_from, finished}
 use Rattle.decoder.specs.Owed.{planned_behind, decoded_behind, owed_behind}
 
 -- before the first unit all is owed

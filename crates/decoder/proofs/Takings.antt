@@ -13,8 +13,10 @@ use Rattle.nal_stream.specs.Answers.{told_by}
 use Rattle.nal_stream.specs.Framing.{StandsFor, IsNext, with_answer}
 use Rattle.picture_plan.specs.Flights.{pictures_of}
 use Rattle.picture_plan.specs.Plans.{Plans, Given, behind_unit, at_end, halted, stop_of}
-use Rattle.spec_decoder.specs.Decoder.{Decoded, DecodedPicture, decoded, decoded_from, finished}
-use Rattle.decoder.specs.Buffers.{HeldPicture, buffer_of}
+use Rattle.spec_picture_samples.specs.References.{DecodedPicture}
+use Rattle.spec_decoder.specs.Decoder.{Decoded, decoded, decoded_from, finished}
+use Rattle.picture_buffer.specs.Pictures.{HeldPicture}
+use Rattle.picture_build.specs.Pictures.{buffer_of}
 use Rattle.decoder.specs.Headline.{Change}
 use Rattle.decoder.specs.Writing.{Wrote, IsAnswered, LeadsTo, WritesFirst}
 use Rattle.decoder.specs.Owed.{owed_behind, IsFirst, StillTells, left_of, Reached, TookUnit, Takes}

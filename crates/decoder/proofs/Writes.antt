@@ -13,7 +13,8 @@ use Rattle.hv_io.specs.Streams.{Gains, GainsPrefix, Rose}
 use Rattle.hv_io.proofs.StreamLemmas.{Gains-nil, Gains-append, GainsPrefix-append, GainsPrefix-front}
 use Rattle.plan_types.specs.declared.picture_plan.PicturePlan.{PicturePlan}
 use Rattle.picture_plan.specs.Flights.{pictures_of}
-use Rattle.spec_decoder.specs.Decoder.{Decoded, DecodedPicture, IsDecided, decoded_picture, next_out, out_at, kept_from, put_out, ended, ending, entered, behind_picture, with_picture, decoded_from, finished, bytes_of}
+use Rattle.spec_picture_samples.specs.References.{DecodedPicture}
+use Rattle.spec_decoder.specs.Decoder.{Decoded, IsDecided, decoded_picture, next_out, out_at, kept_from, put_out, ended, ending, entered, behind_picture, with_picture, decoded_from, finished, bytes_of}
 use Rattle.spec_decoder.proofs.Deciding.{ending_decided, picture_decided}
 use Rattle.decoder.specs.Headline.{Change, IsQuiet, change_of}
 use Rattle.decoder.specs.Pictures.{EntersBuffer}
@@ -38,8 +39,8 @@ drop-next items i x d lt is =
     ∙ ap (λ y. y ∷ drop (suc i) items) (sym is)
     ∙ ap (λ (n : ℕ). x ∷ drop n items) (sym (add-one i))
 
-refused_decided : (p : PicturePlan) (o : Outcome) → decoded_picture p ≡ Err o → IsDecided o
-refused_decided p o e = subst (λ (r : Result DecodedPicture Outcome). IfErr r IsDecided) e (picture_decided p)
+refused_decided : (old : List DecodedPicture) (p : PicturePlan) (o : Outcome) → decoded_picture old p ≡ Err o → IsDecided o
+refused_decided old p o e = subst (λ (r : Result DecodedPicture Outcome). IfErr r IsDecided) e (picture_decided old p)
 
 -- the exit of a call that answers how decoding ended
 pub exit-is : (r : Result (Unit {0}) Outcome) (o : Outcome) → IsErrAnd r (λ y. y ≡ o) → r ≡ Err o
@@ -180,15 +181,15 @@ module _ {X : Type 0} (bytes : X → Option (List ℕ)) (faults : X → ℕ) whe
   before-written a b p old places is w = written-at a b old places p.outputs.before is w
 
   -- and the picture is decoded
-  decoded-to : (a b : X) (p : PicturePlan) (old mid : List DecodedPicture) (next : List DecodedPicture → Decoded) → Before a b p old → EntersBuffer old mid (decoded_picture p)
+  decoded-to : (a b : X) (p : PicturePlan) (old mid : List DecodedPicture) (next : List DecodedPicture → Decoded) → Before a b p old → EntersBuffer old mid (decoded_picture old p)
       → Wrote (by a b) (with_picture p next old) (behind_picture p next mid)
   decoded-to a b p old mid next before e =
-      let now : entered p next old (decoded_picture p) ≡ behind_picture p next mid =
+      let now : entered p next old (decoded_picture old p) ≡ behind_picture p next mid =
       ap (entered p next old) e.decodes ∙ ap (behind_picture p next) (sym e.buffer) in
-      subst (λ (d : Decoded). Wrote (by a b) (with_picture p next old) d) now (before (entered p next old (decoded_picture p)))
+      subst (λ (d : Decoded). Wrote (by a b) (with_picture p next old) d) now (before (entered p next old (decoded_picture old p)))
 
   -- and what goes out behind it is written
-  pub picture-taken : (a b c : X) (p : PicturePlan) (old mid new : List DecodedPicture) (behind kept : List ℕ) → Before a b p old → EntersBuffer old mid (decoded_picture p)
+  pub picture-taken : (a b c : X) (p : PicturePlan) (old mid new : List DecodedPicture) (behind kept : List ℕ) → Before a b p old → EntersBuffer old mid (decoded_picture old p)
       → behind ≡ p.outputs.behind → ((later : Decoded) → Wrote (by b c) (put_out (out_at mid behind) later) later) → kept ≡ p.outputs.kept → new ≡ kept_from kept 0 mid
       → (next : List DecodedPicture → Decoded) → Wrote (by a c) (with_picture p next old) (next new)
   picture-taken a b c p old mid new behind kept before e is w same stays next =
@@ -199,22 +200,22 @@ module _ {X : Type 0} (bytes : X → Option (List ℕ)) (faults : X → ℕ) whe
   -- decoding ended in what goes out before it
   pub picture-before : (a b : X) (p : PicturePlan) (old : List DecodedPicture) (places : List ℕ) (o : Outcome) → places ≡ p.outputs.before
       → ((later : Decoded) → IsAnswered (put_out (out_at old places) later) (by a b) o) → (next : List DecodedPicture → Decoded) → IsAnswered (with_picture p next old) (by a b) o
-  picture-before a b p old places o is w next = over-at a b old places p.outputs.before o is w (entered p next old (decoded_picture p))
+  picture-before a b p old places o is w next = over-at a b old places p.outputs.before o is w (entered p next old (decoded_picture old p))
 
-  refused : (b : X) (p : PicturePlan) (old : List DecodedPicture) (o : Outcome) (next : List DecodedPicture → Decoded) → (o ≡ outcome.Memory) ⊎ (decoded_picture p ≡ Err o)
-      → IsAnswered (entered p next old (decoded_picture p)) (by b b) o
-  refused b p old o next (inl is) = subst (IsAnswered (entered p next old (decoded_picture p)) (by b b)) (sym is) (no_memory b (entered p next old (decoded_picture p)))
+  refused : (b : X) (p : PicturePlan) (old : List DecodedPicture) (o : Outcome) (next : List DecodedPicture → Decoded) → (o ≡ outcome.Memory) ⊎ (decoded_picture old p ≡ Err o)
+      → IsAnswered (entered p next old (decoded_picture old p)) (by b b) o
+  refused b p old o next (inl is) = subst (IsAnswered (entered p next old (decoded_picture old p)) (by b b)) (sym is) (no_memory b (entered p next old (decoded_picture old p)))
   refused b p old o next (inr e) =
-      subst (λ (r : Result DecodedPicture Outcome). IsAnswered (entered p next old r) (by b b) o) (sym e) (nothing_owed b o (refused_decided p o e))
+      subst (λ (r : Result DecodedPicture Outcome). IsAnswered (entered p next old r) (by b b) o) (sym e) (nothing_owed b o (refused_decided old p o e))
 
   -- something is broken or met in it, or there was no memory
-  pub picture-refused : (a b : X) (p : PicturePlan) (old : List DecodedPicture) (o : Outcome) → Before a b p old → (o ≡ outcome.Memory) ⊎ (decoded_picture p ≡ Err o)
+  pub picture-refused : (a b : X) (p : PicturePlan) (old : List DecodedPicture) (o : Outcome) → Before a b p old → (o ≡ outcome.Memory) ⊎ (decoded_picture old p ≡ Err o)
       → (next : List DecodedPicture → Decoded) → IsAnswered (with_picture p next old) (by a b) o
   picture-refused a b p old o before e next =
-      answered-then a b b (with_picture p next old) (entered p next old (decoded_picture p)) o (before (entered p next old (decoded_picture p))) (refused b p old o next e)
+      answered-then a b b (with_picture p next old) (entered p next old (decoded_picture old p)) o (before (entered p next old (decoded_picture old p))) (refused b p old o next e)
 
   -- decoding ended in what goes out behind it
-  pub picture-behind : (a b c : X) (p : PicturePlan) (old mid : List DecodedPicture) (behind : List ℕ) (o : Outcome) → Before a b p old → EntersBuffer old mid (decoded_picture p)
+  pub picture-behind : (a b c : X) (p : PicturePlan) (old mid : List DecodedPicture) (behind : List ℕ) (o : Outcome) → Before a b p old → EntersBuffer old mid (decoded_picture old p)
       → behind ≡ p.outputs.behind → ((later : Decoded) → IsAnswered (put_out (out_at mid behind) later) (by b c) o)
       → (next : List DecodedPicture → Decoded) → IsAnswered (with_picture p next old) (by a c) o
   picture-behind a b c p old mid behind o before e is w next =

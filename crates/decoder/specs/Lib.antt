@@ -1,6 +1,5 @@
 pub mod Options
 pub mod Headline
-pub mod Buffers
 pub mod Pictures
 pub mod Writing
 pub mod Owed

@@ -7,11 +7,12 @@ use Rattle.nal_stream.specs.Framing.{StandsFor, to_come}
 use Rattle.spec_pictures.specs.Pictures.{beginning}
 use Rattle.spec_pictures.specs.Planned.{Planned, behind_closed, planned_next, planned_from}
 use Rattle.picture_plan.specs.Plans.{Plans, stop_of}
-use Rattle.spec_decoder.specs.Decoder.{Decoded, DecodedPicture, decoded, decoded_from, finished}
+use Rattle.spec_picture_samples.specs.References.{DecodedPicture}
+use Rattle.spec_decoder.specs.Decoder.{Decoded, decoded, decoded_from, finished}
 use Rattle.decoder.specs.declared.stream.Decoder.{Decoder}
 use Rattle.decoder.specs.declared.stream.Taken.{Taken}
 use Rattle.decoder.specs.declared.stream.Taken.TheVariants as taken
-use Rattle.decoder.specs.Buffers.{buffer_of}
+use Rattle.picture_build.specs.Pictures.{buffer_of}
 use Rattle.decoder.specs.Headline.{Change}
 use Rattle.decoder.specs.Writing.{Wrote, IsAnswered}
 

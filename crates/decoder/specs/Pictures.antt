@@ -4,8 +4,10 @@ use Rattle.hv_base.specs.declared.outcome.Outcome.{Outcome}
 use Rattle.hv_base.specs.declared.outcome.Outcome.TheVariants as outcome
 use Rattle.picture_trees.specs.declared.trees.ReadError.{ReadError}
 use Rattle.picture_trees.specs.declared.trees.ReadError.TheVariants as error
-use Rattle.spec_decoder.specs.Decoder.{DecodedPicture, told_by}
-use Rattle.decoder.specs.Buffers.{HeldPicture, picture_of, buffer_of}
+use Rattle.picture_buffer.specs.Pictures.{HeldPicture}
+use Rattle.picture_build.specs.Pictures.{decoded_of, buffer_of}
+use Rattle.spec_picture_samples.specs.References.{DecodedPicture}
+use Rattle.spec_decoder.specs.Decoder.{told_by}
 
 -- how decoding ends where the data of a picture aren't read to their end
 abbrev pub IsTold : ReadError → Outcome → Type 0
@@ -14,7 +16,7 @@ IsTold (error.Broken breach nal ctu) o = o ≡ told_by nal ctu breach
 
 -- the picture, or what is broken or met in it; want of memory comes of any
 abbrev pub DecodesAs : Result HeldPicture Outcome → Result DecodedPicture Outcome → Type 0
-DecodesAs (Ok held) decoded = decoded ≡ Ok (picture_of held)
+DecodesAs (Ok held) decoded = decoded ≡ Ok (decoded_of held)
 DecodesAs (Err o) decoded = (o ≡ outcome.Memory) ⊎ (decoded ≡ Err o)
 
 -- a decoded picture stands behind the last of the buffer

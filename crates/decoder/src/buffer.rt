@@ -2,79 +2,36 @@
 
 ghost use Rattle.std.specs.Prelude.{◌≡◌, ◌<◌, ◌∷◌, [], length, slice_get, if◌then◌else◌};
 ghost use Rattle.std.specs.List.{remove};
-ghost use Rattle.header_types.specs.SequenceParameterSets.{IsPictureFormat};
-ghost use Rattle.picture_buffer.specs.Planes.{HasSides};
+ghost use Rattle.picture_build.specs.Pictures.{buffer_of, decoded_of};
 ghost use Rattle.spec_decoder.specs.Decoder.{decoded_picture, is_among, kept_from, next_out, out_at, picture_out};
-ghost use Rattle.decoder.specs.Buffers.{buffer_of, picture_of};
 ghost use Rattle.decoder.specs.Headline.{change_of};
 ghost use Rattle.decoder.specs.Pictures.{Enters};
 ghost use Rattle.decoder.specs.Writing.{GoOut};
 
 use crate::picture::decode_picture;
-use header_types::PictureFormat;
 use hv_base::Outcome;
 use hv_io::Sink;
-use picture_buffer::Picture;
+use picture_buffer::{Bases, Picture};
 use plan_types::PicturePlan;
 use std::alloc::Global;
 use std::marker::Model;
 use yuv_writer::write_picture;
-
-/// A decoded picture. Contracts see its format and its planes.
-#[derive(Drop)]
-pub(crate) struct BufferPicture {
-    picture: Picture,
-    format: PictureFormat,
-}
-
-impl Model for BufferPicture {
-    ghost use Rattle.header_types.specs.SequenceParameterSets.{IsPictureFormat};
-    ghost use Rattle.picture_buffer.specs.Planes.{HasSides};
-    ghost use Rattle.decoder.specs.Buffers.{HeldPicture};
-
-    ghost Value = { HeldPicture };
-
-    ghost view = { λ p. record { format = p.format; planes = p.picture } };
-
-    ghost invariant = { λ p. HasSides p.picture p.format.pic_width_in_luma_samples p.format.pic_height_in_luma_samples × IsPictureFormat p.format };
-}
-
-impl BufferPicture {
-    /// A picture of this format.
-    pub(crate) fn new(picture: Picture, format: PictureFormat) -> BufferPicture
-        requires sides { HasSides picture format.pic_width_in_luma_samples format.pic_height_in_luma_samples }
-        requires format { IsPictureFormat format }
-        ensures { result ≡ record { format = format; planes = picture } }
-    {
-        BufferPicture { picture, format }
-    }
-
-    /// Writes the picture.
-    fn write<O: Sink>(&self, out: &mut O) -> Result<(), Outcome>
-        ensures { GoOut (change_of O.contents O.faults out.old out.new) (picture_out (picture_of self.now) ∷ []) result }
-    {
-        match write_picture(&self.picture, &self.format, out) {
-            Ok(()) => Ok(()),
-            Err(_) => Err(Outcome::WriteFault),
-        }
-    }
-}
 
 /// The pictures of the decoded picture buffer, in decoding order. A picture is named by its place. Contracts see the
 /// list.
 #[derive(Drop)]
 pub(crate) struct Buffer {
     alloc: Global,
-    pictures: Vec<BufferPicture>,
+    pictures: Bases,
 }
 
 impl Model for Buffer {
     ghost use Rattle.std.specs.Prelude.{List};
-    ghost use Rattle.decoder.specs.Buffers.{HeldPicture};
+    ghost use Rattle.picture_buffer.specs.Pictures.{HeldPicture};
 
     ghost Value = { List HeldPicture };
 
-    ghost view = { λ b. b.pictures.items };
+    ghost view = { λ b. b.pictures };
 }
 
 impl Buffer {
@@ -84,15 +41,15 @@ impl Buffer {
     {
         Buffer {
             alloc,
-            pictures: Vec::new(alloc),
+            pictures: Bases::new(alloc),
         }
     }
 
-    /// Decodes a picture, which then stands behind the last.
+    /// Decodes a picture by those that are there; it then stands behind the last.
     pub(crate) fn decode(&mut self, picture: &PicturePlan) -> Result<(), Outcome>
-        ensures { Enters self.old self.new (decoded_picture picture.now) result }
+        ensures { Enters self.old self.new (decoded_picture (buffer_of self.old) picture.now) result }
     {
-        let decoded = decode_picture(self.alloc, picture)?;
+        let decoded = decode_picture(self.alloc, picture, &self.pictures)?;
         match self.pictures.push(decoded) {
             Ok(()) => Ok(()),
             Err(_) => Err(Outcome::Memory),
@@ -103,7 +60,7 @@ impl Buffer {
     pub(crate) fn write<O: Sink>(&self, places: &[u32], out: &mut O) -> Result<(), Outcome>
         ensures { GoOut (change_of O.contents O.faults out.old out.new) (out_at (buffer_of self.now) places.now) result }
     {
-        write_places(self.pictures.as_slice(), places, out)
+        write_places(&self.pictures, places, out)
     }
 
     /// Keeps the pictures at these places, in the buffer's order, and frees the others.
@@ -114,11 +71,7 @@ impl Buffer {
     }
 }
 
-fn write_places<O: Sink>(
-    pictures: &[BufferPicture],
-    places: &[u32],
-    out: &mut O,
-) -> Result<(), Outcome>
+fn write_places<O: Sink>(pictures: &Bases, places: &[u32], out: &mut O) -> Result<(), Outcome>
     ensures { GoOut (change_of O.contents O.faults out.old out.new) (out_at (buffer_of pictures.now) places.now) result }
 {
     for place in places {
@@ -127,17 +80,27 @@ fn write_places<O: Sink>(
     Ok(())
 }
 
-fn write_place<O: Sink>(pictures: &[BufferPicture], place: u32, out: &mut O) -> Result<(), Outcome>
+fn write_place<O: Sink>(pictures: &Bases, place: u32, out: &mut O) -> Result<(), Outcome>
     ensures { GoOut (change_of O.contents O.faults out.old out.new) (next_out (slice_get (buffer_of pictures.now) place) []) result }
 {
-    match pictures.get(place as usize) {
+    match pictures.get(place) {
         None => Ok(()),
-        Some(picture) => picture.write(out),
+        Some(picture) => write_out(picture, out),
     }
 }
 
-fn keep_places(pictures: &mut Vec<BufferPicture>, places: &[u32])
-    ensures { buffer_of pictures.new.items ≡ kept_from places.now 0 (buffer_of pictures.old.items) }
+/// Writes a picture.
+fn write_out<O: Sink>(picture: &Picture, out: &mut O) -> Result<(), Outcome>
+    ensures { GoOut (change_of O.contents O.faults out.old out.new) (picture_out (decoded_of picture.now) ∷ []) result }
+{
+    match write_picture(picture, out) {
+        Ok(()) => Ok(()),
+        Err(_) => Err(Outcome::WriteFault),
+    }
+}
+
+fn keep_places(pictures: &mut Bases, places: &[u32])
+    ensures { buffer_of pictures.new ≡ kept_from places.now 0 (buffer_of pictures.old) }
 {
     let mut place = pictures.len();
     while 0 < place {
@@ -147,9 +110,9 @@ fn keep_places(pictures: &mut Vec<BufferPicture>, places: &[u32])
 }
 
 /// Takes the picture at a place out, unless the place is one of these.
-fn judge_place(pictures: &mut Vec<BufferPicture>, place: usize, places: &[u32])
-    requires { place < length pictures.old.items }
-    ensures { pictures.new.items ≡ (if is_among places.now place then pictures.old.items else remove pictures.old.items place) }
+fn judge_place(pictures: &mut Bases, place: usize, places: &[u32])
+    requires { place < length pictures.old }
+    ensures { pictures.new ≡ (if is_among places.now place then pictures.old else remove pictures.old place) }
 {
     if !is_among(places, place) {
         pictures.remove(place);

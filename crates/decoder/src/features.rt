@@ -2,47 +2,22 @@
 
 ghost use Rattle.std.specs.Prelude.{◌≡◌};
 ghost use Rattle.std.specs.List.{list_any};
-ghost use Rattle.spec_decoder.specs.Features.{has_edges, has_offsets, is_deblocked, is_hidden, needs_filters, needs_inter, unbuilt};
+ghost use Rattle.spec_decoder.specs.Features.{has_edges, has_offsets, is_deblocked, needs_filters, unbuilt};
 
 use header_types::PictureFormat;
 use hv_base::Feature;
 use plan_types::{PicturePlan, SegmentPlan};
-use ref_picture_sets::is_idr;
 
 /// The first feature that a picture needs and that isn't built.
 #[tactic(auto, unfolding(spec_decoder::specs::Features::unbuilt))]
 pub(crate) fn unbuilt(picture: &PicturePlan) -> Option<Feature>
     ensures { result ≡ unbuilt picture.now }
 {
-    if needs_inter(picture) {
-        Some(Feature::Inter)
-    } else if needs_filters(picture) {
+    if needs_filters(picture) {
         Some(Feature::Filters)
     } else {
         None
     }
-}
-
-/// Whether a picture may refer to others, or isn't put out where it was decoded.
-#[tactic(auto, unfolding(spec_decoder::specs::Features::needs_inter))]
-fn needs_inter(picture: &PicturePlan) -> bool
-    ensures { result ≡ needs_inter picture.now }
-{
-    !is_idr(picture.kind.nal_type)
-        || any_hidden(picture.segments.as_slice())
-        || 0 < picture.sps.highest_ordering().max_num_reorder_pics
-}
-
-fn any_hidden(segments: &[SegmentPlan]) -> bool
-    ensures { result ≡ list_any is_hidden segments.now }
-{
-    segments.iter().any(|segment| is_hidden(segment))
-}
-
-fn is_hidden(segment: &SegmentPlan) -> bool
-    ensures { result ≡ is_hidden segment.now }
-{
-    !segment.header.fields().slice.pic_output_flag
 }
 
 /// Whether a loop filter may change a picture's samples.

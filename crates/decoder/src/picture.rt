@@ -1,39 +1,44 @@
 //! Decodes a picture.
 
 ghost use Rattle.std.specs.Prelude.{◌≡◌};
+ghost use Rattle.picture_build.specs.Pictures.{buffer_of};
 ghost use Rattle.spec_picture_samples.specs.Built.{picture_built};
 ghost use Rattle.spec_decoder.specs.Decoder.{decoded_data, decoded_picture, told_by};
 ghost use Rattle.decoder.specs.Pictures.{DecodesAs, IsTold};
 
-use crate::buffer::BufferPicture;
 use crate::features::unbuilt;
 use hv_base::{Breach, Fault, Limit, LimitKind, Outcome};
+use picture_buffer::{Bases, Picture};
 use picture_build::build_picture;
 use picture_trees::ReadError;
 use plan_types::PicturePlan;
 use std::alloc::Global;
 
-/// Decodes a picture, or answers what is broken or met in it first, or that there is no memory for it.
+/// Decodes a picture by those of the buffer, or answers what is broken or met in it first, or that there is no memory for
+/// it.
 #[tactic(auto, unfolding(spec_decoder::specs::Decoder::decoded_picture))]
-pub(crate) fn decode_picture(alloc: Global, picture: &PicturePlan) -> Result<BufferPicture, Outcome>
-    ensures { DecodesAs result (decoded_picture picture.now) }
+pub(crate) fn decode_picture(
+    alloc: Global,
+    picture: &PicturePlan,
+    bases: &Bases,
+) -> Result<Picture, Outcome>
+    ensures { DecodesAs result (decoded_picture (buffer_of bases.now) picture.now) }
 {
     match unbuilt(picture) {
         Some(feature) => Err(Outcome::Limit(Limit {
             kind: LimitKind::Unbuilt(feature),
             nal: picture.nal,
         })),
-        None => decode_data(alloc, picture),
+        None => decode_data(alloc, picture, bases),
     }
 }
 
 /// Reads the data of a picture's slice segments and builds its samples.
-fn decode_data(alloc: Global, picture: &PicturePlan) -> Result<BufferPicture, Outcome>
-    ensures { DecodesAs result (decoded_data picture.now.sps.format (picture_built picture.now)) }
+fn decode_data(alloc: Global, picture: &PicturePlan, bases: &Bases) -> Result<Picture, Outcome>
+    ensures { DecodesAs result (decoded_data picture.now.sps.format (picture_built (buffer_of bases.now) picture.now)) }
 {
-    let format = picture.sps.fields().format;
-    match build_picture(alloc, picture) {
-        Ok(built) => Ok(BufferPicture::new(built, format)),
+    match build_picture(alloc, picture, bases) {
+        Ok(built) => Ok(built),
         Err(error) => Err(outcome_of(error)),
     }
 }

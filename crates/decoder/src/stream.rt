@@ -3,9 +3,9 @@
 ghost use Rattle.std.specs.Prelude.{◌≡◌, Bool, ℕ, List, ◌∷◌, [], None, IfOk, OnOk, true};
 ghost use Rattle.spec_units.specs.Judged.{Told, told_of};
 ghost use Rattle.nal_stream.specs.Answers.{told_by};
+ghost use Rattle.picture_build.specs.Pictures.{buffer_of};
 ghost use Rattle.picture_plan.specs.Plans.{behind_unit, stop_of};
 ghost use Rattle.spec_decoder.specs.Decoder.{decoded};
-ghost use Rattle.decoder.specs.Buffers.{buffer_of};
 ghost use Rattle.decoder.specs.Headline.{change_of};
 ghost use Rattle.decoder.specs.Owed.{IsFirst, StillTells, Takes, owed_behind};
 ghost use Rattle.decoder.specs.Options.{IsInRange};

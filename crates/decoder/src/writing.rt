@@ -1,9 +1,9 @@
 //! Writes pictures in output order, each as soon as it goes out of the decoded picture buffer.
 
 ghost use Rattle.std.specs.Prelude.{◌≡◌};
+ghost use Rattle.picture_build.specs.Pictures.{buffer_of};
 ghost use Rattle.picture_plan.specs.Flights.{pictures_of};
 ghost use Rattle.spec_decoder.specs.Decoder.{decoded_from, ending, finished};
-ghost use Rattle.decoder.specs.Buffers.{buffer_of};
 ghost use Rattle.decoder.specs.Headline.{change_of};
 ghost use Rattle.decoder.specs.Writing.{IsAnswered, TakesPicture, WritesFirst};
 

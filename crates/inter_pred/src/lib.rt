@@ -7,7 +7,6 @@ mod block;
 mod down;
 mod interpolation;
 mod line;
-mod picture;
 mod prediction;
 mod reference;
 mod sample;
@@ -19,7 +18,6 @@ mod window;
 
 pub use block::{Block, chroma, luma};
 pub use line::{clamped, clamped_line};
-pub use picture::picture_line;
 pub use prediction::Prediction;
 pub use reference::RefWindow;
 pub use scratch::Scratch;

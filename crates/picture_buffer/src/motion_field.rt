@@ -42,6 +42,15 @@ impl MotionField {
         })
     }
 
+    /// No place has motion any more. It takes no memory.
+    #[tactic(auto, unfolding(crate::specs::Motion::motions_of))]
+    pub fn restart(&mut self)
+        ensures sides { (across down : ℕ) → HasPlaces self.old across down → HasPlaces self.new across down }
+        ensures places { (x y : ℕ) → motions_of self.new x y ≡ None }
+    {
+        self.places.fill(None);
+    }
+
     /// How many places a row has.
     pub fn across(&self) -> u32
         ensures { result ≡ self.now.across }

@@ -1,95 +1,78 @@
-//! The samples of a picture.
+//! A decoded picture.
 
-ghost use Rattle.std.specs.Prelude.{◌≡◌, ℕ, ◌+◌, ◌-◌, ◌*◌, ◌<◌, ◌≤◌, ◌==◌, ◌&&◌, nat_le, nat_lt, length, IfOk, slice_index, slice_index_or, if◌then◌else◌};
-ghost use Rattle.picture_buffer.specs.Planes.{samples_of, plane_width, plane_height, HasSides};
+ghost use Rattle.std.specs.Prelude.{◌≡◌};
+ghost use Rattle.header_types.specs.SequenceParameterSets.{IsPictureFormat};
+ghost use Rattle.picture_buffer.specs.Planes.{HasSides};
 
-use crate::plane::Plane;
-use std::alloc::{AllocError, Global};
+use crate::motion_field::MotionField;
+use crate::planes::Planes;
+use header_types::PictureFormat;
 use std::marker::Model;
 
-/// A picture: luma, and Cb and Cr of half as many samples across and down. Components are counted 0, 1 and 2.
+/// A decoded picture: its format, its samples, and its motion. Its planes have the sides of its format.
 #[derive(Drop)]
 pub struct Picture {
-    luma: Plane,
-    cb: Plane,
-    cr: Plane,
+    format: PictureFormat,
+    planes: Planes,
+    motion: MotionField,
 }
 
 impl Model for Picture {
-    ghost use Rattle.picture_buffer.specs.Planes.{PictureSamples};
+    ghost use Rattle.header_types.specs.SequenceParameterSets.{IsPictureFormat};
+    ghost use Rattle.picture_buffer.specs.Pictures.{HeldPicture};
+    ghost use Rattle.picture_buffer.specs.Planes.{HasSides};
 
-    ghost Value = { PictureSamples };
+    ghost Value = { HeldPicture };
 
-    ghost view = { λ p. record { luma = p.luma; cb = p.cb; cr = p.cr } };
+    ghost view = { λ p. record { format = p.format; planes = p.planes; motion = p.motion } };
+
+    ghost invariant = { λ p. HasSides p.planes p.format.pic_width_in_luma_samples p.format.pic_height_in_luma_samples × IsPictureFormat p.format };
 }
 
 impl Picture {
-    /// A picture of zeros of `width` times `height` luma samples.
-    #[tactic(auto, unfolding(crate::specs::Planes::samples_of))]
-    pub fn new(alloc: Global, width: u32, height: u32) -> Result<Picture, AllocError>
-        requires columns { width ≤ 8192 }
-        requires rows { height ≤ 8192 }
-        ensures sides { IfOk result (λ p. HasSides p width height) }
-        ensures samples { IfOk result (λ p. (c x y : ℕ) → samples_of p c x y ≡ 0) }
+    /// A picture of this format, of these samples and this motion.
+    pub fn new(format: PictureFormat, planes: Planes, motion: MotionField) -> Picture
+        requires sides { HasSides planes format.pic_width_in_luma_samples format.pic_height_in_luma_samples }
+        requires format { IsPictureFormat format }
+        ensures { result ≡ record { format = format; planes = planes; motion = motion } }
     {
-        let luma = Plane::new(alloc, width, height)?;
-        let cb = Plane::new(alloc, width / 2, height / 2)?;
-        let cr = Plane::new(alloc, width / 2, height / 2)?;
-        Ok(Picture { luma, cb, cr })
-    }
-
-    /// How many samples a row of component `c` has.
-    pub fn width(&self, c: usize) -> u32
-        requires { c < 3 }
-        ensures { result ≡ plane_width self.now c }
-    {
-        match c {
-            0 => self.luma.width(),
-            1 => self.cb.width(),
-            _ => self.cr.width(),
+        Picture {
+            format,
+            planes,
+            motion,
         }
     }
 
-    /// How many rows component `c` has.
-    pub fn height(&self, c: usize) -> u32
-        requires { c < 3 }
-        ensures { result ≡ plane_height self.now c }
+    /// Its format.
+    pub fn format(&self) -> &PictureFormat
+        ensures value { result.now ≡ self.now.format }
+        ensures format { IsPictureFormat self.now.format }
     {
-        match c {
-            0 => self.luma.height(),
-            1 => self.cb.height(),
-            _ => self.cr.height(),
-        }
+        &self.format
     }
 
-    /// Row `y` of component `c`.
-    #[tactic(auto, unfolding(crate::specs::Planes::samples_of))]
-    pub fn row(&self, c: usize, y: u32) -> &[u16]
-        requires component { c < 3 }
-        requires row { y < plane_height self.now c }
-        ensures count { length result.now ≡ plane_width self.now c }
-        ensures samples { (x : ℕ) → x < plane_width self.now c → slice_index_or result.now x 0 ≡ samples_of self.now c x y }
+    /// Its samples.
+    pub fn planes(&self) -> &Planes
+        ensures value { result.now ≡ self.now.planes }
+        ensures sides { HasSides self.now.planes self.now.format.pic_width_in_luma_samples self.now.format.pic_height_in_luma_samples }
     {
-        match c {
-            0 => self.luma.row(y),
-            1 => self.cb.row(y),
-            _ => self.cr.row(y),
-        }
+        &self.planes
     }
 
-    /// Samples over a part of row `y` of component `c`, from column `x` on.
-    #[tactic(auto, unfolding(crate::specs::Planes::samples_of))]
-    pub fn lay(&mut self, c: usize, x: u32, y: u32, samples: &[u16])
-        requires component { c < 3 }
-        requires columns { x + length samples.now ≤ plane_width self.old c }
-        requires row { y < plane_height self.old c }
-        ensures sides { (w h : ℕ) → HasSides self.old w h → HasSides self.new w h }
-        ensures samples { (i j k : ℕ) → samples_of self.new i j k ≡ (if i == c && (k == y && (nat_le x j && nat_lt j (x + length samples.now))) then slice_index samples.now (j - x) else samples_of self.old i j k) }
+    /// Its motion.
+    pub fn motion(&self) -> &MotionField
+        ensures { result.now ≡ self.now.motion }
     {
-        match c {
-            0 => self.luma.lay(x, y, samples),
-            1 => self.cb.lay(x, y, samples),
-            _ => self.cr.lay(x, y, samples),
-        }
+        &self.motion
+    }
+
+    /// Its samples and its motion, for a later picture to be kept in their memory.
+    pub fn into_parts(self) -> (Planes, MotionField)
+        ensures planes { result.0 ≡ self.planes }
+        ensures motion { result.1 ≡ self.motion }
+        ensures sides { HasSides self.planes self.format.pic_width_in_luma_samples self.format.pic_height_in_luma_samples }
+        ensures format { IsPictureFormat self.format }
+    {
+        (self.planes, self.motion)
     }
 }

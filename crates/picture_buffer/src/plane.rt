@@ -42,6 +42,16 @@ impl Plane {
         })
     }
 
+    /// All samples are 0 again.
+    #[tactic(auto, unfolding(crate::specs::Planes::plane_at))]
+    pub(crate) fn restart(&mut self)
+        ensures width { self.new.width ≡ self.old.width }
+        ensures height { self.new.height ≡ self.old.height }
+        ensures samples { (x y : ℕ) → plane_at self.new x y ≡ 0 }
+    {
+        self.samples.fill(0);
+    }
+
     /// How many samples a row has.
     pub(crate) fn width(&self) -> u32
         ensures { result ≡ self.now.width }

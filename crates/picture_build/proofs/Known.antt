@@ -1,13 +1,14 @@
 -- What is known beside a part of a unit.
-use Rattle.std.proofs.Common.{◌≡◌, ◌≢◌, ℕ, zero, suc, ◌+◌, ◌-◌, ◌*◌, ◌/◌, ◌%◌, ◌^◌, ◌<◌, ◌≤◌, ◌==◌, ◌&&◌, ◌||◌, nat_le, nat_lt, Bool, true, false, Option, Some, None, refl, sym, ap, subst, ◌∙◌, if◌then◌else◌, arith}
+use Rattle.std.proofs.Common.{◌≡◌, ℕ, zero, suc, ◌+◌, ◌-◌, ◌*◌, ◌/◌, ◌%◌, ◌<◌, ◌≤◌, ◌==◌, ◌&&◌, ◌||◌, nat_le, nat_lt, Bool, true, false, Option, Some, None, refl, sym, ap, subst, ◌∙◌, if◌then◌else◌, arith}
 use Rattle.std.proofs.Math.Path.{fun_ext}
 use Rattle.std.proofs.lemmas.Bool.Decides.{nat_tests}
 use Rattle.spec_slice_data.specs.Segment.{PictureShape}
 use Rattle.spec_reconstruction.specs.Known.{Known}
-use Rattle.spec_picture_samples.specs.Border.{Samples, has_sample, height_of, is_available, known_beside, sample_beside, unit_column, unit_line, unit_of_sample, unit_side, width_of}
+use Rattle.spec_picture_samples.specs.Border.{Samples, has_sample, height_of, is_available, known_beside, sample_beside, unit_of_sample, unit_side, width_of}
 use Rattle.picture_build.specs.declared.part.Part.{Part}
 use Rattle.picture_build.specs.Beside.{beside_part, first_above, has_left, is_above, is_left, sample_at}
-use Rattle.picture_build.specs.Parts.{IsPart, IsRoom, IsShape}
+use Rattle.picture_build.specs.Parts.{IsPart, IsRoom}
+use Rattle.picture_layout.specs.Shape.{IsShape}
 use Rattle.picture_build.proofs.Planes.{covered, part_of, whole_part}
 use Rattle.picture_build.proofs.Tests.{other}
 use Rattle.picture_build.proofs.Units.{above, column_is_left, first_column, line_is, none_inside, seen, unit_beside}

@@ -1,4 +1,3 @@
-pub mod Powers
 pub mod Places
 pub mod Tests
 pub mod Units
@@ -8,3 +7,7 @@ pub mod Known
 pub mod Laid
 pub mod Rows
 pub mod Built
+pub mod Referring
+pub mod Weighing
+pub mod Deriving
+pub mod Added

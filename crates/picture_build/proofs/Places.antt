@@ -1,28 +1,14 @@
 -- Places in blocks of samples, and the units that have them.
-use Rattle.std.proofs.Common.{◌≡◌, ℕ, suc, ◌+◌, ◌-◌, ◌*◌, ◌/◌, ◌%◌, ◌<◌, ◌≤◌, ap, sym, ◌∙◌, arith}
-use Rattle.std.proofs.Math.Nat.{div-mul-le_self, mod-eq-sub-div-mul, mod-lt, mul-le-mul_left}
+use Rattle.std.proofs.Common.{◌≡◌, ℕ, ◌+◌, ◌-◌, ◌*◌, ◌/◌, ◌%◌, ◌<◌, ◌≤◌, ap, ◌∙◌, arith}
+use Rattle.std.proofs.Math.Nat.{mod-lt, mul-le-mul_left}
 use Rattle.std.proofs.lemmas.Nat.{div-mul-add, mod-mul-add, div_below, le-div}
-
--- a number by its row and its column
-pub whole : (a w : ℕ) → a / w * w + a % w ≡ a
-whole a w = omega (arith, mod-eq-sub-div-mul a w, div-mul-le_self a w)
+use Rattle.picture_layout.proofs.Places.{before, whole}
 
 -- the block of a place
 pub block_is : (n q x : ℕ) → n * q ≤ x → x < n * q + n → x / n ≡ q
 block_is n q x le lt =
     let e : x ≡ q * n + (x - n * q) = grind arith in
     ap (λ k. k / n) e ∙ div-mul-add q n (x - n * q) (omega arith)
-
-pub block_begins : (n x : ℕ) → n * (x / n) ≤ x
-block_begins n x = let le = div-mul-le_self x n in grind arith
-
-pub block_ends : (n x : ℕ) → 1 ≤ n → x < n * (x / n) + n
-block_ends n x some =
-    let le = div-mul-le_self x n in
-    let e = mod-eq-sub-div-mul x n in
-    let lt = mod-lt x some in
-    let below : x < x / n * n + n = omega (arith, le, e, lt) in
-    grind arith
 
 -- the row and the column of the unit at a place of a row that the units cover
 pub row_is : (n w W a x y : ℕ) → 1 ≤ n → W ≤ n * w → x < W → w * (y / n) + x / n ≡ a → a / w ≡ y / n
@@ -48,10 +34,7 @@ unit_is n w a x y xl xh yl yh =
     let at : w * (a / w) + a % w ≡ a = grind arith in
     ap (λ k. w * k + x / n) r ∙ ap (λ k. w * (a / w) + k) q ∙ at
 
--- one fewer
-pub before : (n r : ℕ) → 1 ≤ r → n * (r - 1) + n ≡ n * r
-before n r some = let e : r ≡ suc (r - 1) = omega arith in let f : n * suc (r - 1) ≡ n * (r - 1) + n = grind arith in sym f ∙ ap (λ k. n * k) (sym e)
-
+-- so many
 pub times_some : (n r : ℕ) → 1 ≤ r → n ≤ n * r
 times_some n r some = omega (arith, before n r some)
 

@@ -1,12 +1,13 @@
 -- The planes of a picture by its places.
-use Rattle.std.proofs.Common.{◌≡◌, ℕ, zero, suc, ◌+◌, ◌-◌, ◌*◌, ◌/◌, ◌%◌, ◌^◌, ◌<◌, ◌≤◌, sym, ap, subst, ◌∙◌, arith}
+use Rattle.std.proofs.Common.{◌≡◌, ℕ, zero, suc, ◌*◌, ◌/◌, ◌%◌, ◌^◌, ◌<◌, ◌≤◌, sym, ap, subst, ◌∙◌, arith}
 use Rattle.std.proofs.Math.Nat.{mul-le-mul_left}
 use Rattle.spec_slice_data.specs.Segment.{PictureShape}
 use Rattle.spec_slice_data.specs.Residual.{samples_of_place}
 use Rattle.spec_picture_samples.specs.Border.{height_of, unit_side, width_of}
 use Rattle.picture_buffer.specs.Planes.{PictureSamples, HasSides, plane_height, plane_width}
 use Rattle.picture_build.specs.declared.part.Part.{Part}
-use Rattle.picture_build.specs.Parts.{IsPart, IsRoom, IsShape}
+use Rattle.picture_build.specs.Parts.{IsPart}
+use Rattle.picture_layout.specs.Shape.{IsShape}
 use Rattle.picture_build.proofs.Sizes.{halves}
 
 -- units cover the rows of each plane

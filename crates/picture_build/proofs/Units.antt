@@ -1,7 +1,8 @@
 -- The samples of a unit, and those beside it, by their places.
-use Rattle.std.proofs.Common.{◌≡◌, ℕ, ◌+◌, ◌-◌, ◌*◌, ◌/◌, ◌%◌, ◌<◌, ◌≤◌, ◌==◌, ◌&&◌, ◌||◌, nat_le, nat_lt, Bool, true, false, zero, suc, refl, sym, ap, ◌∙◌, if◌then◌else◌, ◌⊎◌, inl, inr, arith}
+use Rattle.std.proofs.Common.{◌≡◌, ℕ, ◌+◌, ◌-◌, ◌*◌, ◌/◌, ◌%◌, ◌<◌, ◌≤◌, ◌==◌, ◌&&◌, nat_le, nat_lt, Bool, true, false, zero, suc, refl, ap, ◌∙◌, if◌then◌else◌, ◌⊎◌, inl, inr, arith}
 use Rattle.std.proofs.lemmas.Bool.Decides.{nat_tests}
-use Rattle.picture_build.proofs.Places.{before, below, block_begins, block_ends, block_is, column_is, not_before, row_is, times_none, times_some, unit_above, unit_is, unit_left}
+use Rattle.picture_layout.proofs.Places.{before, block_begins, block_ends}
+use Rattle.picture_build.proofs.Places.{below, block_is, column_is, not_before, row_is, times_none, times_some, unit_above, unit_is, unit_left}
 use Rattle.picture_build.proofs.Tests.{same_tests}
 
 -- a unit has the samples of the picture from its first column and line on, as far as its sides go

@@ -16,7 +16,9 @@ of_slice pps slice format = record {
   cb_qp_offset = pps.pps_cb_qp_offset +ℤ slice.slice_cb_qp_offset;
   cr_qp_offset = pps.pps_cr_qp_offset +ℤ slice.slice_cr_qp_offset;
   strong_intra_smoothing = format.strong_intra_smoothing;
-  factors = format.factors;
+  constrained_intra = format.constrained_intra;
+  intra_factors = format.intra_factors;
+  inter_factors = format.inter_factors;
 }
 
 -- the format of each slice of a picture but for its offsets

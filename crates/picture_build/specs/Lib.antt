@@ -1,4 +1,5 @@
 pub mod Parts
 pub mod Beside
 pub mod Formats
+pub mod Pictures
 pub mod Building

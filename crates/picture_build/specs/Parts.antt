@@ -1,19 +1,8 @@
 -- Where the samples of coding tree units are in the planes of a picture (6.3.1).
-use Rattle.std.specs.Prelude.{◌≡◌, ℕ, ◌+◌, ◌-◌, ◌*◌, ◌^◌, ◌<◌, ◌≤◌, ◌==◌, ◌&&◌, nat_le, nat_lt, Bool}
+use Rattle.std.specs.Prelude.{◌≡◌, ℕ, ◌+◌, ◌<◌, ◌≤◌, ◌==◌, ◌&&◌, nat_le, nat_lt, Bool}
 use Rattle.spec_slice_data.specs.Segment.{PictureShape}
 use Rattle.spec_picture_samples.specs.Border.{height_of, unit_column, unit_line, unit_side, width_of}
 use Rattle.picture_build.specs.declared.part.Part.{Part}
-
--- a picture of sides up to 8192 luma samples: its units cover each of its rows, and each of them has samples
-pub record IsShape (picture : PictureShape) : Type 0 where
-  pub some : 1 ≤ picture.width
-  pub few : picture.width ≤ 512
-  pub least : 2 ≤ picture.size
-  pub greatest : picture.size ≤ 4
-  pub across : picture.across ≤ 2048
-  pub down : picture.down ≤ 2048
-  pub covered : picture.across ≤ 2 ^ picture.size * picture.width
-  pub needed : 2 ^ picture.size * (picture.width - 1) < picture.across
 
 -- the samples of a component of the unit at an address
 pub record IsPart (picture : PictureShape) (address : ℕ) (part : Part) : Type 0 where

@@ -10,59 +10,59 @@ ghost use Rattle.spec_picture_samples.specs.Border.{known_beside};
 use crate::part::Part;
 use crate::unit::Unit;
 use ctu_build::UnitSamples;
-use picture_buffer::Picture;
+use picture_buffer::Planes;
 
 /// What is known beside a unit becomes known, and nothing else is.
-pub(crate) fn gather(unit: &Unit, picture: &Picture, samples: &mut UnitSamples)
-    requires { HasSides picture.now (4 * unit.now.layout.across) (4 * unit.now.layout.down) }
-    ensures { held samples.new ≡ known_beside unit.now.layout unit.now.slice unit.now.address (samples_of picture.now) }
+pub(crate) fn gather(unit: &Unit, planes: &Planes, samples: &mut UnitSamples)
+    requires { HasSides planes.now (4 * unit.now.layout.across) (4 * unit.now.layout.down) }
+    ensures { held samples.new ≡ known_beside unit.now.layout unit.now.slice unit.now.address (samples_of planes.now) }
 {
     samples.restart();
-    gather_component(unit, 0, picture, samples);
-    gather_component(unit, 1, picture, samples);
-    gather_component(unit, 2, picture, samples);
+    gather_component(unit, 0, planes, samples);
+    gather_component(unit, 1, planes, samples);
+    gather_component(unit, 2, planes, samples);
 }
 
 /// What is known of a component beside it.
-fn gather_component(unit: &Unit, c: usize, picture: &Picture, samples: &mut UnitSamples)
+fn gather_component(unit: &Unit, c: usize, planes: &Planes, samples: &mut UnitSamples)
     requires component { c < 3 }
-    requires sides { HasSides picture.now (4 * unit.now.layout.across) (4 * unit.now.layout.down) }
-    ensures { ((j k : ℕ) → held samples.old c j k ≡ None) → (i j k : ℕ) → held samples.new i j k ≡ (if i == c then known_beside unit.now.layout unit.now.slice unit.now.address (samples_of picture.now) i j k else held samples.old i j k) }
+    requires sides { HasSides planes.now (4 * unit.now.layout.across) (4 * unit.now.layout.down) }
+    ensures { ((j k : ℕ) → held samples.old c j k ≡ None) → (i j k : ℕ) → held samples.new i j k ≡ (if i == c then known_beside unit.now.layout unit.now.slice unit.now.address (samples_of planes.now) i j k else held samples.old i j k) }
 {
     let part = unit.part(c);
-    gather_above(part, unit.first_above(part), picture, samples);
+    gather_above(part, unit.first_above(part), planes, samples);
     if unit.has_left() {
-        gather_left(part, picture, samples);
+        gather_left(part, planes, samples);
     }
 }
 
 /// The line above a part of a unit, from a column on.
-fn gather_above(part: Part, first: usize, picture: &Picture, samples: &mut UnitSamples)
+fn gather_above(part: Part, first: usize, planes: &Planes, samples: &mut UnitSamples)
     requires room { IsRoom part }
-    requires width { plane_width picture.now part.c ≡ part.width }
-    requires height { plane_height picture.now part.c ≡ part.height }
+    requires width { plane_width planes.now part.c ≡ part.width }
+    requires height { plane_height planes.now part.c ≡ part.height }
     requires some { 1 ≤ part.x + first }
     requires few { first ≤ 129 }
-    ensures { (i j k : ℕ) → held samples.new i j k ≡ (if is_above part first i j k then Some (sample_at part (samples_of picture.now) i j k) else held samples.old i j k) }
+    ensures { (i j k : ℕ) → held samples.new i j k ≡ (if is_above part first i j k then Some (sample_at part (samples_of planes.now) i j k) else held samples.old i j k) }
 {
     let last = (2 * part.side).min(part.width - part.x);
     if 1 <= part.y && part.y <= part.height && first <= last {
-        let row = picture.row(part.c, (part.y - 1) as u32);
+        let row = planes.row(part.c, (part.y - 1) as u32);
         samples.put_line(part.c, first, 0, &row[part.x + first - 1..part.x + last]);
     }
 }
 
 /// The column on its left.
-fn gather_left(part: Part, picture: &Picture, samples: &mut UnitSamples)
+fn gather_left(part: Part, planes: &Planes, samples: &mut UnitSamples)
     requires room { IsRoom part }
-    requires width { plane_width picture.now part.c ≡ part.width }
-    requires height { plane_height picture.now part.c ≡ part.height }
+    requires width { plane_width planes.now part.c ≡ part.width }
+    requires height { plane_height planes.now part.c ≡ part.height }
     requires some { 1 ≤ part.x }
-    ensures { (i j k : ℕ) → held samples.new i j k ≡ (if is_left part i j k then Some (sample_at part (samples_of picture.now) i j k) else held samples.old i j k) }
+    ensures { (i j k : ℕ) → held samples.new i j k ≡ (if is_left part i j k then Some (sample_at part (samples_of planes.now) i j k) else held samples.old i j k) }
 {
     let lines = part.side.min(part.height.saturating_sub(part.y));
     for line in 0..lines {
-        let row = picture.row(part.c, (part.y + line) as u32);
+        let row = planes.row(part.c, (part.y + line) as u32);
         samples.put_line(part.c, 0, line + 1, &row[part.x - 1..part.x]);
     }
 }

@@ -10,16 +10,17 @@ use scaling_factors::{flat_factors, listed_factors};
 use spec_reconstruction::ScalingFactors;
 use std::alloc::{AllocError, Global};
 
-/// The factors by the lists of a picture's sets.
+/// The factors by the lists of a picture's sets, of intra coding units or of inter ones.
 pub(crate) fn picture_factors(
     alloc: Global,
     sps: &Sps,
     pps: &Pps,
+    intra: bool,
 ) -> Result<ScalingFactors, AllocError>
-    ensures { IfOk result (λ f. f ≡ scaling_factors (picture_scaling_lists sps.now pps.now)) }
+    ensures { IfOk result (λ f. f ≡ scaling_factors (picture_scaling_lists sps.now pps.now) intra) }
 {
     match picture_scaling_lists(alloc, sps.fields(), pps.fields())? {
         None => Ok(flat_factors()),
-        Some(lists) => Ok(listed_factors(&lists)),
+        Some(lists) => Ok(listed_factors(&lists, intra)),
     }
 }

@@ -1,7 +1,6 @@
 //! What the samples of a slice's coding tree units depend on (7.4.3.2, 7.4.3.3, 7.4.7.1).
 
-ghost use Rattle.std.specs.Prelude.{◌≡◌, ◌+◌, ◌+ℤ◌, ◌≤◌, IfOk};
-ghost use Rattle.header_types.specs.declared.pps.PpsFields.{PpsFields};
+ghost use Rattle.std.specs.Prelude.{◌≡◌, ◌+◌, ◌+ℤ◌, ◌≤◌, true, false, IfOk};
 ghost use Rattle.picture_build.specs.Formats.{IsCommon, of_slice};
 ghost use Rattle.spec_parameter_sets.specs.PictureScaling.{picture_scaling_lists};
 ghost use Rattle.spec_picture_data.specs.Shapes.{pcm_syntax};
@@ -19,14 +18,15 @@ pub(crate) fn common_format(alloc: Global, plan: &PicturePlan) -> Result<UnitFor
     ensures value { IfOk result (λ f. IsCommon plan.now.sps plan.now.pps f) }
     ensures format { IfOk result (λ f. IsFormat f) }
 {
-    let factors = picture_factors(alloc, &plan.sps, &plan.pps)?;
-    Ok(format_by(&plan.sps, factors))
+    let intra = picture_factors(alloc, &plan.sps, &plan.pps, true)?;
+    let inter = picture_factors(alloc, &plan.sps, &plan.pps, false)?;
+    Ok(format_by(&plan.sps, &plan.pps, intra, inter))
 }
 
 /// The same by the picture's scaling factors.
 #[tactic(auto, unfolding(spec_picture_samples::specs::Format::unit_format))]
-fn format_by(sps: &Sps, factors: ScalingFactors) -> UnitFormat
-    ensures value { (pps : PpsFields) → factors ≡ scaling_factors (picture_scaling_lists sps.now pps) → IsCommon sps.now pps result }
+fn format_by(sps: &Sps, pps: &Pps, intra: ScalingFactors, inter: ScalingFactors) -> UnitFormat
+    ensures value { intra ≡ scaling_factors (picture_scaling_lists sps.now pps.now) true → inter ≡ scaling_factors (picture_scaling_lists sps.now pps.now) false → IsCommon sps.now pps.now result }
     ensures format { IsFormat result }
 {
     let bits = pcm_bits(sps);
@@ -39,7 +39,9 @@ fn format_by(sps: &Sps, factors: ScalingFactors) -> UnitFormat
         cb_qp_offset: 0,
         cr_qp_offset: 0,
         strong_intra_smoothing: fields.strong_intra_smoothing_enabled_flag,
-        factors,
+        constrained_intra: pps.fields().constrained_intra_pred_flag,
+        intra_factors: intra,
+        inter_factors: inter,
     }
 }
 

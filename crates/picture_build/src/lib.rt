@@ -1,15 +1,18 @@
-//! Reads and builds the samples of a planned picture of I slices (H.265 6.4.1, 8.4.4.1, 8.6.5), on one thread: its coding
-//! tree units one after the other, each from what is known beside it.
+//! Reads and builds a planned picture (H.265 6.4.1, 8.4.4.1, 8.5.3, 8.6.5), on one thread: the motion and the samples of its
+//! coding tree units one after the other, each from what is known beside it and from the pictures that it refers to.
 #![tactic(auto)]
 
 mod beside;
 mod builder;
 mod factors;
 mod format;
-mod layout;
 mod lines;
+mod motion;
 mod part;
 mod picture;
+mod references;
+mod samples;
 mod unit;
+mod weights;
 
 pub use picture::build_picture;

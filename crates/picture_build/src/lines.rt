@@ -10,42 +10,42 @@ ghost use Rattle.spec_picture_samples.specs.Built.{unit_laid};
 use crate::part::Part;
 use crate::unit::Unit;
 use ctu_build::UnitSamples;
-use picture_buffer::Picture;
+use picture_buffer::Planes;
 
 /// Lays the samples of a unit into the picture.
-pub(crate) fn lay_unit(unit: &Unit, samples: &UnitSamples, picture: &mut Picture)
-    requires { HasSides picture.old (4 * unit.now.layout.across) (4 * unit.now.layout.down) }
-    ensures value { samples_of picture.new ≡ unit_laid unit.now.layout unit.now.address (held samples.now) (samples_of picture.old) }
-    ensures sides { HasSides picture.new (4 * unit.now.layout.across) (4 * unit.now.layout.down) }
+pub(crate) fn lay_unit(unit: &Unit, samples: &UnitSamples, planes: &mut Planes)
+    requires { HasSides planes.old (4 * unit.now.layout.across) (4 * unit.now.layout.down) }
+    ensures value { samples_of planes.new ≡ unit_laid unit.now.layout unit.now.address (held samples.now) (samples_of planes.old) }
+    ensures sides { HasSides planes.new (4 * unit.now.layout.across) (4 * unit.now.layout.down) }
 {
-    lay_component(unit, 0, samples, picture);
-    lay_component(unit, 1, samples, picture);
-    lay_component(unit, 2, samples, picture);
+    lay_component(unit, 0, samples, planes);
+    lay_component(unit, 1, samples, planes);
+    lay_component(unit, 2, samples, planes);
 }
 
 /// Lays those of a component.
-fn lay_component(unit: &Unit, c: usize, samples: &UnitSamples, picture: &mut Picture)
+fn lay_component(unit: &Unit, c: usize, samples: &UnitSamples, planes: &mut Planes)
     requires component { c < 3 }
-    requires sides { HasSides picture.old (4 * unit.now.layout.across) (4 * unit.now.layout.down) }
-    ensures value { (i j k : ℕ) → samples_of picture.new i j k ≡ (if i == c then unit_laid unit.now.layout unit.now.address (held samples.now) (samples_of picture.old) i j k else samples_of picture.old i j k) }
-    ensures sides { HasSides picture.new (4 * unit.now.layout.across) (4 * unit.now.layout.down) }
+    requires sides { HasSides planes.old (4 * unit.now.layout.across) (4 * unit.now.layout.down) }
+    ensures value { (i j k : ℕ) → samples_of planes.new i j k ≡ (if i == c then unit_laid unit.now.layout unit.now.address (held samples.now) (samples_of planes.old) i j k else samples_of planes.old i j k) }
+    ensures sides { HasSides planes.new (4 * unit.now.layout.across) (4 * unit.now.layout.down) }
 {
-    lay_part(unit, unit.part(c), samples, picture);
+    lay_part(unit, unit.part(c), samples, planes);
 }
 
 /// Lays the lines of a part of a unit, as far as the picture goes.
-fn lay_part(unit: &Unit, part: Part, samples: &UnitSamples, picture: &mut Picture)
+fn lay_part(unit: &Unit, part: Part, samples: &UnitSamples, planes: &mut Planes)
     requires part { IsPart unit.now.layout unit.now.address part }
     requires room { IsRoom part }
-    requires sides { HasSides picture.old (4 * unit.now.layout.across) (4 * unit.now.layout.down) }
-    ensures value { (i j k : ℕ) → samples_of picture.new i j k ≡ (if is_in_part part i j k then unwrap_or (held samples.now i (j - part.x + 1) (k - part.y + 1)) 0 else samples_of picture.old i j k) }
-    ensures sides { HasSides picture.new (4 * unit.now.layout.across) (4 * unit.now.layout.down) }
+    requires sides { HasSides planes.old (4 * unit.now.layout.across) (4 * unit.now.layout.down) }
+    ensures value { (i j k : ℕ) → samples_of planes.new i j k ≡ (if is_in_part part i j k then unwrap_or (held samples.now i (j - part.x + 1) (k - part.y + 1)) 0 else samples_of planes.old i j k) }
+    ensures sides { HasSides planes.new (4 * unit.now.layout.across) (4 * unit.now.layout.down) }
 {
     let columns = part.side.min(part.width - part.x);
     let lines = part.side.min(part.height.saturating_sub(part.y));
     for line in 0..lines {
         let built = samples.line(part.c, line + 1);
-        picture.lay(
+        planes.lay(
             part.c,
             part.x as u32,
             (part.y + line) as u32,

@@ -1,25 +1,40 @@
-//! The samples of a whole picture.
+//! A whole picture.
 
 ghost use Rattle.std.specs.Prelude.{◌≡◌, IfOk};
-ghost use Rattle.picture_buffer.specs.Planes.{HasSides};
 ghost use Rattle.picture_build.specs.Building.{BuildsPicture};
+ghost use Rattle.picture_build.specs.Pictures.{buffer_of};
 ghost use Rattle.spec_picture_samples.specs.Built.{picture_built};
 
-use crate::builder::PictureBuilder;
-use picture_buffer::Picture;
+use crate::builder::{Buffer, PictureBuilder};
+use picture_buffer::{Bases, Picture};
 use picture_trees::{ReadError, read_picture};
 use plan_types::PicturePlan;
 use spec_unit_ranges::units_that_are_read_are_sound;
 use std::alloc::Global;
+use std::marker::Brand;
 
-/// Reads and builds a picture of I slices: its samples before the loop filters. The error is the first rule that its data
-/// break, or want of memory, which is taken before the first unit is read.
-pub fn build_picture(alloc: Global, plan: &PicturePlan) -> Result<Picture, ReadError>
-    ensures value { BuildsPicture result (picture_built plan.now) }
-    ensures sides { IfOk result (λ p. HasSides p plan.now.sps.format.pic_width_in_luma_samples plan.now.sps.format.pic_height_in_luma_samples) }
+/// Reads and builds a picture over the pictures of the decoded picture buffer before it: its samples before the loop filters,
+/// and its motion. The error is the first rule that its data break, or want of memory, which is taken before the first unit is
+/// read.
+pub fn build_picture(alloc: Global, plan: &PicturePlan, bases: &Bases) -> Result<Picture, ReadError>
+    ensures value { BuildsPicture result (picture_built (buffer_of bases.now) plan.now) }
+    ensures format { IfOk result (λ p. p.format ≡ plan.now.sps.format) }
+{
+    build_over::<Brand>(alloc, plan, bases)
+}
+
+/// The same over a buffer that has a name.
+fn build_over<B: Buffer>(
+    alloc: Global,
+    plan: &PicturePlan,
+    bases: &Bases,
+) -> Result<Picture, ReadError>
+    requires { bases.now ≡ B.pictures }
+    ensures value { BuildsPicture result (picture_built (buffer_of B.pictures) plan.now) }
+    ensures format { IfOk result (λ p. p.format ≡ plan.now.sps.format) }
 {
     units_that_are_read_are_sound();
-    let Ok(mut builder) = PictureBuilder::new(alloc, plan) else {
+    let Ok(mut builder) = PictureBuilder::<B>::new(alloc, plan, bases) else {
         return Err(ReadError::Memory);
     };
     match read_picture(alloc, plan, &mut builder) {

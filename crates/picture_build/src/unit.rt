@@ -1,11 +1,14 @@
 //! A coding tree unit's place in a picture and in its slice.
 
-ghost use Rattle.std.specs.Prelude.{◌≡◌, ◌+◌, ◌*◌, ◌<◌, ◌≤◌};
+ghost use Rattle.std.specs.Prelude.{◌≡◌, ◌+◌, ◌*◌, ◌<◌, ◌≤◌, IfSome, None};
 ghost use Rattle.picture_build.specs.Beside.{first_above, has_left};
-ghost use Rattle.picture_build.specs.Parts.{IsPart, IsRoom, IsShape};
+ghost use Rattle.picture_build.specs.Parts.{IsPart, IsRoom};
+ghost use Rattle.picture_layout.specs.Shape.{IsShape};
+ghost use Rattle.spec_picture_motion.specs.Field.{first_column, first_row};
+ghost use Rattle.spec_slice_data.specs.Residual.{samples_of_place};
 
-use crate::layout::Layout;
 use crate::part::Part;
+use picture_layout::Layout;
 
 /// A unit of a picture: its address, and that of the first unit of its slice.
 #[derive(Clone, Copy)]
@@ -24,7 +27,50 @@ impl Unit {
         ensures room { IsRoom result }
         ensures shape { IsShape self.now.layout }
     {
-        self.layout.part(c, self.address)
+        let scale = samples_of_place(c);
+        let side = scale * self.layout.side();
+        Part {
+            c,
+            side,
+            x: side * self.layout.column(self.address) as usize,
+            y: side * self.layout.row(self.address) as usize,
+            width: scale * self.layout.across() as usize,
+            height: scale * self.layout.down() as usize,
+        }
+    }
+
+    /// The same for the motion of its places.
+    pub(crate) fn of_motion(&self) -> picture_motion::Unit
+        ensures layout { result.layout ≡ self.now.layout }
+        ensures address { result.address ≡ self.now.address }
+    {
+        picture_motion::Unit {
+            layout: self.layout,
+            slice: self.slice,
+            address: self.address,
+        }
+    }
+
+    /// The column of its first place of 4x4 luma samples.
+    pub(crate) fn first_column(&self) -> u32
+        ensures value { result ≡ first_column self.now.layout self.now.address }
+        ensures small { result ≤ 8192 }
+    {
+        self.layout.side() as u32 * self.layout.column(self.address)
+    }
+
+    /// The row of its first place, where the picture has it.
+    pub(crate) fn first_row(&self) -> Option<u32>
+        ensures some { IfSome result (λ row. (row ≡ first_row self.now.layout self.now.address) × (row ≤ 8192)) }
+        ensures none { result ≡ None → self.now.layout.down ≤ first_row self.now.layout self.now.address }
+        ensures shape { IsShape self.now.layout }
+    {
+        let row = self.layout.side() * self.layout.row(self.address) as usize;
+        if row < self.layout.down() as usize {
+            Some(row as u32)
+        } else {
+            None
+        }
     }
 
     /// The first column of the line above a part of it that is of a unit of its slice.
@@ -55,4 +101,13 @@ impl Unit {
     {
         self.layout.column(self.address) > 0 && self.slice < self.address
     }
+}
+
+/// How many samples of a component a place has on a side.
+fn samples_of_place(c: usize) -> usize
+    ensures value { result ≡ samples_of_place c }
+    ensures some { 2 ≤ result }
+    ensures few { result ≤ 4 }
+{
+    if c == 0 { 4 } else { 2 }
 }

@@ -95,6 +95,7 @@ impl Layout {
         ensures value { result ≡ 2 ^ self.now.size }
         ensures some { 1 ≤ result }
         ensures small { result ≤ 16 }
+        ensures shape { IsShape self.now }
     {
         1 << self.size
     }

@@ -1,4 +1,4 @@
-//! The scaling factors of intra transform blocks (H.265 7.4.5).
+//! The scaling factors of transform blocks (H.265 7.4.5).
 #![tactic(auto)]
 
 mod block;

@@ -13,7 +13,8 @@ use Rattle.spec_pictures.specs.Pictures.{beginning}
 use Rattle.spec_pictures.specs.Steps.{step}
 use Rattle.spec_pictures.specs.Planned.{Planned, planned_of, planned_from, planned_next, Extends}
 use Rattle.spec_pictures.proofs.Fronts.{of_extends}
-use Rattle.spec_decoder.specs.Decoder.{Decoded, DecodedPicture, Continues, decoded_picture, out_at, kept_from, put_out, ended, entered, with_picture, decoded_from, finished, decoded_plan, decoded}
+use Rattle.spec_picture_samples.specs.References.{DecodedPicture}
+use Rattle.spec_decoder.specs.Decoder.{Decoded, Continues, decoded_picture, out_at, kept_from, put_out, ended, entered, with_picture, decoded_from, finished, decoded_plan, decoded}
 
 -- the bytes follow from the pictures
 continues : (short long : Decoded) (more : List (List ℕ)) → long.pictures ≡ short.pictures ++ more → (¬ (short.outcome ≡ outcome.Ok) → long ≡ short)
@@ -46,8 +47,8 @@ entered_continues p short long buffer (Ok picture) h =
 picture_continues : (p : PicturePlan) (short long : List DecodedPicture → Decoded) (buffer : List DecodedPicture)
     → ((b : List DecodedPicture) → Continues (short b) (long b)) → Continues (with_picture p short buffer) (with_picture p long buffer)
 picture_continues p short long buffer h =
-    put_continues (out_at buffer p.outputs.before) (entered p short buffer (decoded_picture p)) (entered p long buffer (decoded_picture p))
-    (entered_continues p short long buffer (decoded_picture p) h)
+    put_continues (out_at buffer p.outputs.before) (entered p short buffer (decoded_picture buffer p)) (entered p long buffer (decoded_picture buffer p))
+    (entered_continues p short long buffer (decoded_picture buffer p) h)
 
 nothing_continues : (buffer : List DecodedPicture) (long : Decoded) → Continues (finished [] None buffer) long
 unfolding out_at

@@ -11,10 +11,10 @@ use Rattle.header_types.specs.declared.sps.PictureFormat.{PictureFormat}
 use Rattle.plan_types.specs.declared.picture_plan.PicturePlan.{PicturePlan}
 use Rattle.spec_pictures.specs.Planned.{planned_of}
 use Rattle.spec_picture_data.specs.Picture.{PictureBroken}
-use Rattle.spec_picture_samples.specs.Border.{Samples}
-use Rattle.spec_picture_samples.specs.Built.{picture_built}
+use Rattle.spec_picture_samples.specs.Built.{BuiltPicture, picture_built}
+use Rattle.spec_picture_samples.specs.References.{DecodedPicture}
 use Rattle.spec_decoder.specs.Features.{unbuilt}
-use Rattle.spec_decoder.specs.Decoder.{Decoded, DecodedPicture, IsDecided, ending, told_by, kept_from, decoded_data, decoded_built, decoded_picture, entered, decoded_from, finished, decoded}
+use Rattle.spec_decoder.specs.Decoder.{Decoded, IsDecided, ending, told_by, kept_from, decoded_data, decoded_built, decoded_picture, entered, decoded_from, finished, decoded}
 
 pub ending_decided : (end : Option Stop) → IsDecided (ending end)
 ending_decided None = tt
@@ -25,18 +25,18 @@ told_decided : (nal ctu : ℕ) (e : Breach) → IsDecided (told_by nal ctu e)
 told_decided nal ctu (breach.Fault kind) = tt
 told_decided nal ctu (breach.Limit kind) = tt
 
-data_decided : (format : PictureFormat) (r : Result Samples PictureBroken) → IfErr (decoded_data format r) IsDecided
-data_decided format (Ok samples) = tt
+data_decided : (format : PictureFormat) (r : Result BuiltPicture PictureBroken) → IfErr (decoded_data format r) IsDecided
+data_decided format (Ok built) = tt
 data_decided format (Err broken) = told_decided broken.nal broken.ctu broken.breach
 
-built_decided : (p : PicturePlan) (f : Option Feature) → IfErr (decoded_built p f) IsDecided
-built_decided p None = data_decided p.sps.format (picture_built p)
-built_decided p (Some f) = tt
+built_decided : (buffer : List DecodedPicture) (p : PicturePlan) (f : Option Feature) → IfErr (decoded_built buffer p f) IsDecided
+built_decided buffer p None = data_decided p.sps.format (picture_built buffer p)
+built_decided buffer p (Some f) = tt
 
 -- what ends decoding in a picture
-pub picture_decided : (p : PicturePlan) → IfErr (decoded_picture p) IsDecided
+pub picture_decided : (buffer : List DecodedPicture) (p : PicturePlan) → IfErr (decoded_picture buffer p) IsDecided
 unfolding decoded_picture
-picture_decided p = built_decided p (unbuilt p)
+picture_decided buffer p = built_decided buffer p (unbuilt p)
 
 entered_decided : (p : PicturePlan) (next : List DecodedPicture → Decoded) (buffer : List DecodedPicture) (r : Result DecodedPicture Outcome)
     → IfErr r IsDecided → ((b : List DecodedPicture) → IsDecided (next b).outcome) → IsDecided (entered p next buffer r).outcome
@@ -47,7 +47,7 @@ from_decided : (end : List DecodedPicture → Decoded) (pictures : List PictureP
     → ((b : List DecodedPicture) → IsDecided (end b).outcome) → IsDecided (decoded_from end pictures buffer).outcome
 from_decided end [] buffer h = h buffer
 from_decided end (p ∷ pictures) buffer h =
-    entered_decided p (decoded_from end pictures) buffer (decoded_picture p) (picture_decided p) (λ b. from_decided end pictures b h)
+    entered_decided p (decoded_from end pictures) buffer (decoded_picture buffer p) (picture_decided buffer p) (λ b. from_decided end pictures b h)
 
 pub of_decided : (ended : Bool) (bytes : List ℕ) → IsDecided (decoded ended bytes).outcome
 unfolding decoded

@@ -13,20 +13,15 @@ use Rattle.header_types.specs.declared.sps.PictureFormat.{PictureFormat}
 use Rattle.plan_types.specs.declared.picture_plan.PicturePlan.{PicturePlan}
 use Rattle.spec_pictures.specs.Planned.{Planned, planned_of}
 use Rattle.spec_picture_data.specs.Picture.{PictureBroken}
-use Rattle.spec_picture_samples.specs.Border.{Samples}
-use Rattle.spec_picture_samples.specs.Built.{picture_built}
+use Rattle.spec_picture_samples.specs.Built.{BuiltPicture, picture_built}
 use Rattle.spec_picture_samples.specs.Output.{picture_bytes}
+use Rattle.spec_picture_samples.specs.References.{DecodedPicture}
 use Rattle.spec_decoder.specs.Features.{unbuilt}
 
 -- the pictures in output order, each as its bytes, and how decoding ends
 pub record Decoded : Type 0 where
   pub pictures : List (List ℕ)
   pub outcome : Outcome
-
--- a decoded picture, as the decoded picture buffer has it
-pub record DecodedPicture : Type 0 where
-  pub format : PictureFormat
-  pub samples : Samples
 
 -- a decoded picture as it goes out
 abbrev pub picture_out : DecodedPicture → List ℕ
@@ -40,18 +35,18 @@ told_by nal ctu (breach.Limit kind) = outcome.Limit (record { kind = kind; nal =
 abbrev pub told : PictureBroken → Outcome
 told broken = told_by broken.nal broken.ctu broken.breach
 
-abbrev pub decoded_data : PictureFormat → Result Samples PictureBroken → Result DecodedPicture Outcome
-decoded_data format (Ok samples) = Ok (record { format = format; samples = samples })
+abbrev pub decoded_data : PictureFormat → Result BuiltPicture PictureBroken → Result DecodedPicture Outcome
+decoded_data format (Ok built) = Ok (record { format = format; samples = built.samples; motions = built.motions })
 decoded_data format (Err broken) = Err (told broken)
 
 -- what isn't built is told at the picture's first slice segment
-abbrev pub decoded_built : PicturePlan → Option Feature → Result DecodedPicture Outcome
-decoded_built p (Some f) = Err (outcome.Limit (record { kind = bound.Unbuilt f; nal = p.nal }))
-decoded_built p None = decoded_data p.sps.format (picture_built p)
+abbrev pub decoded_built : List DecodedPicture → PicturePlan → Option Feature → Result DecodedPicture Outcome
+decoded_built buffer p (Some f) = Err (outcome.Limit (record { kind = bound.Unbuilt f; nal = p.nal }))
+decoded_built buffer p None = decoded_data p.sps.format (picture_built buffer p)
 
--- a picture, or what is broken or met in it first
-unfoldable pub decoded_picture : PicturePlan → Result DecodedPicture Outcome
-decoded_picture p = decoded_built p (unbuilt p)
+-- a picture by the buffer before it, or what is broken or met in it first
+unfoldable pub decoded_picture : List DecodedPicture → PicturePlan → Result DecodedPicture Outcome
+decoded_picture buffer p = decoded_built buffer p (unbuilt p)
 
 -- the pictures at these places of a buffer, one after the other, as they go out. A place behind the last has none
 abbrev pub next_out : Option DecodedPicture → List (List ℕ) → List (List ℕ)
@@ -97,7 +92,7 @@ entered p next buffer (Ok picture) = behind_picture p next (buffer ++ picture �
 
 -- a picture: what goes out before it is decoded goes out before its data are judged
 abbrev pub with_picture : PicturePlan → (List DecodedPicture → Decoded) → List DecodedPicture → Decoded
-with_picture p next buffer = put_out (out_at buffer p.outputs.before) (entered p next buffer (decoded_picture p))
+with_picture p next buffer = put_out (out_at buffer p.outputs.before) (entered p next buffer (decoded_picture buffer p))
 
 -- the pictures up to the first in which something is broken or met, in decoding order, with the pictures that the buffer
 -- has before them, and what follows the last of them

@@ -4,21 +4,8 @@ use Rattle.std.specs.List.{list_any}
 use Rattle.hv_base.specs.declared.limit.Feature.{Feature}
 use Rattle.hv_base.specs.declared.limit.Feature.TheVariants as feature
 use Rattle.header_types.specs.declared.sps.PictureFormat.{PictureFormat}
-use Rattle.header_types.specs.SequenceParameterSets.{highest_ordering}
 use Rattle.plan_types.specs.declared.segment_plan.SegmentPlan.{SegmentPlan}
 use Rattle.plan_types.specs.declared.picture_plan.PicturePlan.{PicturePlan}
-use Rattle.spec_reference_pictures.specs.PictureOrderCount.{is_idr}
-
--- a segment whose picture isn't put out
-abbrev pub is_hidden : SegmentPlan → Bool
-is_hidden s = not s.header.slice.pic_output_flag
-
--- a picture that isn't an instantaneous decoding refresh picture, or that isn't put out where it was decoded
-unfoldable pub needs_inter : PicturePlan → Bool
-needs_inter p =
-    not (is_idr p.kind.nal_type)
-    || (list_any is_hidden p.segments
-    || nat_lt 0 (highest_ordering p.sps.sub_layer_ordering).max_num_reorder_pics)
 
 -- a segment with sample adaptive offset
 abbrev pub has_offsets : SegmentPlan → Bool
@@ -39,6 +26,4 @@ needs_filters p = list_any has_offsets p.segments || (has_edges p.sps.format && 
 -- the first feature that a picture needs and that isn't built
 unfoldable pub unbuilt : PicturePlan → Option Feature
 unbuilt p =
-    if needs_inter p then Some feature.Inter
-    else (if needs_filters p then Some feature.Filters
-    else None)
+    if needs_filters p then Some feature.Filters else None

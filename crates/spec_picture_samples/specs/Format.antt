@@ -1,5 +1,5 @@
 -- What the samples of a slice's coding tree units depend on (7.4.3.2, 7.4.3.3, 7.4.7.1).
-use Rattle.std.specs.Prelude.{◌+◌, ◌+ℤ◌}
+use Rattle.std.specs.Prelude.{◌+◌, ◌+ℤ◌, true, false}
 use Rattle.header_types.specs.declared.sps.SpsFields.{SpsFields}
 use Rattle.header_types.specs.declared.pps.PpsFields.{PpsFields}
 use Rattle.header_types.specs.declared.slice.SliceFields.{SliceFields}
@@ -17,5 +17,7 @@ unit_format sps pps slice = record {
   cb_qp_offset = pps.pps_cb_qp_offset +ℤ slice.slice_cb_qp_offset;
   cr_qp_offset = pps.pps_cr_qp_offset +ℤ slice.slice_cr_qp_offset;
   strong_intra_smoothing = sps.strong_intra_smoothing_enabled_flag;
-  factors = scaling_factors (picture_scaling_lists sps pps);
+  constrained_intra = pps.constrained_intra_pred_flag;
+  intra_factors = scaling_factors (picture_scaling_lists sps pps) true;
+  inter_factors = scaling_factors (picture_scaling_lists sps pps) false;
 }

@@ -1,5 +1,5 @@
 -- The scaling factors of transform blocks (7.4.5, 8.6.3).
-use Rattle.std.specs.Prelude.{ℕ, ◌+◌, ◌-◌, ◌*◌, ◌/◌, ◌%◌, ◌^◌, ◌==◌, ◌&&◌, nat_lt, Option, Some, None, List, [], ◌++◌, map, slice_index_or, if◌then◌else◌}
+use Rattle.std.specs.Prelude.{ℕ, Bool, ◌+◌, ◌-◌, ◌*◌, ◌/◌, ◌%◌, ◌^◌, ◌==◌, ◌&&◌, nat_lt, Option, Some, None, List, [], ◌++◌, map, slice_index_or, if◌then◌else◌}
 use Rattle.std.specs.List.{range_with_len}
 use Rattle.block_geometry.specs.declared.kind.Scan.TheVariants.{Diagonal}
 use Rattle.block_geometry.specs.Scans.{scan_index}
@@ -18,12 +18,16 @@ first_factor log2 c =
 abbrev pub factor : ScalingFactors → ℕ → ℕ → ℕ → ℕ
 factor factors log2 c place = slice_index_or factors.by_place (first_factor log2 c + place) 16
 
--- the scaling list of a block of an intra coding unit: matrixId is cIdx
+-- matrixId of a block of a component: cIdx in an intra coding unit, and behind those in an inter one (Table 7-4)
+abbrev pub matrix_of : Bool → ℕ → ℕ → ℕ
+matrix_of intra log2 c = if intra then c else (if log2 == 5 then c + 1 else c + 3)
+
 abbrev pub no_list : ScalingList
 no_list = record { factors = []; dc = 16 }
 
-abbrev pub list_of : ScalingLists → ℕ → ℕ → ScalingList
-list_of lists log2 c = slice_index_or lists.lists (6 * (log2 - 2) + c) no_list
+-- the scaling list of a block
+abbrev pub list_of : ScalingLists → Bool → ℕ → ℕ → ScalingList
+list_of lists intra log2 c = slice_index_or lists.lists (6 * (log2 - 2) + matrix_of intra log2 c) no_list
 
 -- ScalingFactor at column x and line y: a list is spread over blocks of 16x16 and more, whose first place has a factor of
 -- its own
@@ -34,17 +38,17 @@ listed_factor list log2 x y =
     else slice_index_or list.factors (scan_index 3 Diagonal (x / 2 ^ (log2 - 3)) (y / 2 ^ (log2 - 3))) 16)
 
 -- the factor by the lists of the picture, 16 where it has none
-unfoldable pub scaling_factor : Option ScalingLists → ℕ → ℕ → ℕ → ℕ → ℕ
-scaling_factor None log2 c x y = 16
-scaling_factor (Some lists) log2 c x y = listed_factor (list_of lists log2 c) log2 x y
+unfoldable pub scaling_factor : Option ScalingLists → Bool → ℕ → ℕ → ℕ → ℕ → ℕ
+scaling_factor None intra log2 c x y = 16
+scaling_factor (Some lists) intra log2 c x y = listed_factor (list_of lists intra log2 c) log2 x y
 
 -- those of the blocks of a component and a size, row after row
-abbrev pub factors_in_rows : Option ScalingLists → ℕ → ℕ → List ℕ
-factors_in_rows lists log2 c = map (λ k. scaling_factor lists log2 c (k % 2 ^ log2) (k / 2 ^ log2)) (range_with_len 0 (2 ^ log2 * 2 ^ log2))
+abbrev pub factors_in_rows : Option ScalingLists → Bool → ℕ → ℕ → List ℕ
+factors_in_rows lists intra log2 c = map (λ k. scaling_factor lists intra log2 c (k % 2 ^ log2) (k / 2 ^ log2)) (range_with_len 0 (2 ^ log2 * 2 ^ log2))
 
-abbrev pub factors_of_size : Option ScalingLists → ℕ → List ℕ
-factors_of_size lists log2 = factors_in_rows lists log2 0 ++ (factors_in_rows lists log2 1 ++ factors_in_rows lists log2 2)
+abbrev pub factors_of_size : Option ScalingLists → Bool → ℕ → List ℕ
+factors_of_size lists intra log2 = factors_in_rows lists intra log2 0 ++ (factors_in_rows lists intra log2 1 ++ factors_in_rows lists intra log2 2)
 
--- those of all blocks of intra coding units
-unfoldable pub scaling_factors : Option ScalingLists → ScalingFactors
-scaling_factors lists = record { by_place = factors_of_size lists 2 ++ (factors_of_size lists 3 ++ (factors_of_size lists 4 ++ factors_in_rows lists 5 0)) }
+-- those of all blocks of intra coding units, or of inter ones
+unfoldable pub scaling_factors : Option ScalingLists → Bool → ScalingFactors
+scaling_factors lists intra = record { by_place = factors_of_size lists intra 2 ++ (factors_of_size lists intra 3 ++ (factors_of_size lists intra 4 ++ factors_in_rows lists intra 5 0)) }

@@ -3,6 +3,7 @@ pub mod Factors
 pub mod Parameters
 pub mod Residuals
 pub mod Prediction
+pub mod Inter
 pub mod Pulses
 pub mod Unit
 pub mod Sound

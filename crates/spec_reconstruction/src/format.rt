@@ -1,7 +1,8 @@
 //! What the samples of a coding tree unit depend on.
 
-/// ScalingFactor (7.4.5) of intra transform blocks, row after row: those of 4x4 samples for Y, Cb and Cr, of 8x8 and of
-/// 16x16 likewise, and those of 32x32 for Y. All are 16 where there are no scaling lists.
+/// ScalingFactor (7.4.5) of the transform blocks of intra coding units, or of inter ones, row after row: those of 4x4
+/// samples for Y, Cb and Cr, of 8x8 and of 16x16 likewise, and those of 32x32 for Y. All are 16 where there are no scaling
+/// lists.
 #[derive(Clone, Copy, Debug, PartialEq, Eq)]
 pub struct ScalingFactors {
     pub by_place: [u8; 2032],
@@ -24,5 +25,10 @@ pub struct UnitFormat {
     pub cr_qp_offset: i64,
     /// strong_intra_smoothing_enabled_flag.
     pub strong_intra_smoothing: bool,
-    pub factors: ScalingFactors,
+    /// constrained_intra_pred_flag.
+    pub constrained_intra: bool,
+    /// Those of intra coding units.
+    pub intra_factors: ScalingFactors,
+    /// Those of inter coding units.
+    pub inter_factors: ScalingFactors,
 }

@@ -9,7 +9,7 @@ ghost use Rattle.yuv_writer.specs.Parts.{LiesIn};
 use crate::gathering::gather;
 use crate::window::PlaneWindow;
 use hv_io::{Failed, Sink, write_all};
-use picture_buffer::Picture;
+use picture_buffer::Planes;
 
 /// How many bytes a piece has at most: eight rows of the widest picture.
 pub(crate) const ROOM: usize = 65536;
@@ -25,23 +25,23 @@ fn rows_of_piece(width: u32) -> u32
 
 /// Writes the rows of a window in one piece.
 fn write_piece<O: Sink>(
-    picture: &Picture,
+    planes: &Planes,
     c: usize,
     window: &PlaneWindow,
     buffer: &mut [u8],
     out: &mut O,
 ) -> Result<(), Failed>
     requires component { c < 3 }
-    requires inside { LiesIn window.now (plane_width picture.now c) (plane_height picture.now c) }
+    requires inside { LiesIn window.now (plane_width planes.now c) (plane_height planes.now c) }
     requires room { window.now.width * window.now.height ≤ length buffer.old }
     ensures buffer { length buffer.new ≡ length buffer.old }
-    ensures gained { OnOk result (Gains (O.contents out.old) (O.contents out.new) (plane_bytes (samples_of picture.now) c window.now)) }
-    ensures front { OnErr result (GainsPrefix (O.contents out.old) (O.contents out.new) (plane_bytes (samples_of picture.now) c window.now)) }
+    ensures gained { OnOk result (Gains (O.contents out.old) (O.contents out.new) (plane_bytes (samples_of planes.now) c window.now)) }
+    ensures front { OnErr result (GainsPrefix (O.contents out.old) (O.contents out.new) (plane_bytes (samples_of planes.now) c window.now)) }
     ensures quiet { OnOk result (O.faults out.new ≡ O.faults out.old) }
     ensures counted { OnErr result (Rose (O.faults out.old) (O.faults out.new)) }
     ensures grows { O.faults out.old ≤ O.faults out.new }
 {
-    gather(picture, c, window, buffer);
+    gather(planes, c, window, buffer);
     write_all(
         out,
         &buffer[..window.width as usize * window.height as usize],
@@ -50,18 +50,18 @@ fn write_piece<O: Sink>(
 
 /// Writes the rows of a window.
 pub(crate) fn write_plane<O: Sink>(
-    picture: &Picture,
+    planes: &Planes,
     c: usize,
     window: &PlaneWindow,
     buffer: &mut [u8],
     out: &mut O,
 ) -> Result<(), Failed>
     requires component { c < 3 }
-    requires inside { LiesIn window.now (plane_width picture.now c) (plane_height picture.now c) }
+    requires inside { LiesIn window.now (plane_width planes.now c) (plane_height planes.now c) }
     requires room { length buffer.old ≡ 65536 }
     ensures buffer { length buffer.new ≡ 65536 }
-    ensures gained { OnOk result (Gains (O.contents out.old) (O.contents out.new) (plane_bytes (samples_of picture.now) c window.now)) }
-    ensures front { OnErr result (GainsPrefix (O.contents out.old) (O.contents out.new) (plane_bytes (samples_of picture.now) c window.now)) }
+    ensures gained { OnOk result (Gains (O.contents out.old) (O.contents out.new) (plane_bytes (samples_of planes.now) c window.now)) }
+    ensures front { OnErr result (GainsPrefix (O.contents out.old) (O.contents out.new) (plane_bytes (samples_of planes.now) c window.now)) }
     ensures quiet { OnOk result (O.faults out.new ≡ O.faults out.old) }
     ensures counted { OnErr result (Rose (O.faults out.old) (O.faults out.new)) }
     ensures grows { O.faults out.old ≤ O.faults out.new }
@@ -70,7 +70,7 @@ pub(crate) fn write_plane<O: Sink>(
     let mut done = 0;
     while done < window.height {
         let count = rows.min(window.height - done);
-        write_piece(picture, c, &window.below(done, count), buffer, out)?;
+        write_piece(planes, c, &window.below(done, count), buffer, out)?;
         done += count;
     }
     Ok(())

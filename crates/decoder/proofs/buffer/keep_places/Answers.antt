@@ -1,16 +1,16 @@
 use Rattle.std.proofs.Common.{rules, ◌≡◌, ℕ, ◌-◌, ◌≤◌, List, length, sym, refl, subst, arith}
 use Rattle.spec_decoder.specs.Decoder.{is_among}
-use Rattle.decoder.specs.Buffers.{HeldPicture}
+use Rattle.picture_buffer.specs.Pictures.{HeldPicture}
 use Rattle.decoder.proofs.Buffers.{Keeps, held-first, held-next, room-next}
 use Rattle.decoder.proofs.buffer.keep_places.Goals as goal
 
 pub loop-place-init : goal.loop-place-init
 loop-place-init c =
-    let e : c.len-place.result ≡ length c.args.pictures.now.items = search rules in
+    let e : c.len-place.result ≡ length c.args.pictures.now = search rules in
     record {
       inside = omega (arith, e);
       room = omega (arith, e);
-      keeps = subst (λ (n : ℕ). Keeps c.args.places.now c.args.pictures.now.items n c.args.pictures.now.items) (sym e) (held-first c.args.places.now c.args.pictures.now.items);
+      keeps = subst (λ (n : ℕ). Keeps c.args.places.now c.args.pictures.now n c.args.pictures.now) (sym e) (held-first c.args.places.now c.args.pictures.now);
     }
 
 pub loop-place-preserved : goal.loop-place-preserved
@@ -19,7 +19,7 @@ loop-place-preserved c =
     record {
       inside = omega (arith, c.loop-place.invariant.inside);
       room = subst (λ (now : List HeldPicture). n - 1 ≤ length now) (sym c.judge_place.ensures)
-          (room-next c.loop-place.pictures.items n (is_among c.args.places.now (n - 1)) c.loop-place-test.true c.loop-place.invariant.room);
-      keeps = subst (λ (now : List HeldPicture). Keeps c.args.places.now c.args.pictures.now.items (n - 1) now) (sym c.judge_place.ensures)
-          (held-next c.args.places.now c.args.pictures.now.items c.loop-place.pictures.items n (is_among c.args.places.now (n - 1)) c.loop-place-test.true c.loop-place.invariant.inside refl c.loop-place.invariant.keeps);
+          (room-next c.loop-place.pictures n (is_among c.args.places.now (n - 1)) c.loop-place-test.true c.loop-place.invariant.room);
+      keeps = subst (λ (now : List HeldPicture). Keeps c.args.places.now c.args.pictures.now (n - 1) now) (sym c.judge_place.ensures)
+          (held-next c.args.places.now c.args.pictures.now c.loop-place.pictures n (is_among c.args.places.now (n - 1)) c.loop-place-test.true c.loop-place.invariant.inside refl c.loop-place.invariant.keeps);
     }

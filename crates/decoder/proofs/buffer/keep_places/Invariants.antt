@@ -5,9 +5,9 @@ use Rattle.decoder.proofs.buffer.keep_places.Given as goal
 
 abbrev pub invariant-loop-place : goal.invariant-loop-place
 invariant-loop-place l = record {
-  inside : l.place ≤ length l.fn.pictures.items;
-  room : l.place ≤ length l.pictures.items;
-  keeps : Keeps l.places l.fn.pictures.items l.place l.pictures.items;
+  inside : l.place ≤ length l.fn.pictures;
+  room : l.place ≤ length l.pictures;
+  keeps : Keeps l.places l.fn.pictures l.place l.pictures;
 }
 
 abbrev pub decreases-loop-place : goal.decreases-loop-place

@@ -1,6 +1,6 @@
 use Rattle.std.proofs.Common.{subst, sym, refl, get_or}
 use Rattle.spec_decoder.specs.Decoder.{out_at}
-use Rattle.decoder.specs.Buffers.{buffer_of}
+use Rattle.picture_build.specs.Pictures.{buffer_of}
 use Rattle.decoder.specs.Headline.{change_of}
 use Rattle.decoder.specs.Writing.{GoOut}
 use Rattle.decoder.proofs.Writes.{exit-is, leaves-one, leaves-over, leaves-end}

@@ -1,7 +1,7 @@
 -- The pictures at the places so far are written.
 use Rattle.std.proofs.Common.{drop}
 use Rattle.spec_decoder.specs.Decoder.{out_at}
-use Rattle.decoder.specs.Buffers.{buffer_of}
+use Rattle.picture_build.specs.Pictures.{buffer_of}
 use Rattle.decoder.specs.Headline.{change_of}
 use Rattle.decoder.specs.Writing.{Leaves}
 use Rattle.decoder.proofs.buffer.write_places.Given as goal

@@ -1,4 +1,4 @@
-use Rattle.decoder.specs.Buffers.{buffer_of}
+use Rattle.picture_build.specs.Pictures.{buffer_of}
 use Rattle.decoder.proofs.Writes.{end-written, end-over}
 use Rattle.decoder.proofs.writing.write_end.Goals as goal
 

@@ -1,6 +1,6 @@
 use Rattle.std.proofs.Common.{subst, sym}
 use Rattle.picture_plan.specs.Flights.{pictures_of}
-use Rattle.decoder.specs.Buffers.{buffer_of}
+use Rattle.picture_build.specs.Pictures.{buffer_of}
 use Rattle.decoder.specs.Headline.{change_of}
 use Rattle.decoder.specs.Writing.{WritesFirst}
 use Rattle.decoder.proofs.Writes.{exit-is, passes-flight, over-flight}

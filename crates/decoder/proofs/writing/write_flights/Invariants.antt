@@ -1,7 +1,7 @@
 -- The flights so far are decoded.
 use Rattle.std.proofs.Common.{length}
 use Rattle.picture_plan.specs.Flights.{pictures_of}
-use Rattle.decoder.specs.Buffers.{buffer_of}
+use Rattle.picture_build.specs.Pictures.{buffer_of}
 use Rattle.decoder.specs.Headline.{change_of}
 use Rattle.decoder.specs.Writing.{Passes}
 use Rattle.decoder.proofs.writing.write_flights.Given as goal

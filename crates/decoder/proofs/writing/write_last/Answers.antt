@@ -1,4 +1,4 @@
-use Rattle.decoder.specs.Buffers.{buffer_of}
+use Rattle.picture_build.specs.Pictures.{buffer_of}
 use Rattle.picture_plan.specs.Flights.{pictures_of}
 use Rattle.spec_decoder.specs.Decoder.{finished}
 use Rattle.decoder.proofs.Writes.{last-written, last-over}

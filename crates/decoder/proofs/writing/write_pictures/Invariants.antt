@@ -1,6 +1,6 @@
 -- The pictures so far are decoded.
 use Rattle.std.proofs.Common.{drop}
-use Rattle.decoder.specs.Buffers.{buffer_of}
+use Rattle.picture_build.specs.Pictures.{buffer_of}
 use Rattle.decoder.specs.Headline.{change_of}
 use Rattle.decoder.specs.Writing.{Passes}
 use Rattle.decoder.proofs.writing.write_pictures.Given as goal

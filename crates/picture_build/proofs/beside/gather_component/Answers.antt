@@ -1,15 +1,14 @@
 use Rattle.std.proofs.Common.{◌∙◌, sym}
-use Rattle.ctu_build.specs.Held.{held}
 use Rattle.picture_buffer.specs.Planes.{samples_of}
 use Rattle.picture_build.proofs.Known.{gathered, gathered_above}
 use Rattle.picture_build.proofs.beside.gather_component.Goals as goal
 
 pub returns-then-has_left : goal.returns-then-has_left
 returns-then-has_left c = λ none.
-    gathered c.args.unit.now.layout c.args.unit.now.slice c.args.unit.now.address c.part-part.result (samples_of c.args.picture.now) _ _ _ _ c.part-part.ensures.part c.part-part.ensures.room c.part-part.ensures.shape
+    gathered c.args.unit.now.layout c.args.unit.now.slice c.args.unit.now.address c.part-part.result (samples_of c.args.planes.now) _ _ _ _ c.part-part.ensures.part c.part-part.ensures.room c.part-part.ensures.shape
     c.first_above.ensures.value (sym c.if-has_left.true ∙ c.has_left.ensures) c.gather_above.ensures c.gather_left.ensures c.args.c c.part-part.ensures.component none
 
 pub returns-else-has_left : goal.returns-else-has_left
 returns-else-has_left c = λ none.
-    gathered_above c.args.unit.now.layout c.args.unit.now.slice c.args.unit.now.address c.part-part.result (samples_of c.args.picture.now) _ _ _ c.part-part.ensures.part c.part-part.ensures.room c.part-part.ensures.shape
+    gathered_above c.args.unit.now.layout c.args.unit.now.slice c.args.unit.now.address c.part-part.result (samples_of c.args.planes.now) _ _ _ c.part-part.ensures.part c.part-part.ensures.room c.part-part.ensures.shape
     c.first_above.ensures.value (sym c.if-has_left.false ∙ c.has_left.ensures) c.gather_above.ensures c.args.c c.part-part.ensures.component none

@@ -1,7 +1,6 @@
-use Rattle.std.proofs.Common.{rules}
 use Rattle.ctu_build.specs.Held.{held}
 use Rattle.picture_build.proofs.Laid.{laid_component}
-use Rattle.picture_build.proofs.Planes.{covered, part_height, part_width}
+use Rattle.picture_build.proofs.Planes.{covered}
 use Rattle.picture_build.proofs.lines.lay_component.Goals as goal
 
 pub returns-clause-value : goal.returns-clause-value

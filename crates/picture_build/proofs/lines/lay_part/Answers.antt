@@ -1,6 +1,5 @@
-use Rattle.std.proofs.Common.{◌≡◌, ◌<◌, ◌≤◌, ◌+◌, ◌-◌, ◌∙◌, ◌⊎◌, ap, rules, arith}
+use Rattle.std.proofs.Common.{◌<◌, ◌≤◌, ◌-◌, ◌⊎◌, rules, arith}
 use Rattle.ctu_build.specs.Held.{held}
-use Rattle.picture_buffer.specs.Planes.{HasSides, plane_height, plane_width, samples_of}
 use Rattle.picture_build.proofs.Planes.{part_height, part_width}
 use Rattle.picture_build.proofs.Rows.{laid_more}
 use Rattle.std.proofs.lemmas.Bool.Decides.{nat_tests}

@@ -7,5 +7,5 @@ use Rattle.yuv_writer.proofs.gathering.gather.Given as goal
 abbrev pub invariant-loop-row : goal.invariant-loop-row
 invariant-loop-row l = record {
   count : length l.bytes ≡ length l.fn.bytes;
-  told : take (l.window.width * l.row) l.bytes ≡ plane_bytes (samples_of l.picture) l.c (upper l.window l.row);
+  told : take (l.window.width * l.row) l.bytes ≡ plane_bytes (samples_of l.planes) l.c (upper l.window l.row);
 }

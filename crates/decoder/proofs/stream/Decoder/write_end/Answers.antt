@@ -1,4 +1,4 @@
-use Rattle.decoder.specs.Buffers.{buffer_of}
+use Rattle.picture_build.specs.Pictures.{buffer_of}
 use Rattle.decoder.specs.Headline.{change_of}
 use Rattle.decoder.proofs.Takings.{rest-ended}
 use Rattle.decoder.proofs.stream.Decoder.write_end.Goals as goal

@@ -1,5 +1,5 @@
 use Rattle.std.proofs.Common.{false}
-use Rattle.decoder.specs.Buffers.{buffer_of}
+use Rattle.picture_build.specs.Pictures.{buffer_of}
 use Rattle.decoder.specs.Headline.{change_of}
 use Rattle.decoder.proofs.Takings.{rest-halted, rest-by}
 use Rattle.decoder.proofs.stream.Decoder.write_rest.Goals as goal

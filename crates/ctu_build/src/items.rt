@@ -1,0 +1,129 @@
+//! What single items tell.
+
+ghost use Rattle.std.specs.Prelude.{◌≡◌, ◌≤◌};
+ghost use Rattle.std.specs.List.{All};
+ghost use Rattle.ctu_build.specs.Building.{building};
+ghost use Rattle.ctu_build.specs.Held.{held};
+ghost use Rattle.ctu_build.specs.Inter.{IsReady, inter_of};
+ghost use Rattle.ctu_records.specs.Tree.{luma_mode_at, qp_at};
+ghost use Rattle.spec_reconstruction.specs.Inter.{prediction_laid};
+ghost use Rattle.spec_reconstruction.specs.Pulses.{pulses_laid};
+ghost use Rattle.spec_reconstruction.specs.Sound.{AreSound, IsCoded, IsFormat, IsPrediction, IsSound, IsSquare};
+ghost use Rattle.spec_reconstruction.specs.Unit.{block_constructed, transform_predicted};
+ghost use Rattle.spec_transforms.specs.Scaling.{IsParameter};
+
+use crate::blocks::{InUnit, construct};
+use crate::coding::Coding;
+use crate::intra_border::IntraUnit;
+use crate::prediction_units::lay_prediction;
+use crate::pulses::lay_pulses;
+use crate::scratch::Scratch;
+use crate::soundness::{is_coded, is_placed, is_square};
+use crate::source::Source;
+use crate::transform_units::{Modes, predict_unit};
+use crate::unit_samples::UnitSamples;
+use ctu_records::{CodedBlock, Item, PredictionUnit, Records, Square};
+use inter_pred::RefWindow;
+use spec_reconstruction::UnitFormat;
+
+/// Predicts the block of a prediction unit.
+pub(crate) fn build_prediction<V: RefWindow>(
+    source: &Source<'_, V>,
+    prediction: &PredictionUnit,
+    scratch: &mut Scratch,
+    samples: &mut UnitSamples,
+)
+    requires ready { IsReady source.now.format.now source.now.inter (V.reference_at source.now.view.now) }
+    ensures { IsPrediction prediction.now → held samples.new ≡ prediction_laid source.now.format.now (inter_of source.now.inter (V.reference_at source.now.view.now)) prediction.now (held samples.old) }
+{
+    if is_placed(prediction) {
+        lay_prediction(source, prediction, scratch, samples);
+    }
+}
+
+/// Lays the samples of a coding unit with pulse code modulation, which are the next items.
+pub(crate) fn build_pulses(
+    format: &UnitFormat,
+    square: Square,
+    behind: &[Item],
+    scratch: &mut Scratch,
+    samples: &mut UnitSamples,
+)
+    requires format { IsFormat format.now }
+    ensures { IsSquare square → 1 ≤ square.log2_size → All (IsSound format.now) behind.now → held samples.new ≡ pulses_laid format.now square behind.now (held samples.old) }
+{
+    if 1 <= square.log2_size && is_square(square) {
+        lay_pulses(format, square, behind, &mut scratch.samples, samples);
+    }
+}
+
+/// Predicts the blocks of a transform unit where its coding unit is intra.
+pub(crate) fn build_transform<V: RefWindow>(
+    source: &Source<'_, V>,
+    coding: Coding,
+    square: Square,
+    scratch: &mut Scratch,
+    samples: &mut UnitSamples,
+)
+    requires ready { IsReady source.now.format.now source.now.inter (V.reference_at source.now.view.now) }
+    requires mode { coding.chroma_mode ≤ 34 }
+    ensures { AreSound source.now.format.now source.now.records.now.items → IsSquare square → held samples.new ≡ transform_predicted source.now.format.now (inter_of source.now.inter (V.reference_at source.now.view.now)) source.now.records.now.items (building coding (held samples.old)) square }
+{
+    if coding.mode.intra && is_square(square) {
+        let intra = IntraUnit {
+            format: source.format,
+            motion: source.inter.motion,
+        };
+        let modes = modes_of(source.records, coding, square);
+        predict_unit(&intra, modes, square, scratch, samples);
+    }
+}
+
+/// Adds the residuals of a coded block, whose levels are the next items.
+pub(crate) fn build_block<V: RefWindow>(
+    source: &Source<'_, V>,
+    coding: Coding,
+    block: CodedBlock,
+    behind: &[Item],
+    scratch: &mut Scratch,
+    samples: &mut UnitSamples,
+)
+    requires ready { IsReady source.now.format.now source.now.inter (V.reference_at source.now.view.now) }
+    ensures { AreSound source.now.format.now source.now.records.now.items → IsCoded block → held samples.new ≡ block_constructed source.now.format.now source.now.records.now.items coding.mode block behind.now (held samples.old) }
+{
+    if is_coded(block) {
+        let coded = in_unit(source.records, source.format, coding, block);
+        construct(source.format, coded, behind, scratch, samples);
+    }
+}
+
+/// The modes of a transform unit's blocks.
+fn modes_of(records: &Records, coding: Coding, square: Square) -> Modes
+    requires { IsSquare square }
+    ensures luma { luma_mode_at records.now.items square.x square.y ≤ 34 → result.luma ≡ luma_mode_at records.now.items square.x square.y }
+    ensures range { result.luma ≤ 34 }
+    ensures chroma { result.chroma ≡ coding.chroma_mode }
+{
+    let luma = records.luma_mode(usize::from(square.x), usize::from(square.y));
+    Modes {
+        luma: luma.min(34),
+        chroma: coding.chroma_mode,
+    }
+}
+
+/// A block in its coding unit.
+fn in_unit(records: &Records, format: &UnitFormat, coding: Coding, block: CodedBlock) -> InUnit
+    requires format { IsFormat format.now }
+    requires block { IsCoded block }
+    ensures block { result.block ≡ block }
+    ensures mode { result.mode ≡ coding.mode }
+    ensures qp { IsParameter format.now.luma_depth (qp_at records.now.items block.x block.y) → result.qp ≡ qp_at records.now.items block.x block.y }
+    ensures range { IsParameter format.now.luma_depth result.qp }
+{
+    let qp = records.qp(usize::from(block.x), usize::from(block.y));
+    InUnit {
+        block,
+        mode: coding.mode,
+        qp: qp.min(51 + 6 * (format.luma_depth - 8)),
+    }
+}

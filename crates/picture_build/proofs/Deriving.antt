@@ -1,0 +1,54 @@
+-- The motion of a unit over that of a picture of the buffer, and the ranges that deriving asks for.
+use Rattle.std.proofs.Common.{◌≡◌, ℕ, ◌≤◌, List, Option, get_or, option_map, ap, sym, arith}
+use Rattle.std.specs.List.{All}
+use Rattle.ctu_records.specs.declared.item.Item.{Item}
+use Rattle.ctu_records.specs.declared.item.Item.TheVariants.{Unit, Luma, Chroma, Prediction, Pcm, Sample, Transform, Delta, Block, Level}
+use Rattle.ctu_records.specs.declared.prediction.PartMode.{PartMode}
+use Rattle.ctu_records.specs.declared.prediction.PartMode.TheVariants.{Whole, TwoNxN, Nx2N, NxN, TwoNxnU, TwoNxnD, NLx2N, NRx2N}
+use Rattle.ctu_records.specs.declared.prediction.PredictionUnit.{PredictionUnit}
+use Rattle.picture_buffer.specs.Pictures.{HeldPicture}
+use Rattle.spec_motion.specs.Derivation.{IsPlaced}
+use Rattle.spec_motion.specs.Units.{IsPlacedItem}
+use Rattle.spec_picture_samples.specs.References.{motions_in, motions_of}
+use Rattle.spec_reconstruction.specs.declared.format.UnitFormat.{UnitFormat}
+use Rattle.spec_reconstruction.specs.Sound.{AreSound, IsPrediction, IsSound}
+use Rattle.spec_slice_data.specs.Inter.{part_count}
+use Rattle.picture_build.specs.Pictures.{buffer_of, decoded_of}
+use Rattle.picture_build.proofs.Referring.{held_at}
+use Rattle.std.proofs.Common.{slice_get}
+
+-- the motion of the picture at a place of the buffer
+pub motions_are : (bases : List HeldPicture) (place : ℕ) (o : Option HeldPicture) → slice_get bases place ≡ o → motions_in (option_map decoded_of o) ≡ motions_of (buffer_of bases) place
+motions_are bases place o e = ap motions_in (sym (held_at bases place o e))
+
+few_parts : (mode : PartMode) → part_count mode ≤ 4
+unfolding part_count
+few_parts Whole = omega arith
+few_parts TwoNxN = omega arith
+few_parts Nx2N = omega arith
+few_parts NxN = omega arith
+few_parts TwoNxnU = omega arith
+few_parts TwoNxnD = omega arith
+few_parts NLx2N = omega arith
+few_parts NRx2N = omega arith
+
+placed : (unit : PredictionUnit) → IsPrediction unit → IsPlaced unit
+placed unit is =
+    let few = few_parts unit.part_mode in
+    record { few = is.placed.size; column = is.placed.x; row = is.placed.y; part = omega (arith, few, is.part) }
+
+item_placed : (format : UnitFormat) (item : Item) → IsSound format item → IsPlacedItem item
+item_placed format (Unit unit) is = tt
+item_placed format (Luma luma) is = tt
+item_placed format (Chroma mode) is = tt
+item_placed format (Prediction unit) is = placed unit is
+item_placed format (Pcm square) is = tt
+item_placed format (Sample value) is = tt
+item_placed format (Transform unit) is = tt
+item_placed format (Delta delta) is = tt
+item_placed format (Block block) is = tt
+item_placed format (Level place value) is = tt
+
+-- prediction units that are sound lie in the unit
+pub all_placed : (format : UnitFormat) (items : List Item) → AreSound format items → All IsPlacedItem items
+all_placed format items sound = λ k d lt. item_placed format (get_or items k d) (sound.each k d lt)

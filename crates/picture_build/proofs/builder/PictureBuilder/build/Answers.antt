@@ -1,0 +1,44 @@
+use Rattle.std.proofs.Common.{◌≡◌, ◌≤◌, subst, rules}
+use Rattle.ctu_build.specs.Held.{held}
+use Rattle.ctu_motion.specs.Held.{held as motion_held}
+use Rattle.picture_buffer.specs.Motion.{motions_of}
+use Rattle.picture_buffer.specs.Planes.{samples_of}
+use Rattle.picture_trees.specs.Given.{tree_unit}
+use Rattle.spec_picture_data.specs.Picture.{TreeUnit}
+use Rattle.spec_picture_data.specs.Shapes.{picture_shape}
+use Rattle.spec_picture_motion.specs.Field.{first_row}
+use Rattle.spec_picture_samples.specs.Built.{unit_added}
+use Rattle.spec_picture_samples.specs.Format.{unit_format}
+use Rattle.spec_reconstruction.specs.Sound.{AreSound}
+use Rattle.picture_build.specs.Building.{Building, built_by}
+use Rattle.picture_build.specs.Pictures.{buffer_of}
+use Rattle.picture_build.proofs.Added.{unit_below, unit_is}
+use Rattle.picture_build.proofs.builder.PictureBuilder.build.Goals as goal
+
+pub returns-in-Some-clause-value : goal.returns-in-Some-clause-value
+returns-in-Some-clause-value g c = λ number.
+    let old : Building = record { plan = c.self.inside.plan.now; planes = c.self.inside.planes; motion = c.self.inside.motion } in
+    let unit : TreeUnit = tree_unit number c.args.address c.args.records.now in
+    let bases : c.self.inside.bases.now ≡ g.B.Buffer.pictures = search rules in
+    let layout : c.self.inside.layout ≡ picture_shape c.self.inside.plan.now.sps c.self.inside.plan.now.pps = search rules in
+    let format : c.set_slice.new.format ≡ unit_format c.self.inside.plan.now.sps c.self.inside.plan.now.pps c.args.segment.now.header.slice = search rules in
+    let Q : Building → Type 0 = λ b. AreSound (unit_format b.plan.sps b.plan.pps c.args.segment.now.header.slice) c.args.records.now.items
+    → record { samples = samples_of c.lay_unit.new.planes; motions = motions_of c.derive.new.motion.field } ≡ unit_added (buffer_of g.B.Buffer.pictures) b.plan c.args.segment.now unit (built_by b) in
+    subst Q c.self.view_is (λ sound.
+    unit_is c.self.inside.bases.now g.B.Buffer.pictures c.self.inside.plan.now c.args.segment.now unit c.self.inside.layout c.slice_address.result c.set_slice.new.format
+    (held c.gather.new.samples) (held c.build_unit.new.samples) (built_by old) (samples_of c.lay_unit.new.planes) (motion_held c.derive.new.motion.last) (motions_of c.derive.new.motion.field)
+    bases layout c.slice_address.ensures format sound (c.derive.ensures.last number) (c.derive.ensures.value number) c.gather.ensures
+    (c.build_unit.ensures number (motions_of c.self.inside.motion.field)) c.lay_unit.ensures.value)
+
+pub returns-in_default-clause-value : goal.returns-in_default-clause-value
+returns-in_default-clause-value g c = λ number.
+    let old : Building = record { plan = c.self.inside.plan.now; planes = c.self.inside.planes; motion = c.self.inside.motion } in
+    let unit : TreeUnit = tree_unit number c.args.address c.args.records.now in
+    let bases : c.self.inside.bases.now ≡ g.B.Buffer.pictures = search rules in
+    let layout : c.self.inside.layout ≡ picture_shape c.self.inside.plan.now.sps c.self.inside.plan.now.pps = search rules in
+    let past : c.self.inside.layout.down ≤ first_row c.self.inside.layout c.args.address = search rules in
+    let Q : Building → Type 0 = λ b. AreSound (unit_format b.plan.sps b.plan.pps c.args.segment.now.header.slice) c.args.records.now.items
+    → record { samples = samples_of c.self.inside.planes; motions = motions_of c.derive.new.motion.field } ≡ unit_added (buffer_of g.B.Buffer.pictures) b.plan c.args.segment.now unit (built_by b) in
+    subst Q c.self.view_is (λ sound.
+    unit_below c.self.inside.bases.now g.B.Buffer.pictures c.self.inside.plan.now c.args.segment.now unit c.self.inside.layout (built_by old) (motions_of c.derive.new.motion.field)
+    bases layout sound (c.derive.ensures.value number) c.in_default.ensures.shape past)
