@@ -1,6 +1,6 @@
 -- The ranges of what is read of a unit, for which its samples are told: what its syntax and the sets that it belongs to
 -- give.
-use Rattle.std.specs.Prelude.{◌≡◌, ℕ, ◌+◌, ◌-◌, ◌*◌, ◌^◌, ◌<◌, ◌≤◌, List, Option, Some, None, ⊤}
+use Rattle.std.specs.Prelude.{◌≡◌, ℕ, ◌+◌, ◌-◌, ◌*◌, ◌^◌, ◌<◌, ◌≤◌, List, [], ◌∷◌, length, slice_index_or, Option, Some, None, ⊤}
 use Rattle.std.specs.List.{All}
 use Rattle.ctu_records.specs.declared.item.Item.{Item}
 use Rattle.ctu_records.specs.declared.item.Item.TheVariants.{Unit, Luma, Chroma, Prediction, Pcm, Sample, Transform, Delta, Block, Level}
@@ -14,6 +14,7 @@ use Rattle.ctu_records.specs.declared.prediction.PredictionUnit.{PredictionUnit}
 use Rattle.ctu_records.specs.declared.prediction.VectorSyntax.{VectorSyntax}
 use Rattle.ctu_records.specs.Tree.{IsPlaced, luma_mode_at, qp_at}
 use Rattle.spec_reconstruction.specs.declared.format.UnitFormat.{UnitFormat}
+use Rattle.spec_reconstruction.specs.Pulses.{sample_of}
 use Rattle.spec_slice_data.specs.Inter.{part_count}
 use Rattle.spec_slice_data.specs.Residual.{samples_of_place}
 use Rattle.spec_transforms.specs.Scaling.{IsDepth, IsParameter}
@@ -87,8 +88,33 @@ IsSound format (Delta delta) = ⊤
 IsSound format (Block block) = IsCoded block
 IsSound format (Level place value) = ⊤
 
+-- the items behind a square by pulse code modulation begin with its samples: those of luma have as many bits as are read
+-- of each, and so have those of chroma
+pub record HasPulses (format : UnitFormat) (square : Square) (items : List Item) : Type 0 where
+  pub count : 24 * 4 ^ square.log2_size ≤ length items
+  pub luma : (k : ℕ) → k < 16 * 4 ^ square.log2_size → sample_of (slice_index_or items k (Sample 0)) < 2 ^ format.pcm_luma_bits
+  pub chroma : (k : ℕ) → 16 * 4 ^ square.log2_size ≤ k → k < 24 * 4 ^ square.log2_size → sample_of (slice_index_or items k (Sample 0)) < 2 ^ format.pcm_chroma_bits
+
+abbrev pub BeginsPulses : UnitFormat → Item → List Item → Type 0
+BeginsPulses format (Unit unit) items = ⊤
+BeginsPulses format (Luma luma) items = ⊤
+BeginsPulses format (Chroma mode) items = ⊤
+BeginsPulses format (Prediction unit) items = ⊤
+BeginsPulses format (Pcm square) items = HasPulses format square items
+BeginsPulses format (Sample value) items = ⊤
+BeginsPulses format (Transform unit) items = ⊤
+BeginsPulses format (Delta delta) items = ⊤
+BeginsPulses format (Block block) items = ⊤
+BeginsPulses format (Level place value) items = ⊤
+
+-- each square by pulse code modulation has its samples behind it
+unfoldable pub ArePulses : UnitFormat → List Item → Type 0
+ArePulses format [] = ⊤
+ArePulses format (item ∷ items) = BeginsPulses format item items × ArePulses format items
+
 -- the items of a unit
 pub record AreSound (format : UnitFormat) (items : List Item) : Type 0 where
   pub each : All (IsSound format) items
+  pub pulses : ArePulses format items
   pub modes : (i j : ℕ) → luma_mode_at items i j ≤ 34
   pub parameters : (i j : ℕ) → IsParameter format.luma_depth (qp_at items i j)

@@ -1,5 +1,6 @@
 pub mod Formats
 pub mod Items
+pub mod Pulses
 pub mod Modes
 pub mod Quantization
 pub mod Squares

@@ -88,7 +88,7 @@ module _ (format : UnitFormat) (greatest : ℕ) where
       then_gives
       (luma_mode-gives most_probable (candidates (mode_left ctu square.x square.y) (mode_above ctu square.x square.y))
       (candidates-small _ _ (mode_left-small ctu square.x square.y kept) (mode_above-small ctu square.x square.y kept)))
-      (λ mode small. give_gives _ (added_kept format greatest ctu (Luma (record { square = square; mode = mode })) kept tt small tt))
+      (λ mode small. give_gives _ (added_kept format greatest ctu (Luma (record { square = square; mode = mode })) kept tt small tt tt))
 
   blocks_kept : (square : Square) (flag_0 flag_1 flag_2 flag_3 : Bool) (ctu : Ctu) → Kept ctu → Gives (IsKept format greatest) (luma_blocks square flag_0 flag_1 flag_2 flag_3 ctu)
   unfolding luma_blocks

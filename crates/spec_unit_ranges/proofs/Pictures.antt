@@ -110,6 +110,8 @@ module _ (p : PicturePlan) (sps : IsSps p.sps) (t : SegmentPlan) where
         transform = omega (arith, most);
         luma_bits = pcm.luma_bits;
         chroma_bits = pcm.chroma_bits;
+        luma_pulses = refl;
+        chroma_pulses = refl;
         least = pcm.least;
         greatest = pcm.greatest;
         coding = omega arith;
@@ -176,6 +178,7 @@ module _ (p : PicturePlan) (sps : IsSps p.sps) (t : SegmentPlan) where
   unfolding unit_format
   unit-sound unit kept = record {
     each = kept.each;
+    pulses = kept.pulses;
     modes = kept.modes;
     parameters = λ i j. let below = kept.parameters i j in omega (arith, below);
   }

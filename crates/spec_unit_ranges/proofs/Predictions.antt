@@ -108,7 +108,7 @@ module _ (format : UnitFormat) (greatest : ℕ) (inter : InterSyntax) (fits : Fi
 
   pub part_kept : (part : ℕ) (told : MotionSyntax) (ctu : Ctu) → part < part_count mode → IsMotion told → IsKept format greatest ctu → IsKept format greatest (with_part start.square mode part told ctu)
   part_kept part told ctu below is kept =
-      added_kept format greatest ctu (Prediction (unit_of_part start.square mode part told)) kept (record { placed = placed; size = size; part = below; motion = is }) tt tt
+      added_kept format greatest ctu (Prediction (unit_of_part start.square mode part told)) kept (record { placed = placed; size = size; part = below; motion = is }) tt tt tt
 
   unit_kept : (part : ℕ) (ctu : Ctu) → part < part_count mode → Kept ctu → Gives Kept (prediction_unit inter start mode part ctu)
   unfolding prediction_unit

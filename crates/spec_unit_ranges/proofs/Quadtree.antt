@@ -3,7 +3,7 @@ use Rattle.std.proofs.Common.{◌≡◌, ℕ, zero, suc, ◌+◌, ◌-◌, ◌*�
 use Rattle.std.specs.Prelude.{◌==◌, ◌&&◌, not, nat_le, nat_lt}
 use Rattle.std.proofs.Math.Nat.{pow-le-pow_right, mul-le-mul_left}
 use Rattle.std.proofs.lemmas.Bool.{and_parts, leb-true, ltb-true, eqb-false}
-use Rattle.ctu_records.specs.declared.item.Item.TheVariants.{Chroma, Pcm, Sample}
+use Rattle.ctu_records.specs.declared.item.Item.TheVariants.{Chroma, Pcm}
 use Rattle.ctu_records.specs.declared.item.Square.{Square}
 use Rattle.ctu_records.specs.declared.offset.Sao.{Sao}
 use Rattle.ctu_records.specs.declared.prediction.PartMode.{PartMode}
@@ -20,11 +20,12 @@ use Rattle.spec_slice_data.specs.declared.syntax.UnitSyntax.{UnitSyntax}
 use Rattle.spec_slice_data.specs.Inter.{with_part}
 use Rattle.spec_slice_data.specs.Modes.{upper_left, upper_right, lower_left, lower_right}
 use Rattle.spec_slice_data.specs.Quantization.{grouped}
-use Rattle.spec_slice_data.specs.Tree.{pcm_sample, pcm_samples, pcm_unit, pcm_flag, split_cu_flag, begun_unit, unit_tree, intra_syntax, intra_unit, intra_body, skipped_unit, inter_syntax, parts_and_tree, inter_unit, unit_body, unit_start, coding_unit, split_or_unit, where_reached, coding_quadtree, whole_unit, coding_tree_unit, unit_and_end}
-use Rattle.spec_unit_ranges.proofs.Formats.{Gives, give_gives, then_gives, after_any, always, when_gives, times_gives, sample_gives}
-use Rattle.spec_unit_ranges.proofs.Items.{IsKept, added_kept, sao_kept}
+use Rattle.spec_slice_data.specs.Tree.{pcm_unit, pcm_flag, split_cu_flag, begun_unit, unit_tree, intra_syntax, intra_unit, intra_body, skipped_unit, inter_syntax, parts_and_tree, inter_unit, unit_body, unit_start, coding_unit, split_or_unit, where_reached, coding_quadtree, whole_unit, coding_tree_unit, unit_and_end}
+use Rattle.spec_unit_ranges.proofs.Formats.{Gives, give_gives, then_gives, after_any, always, when_gives}
+use Rattle.spec_unit_ranges.proofs.Items.{IsKept, added_read, read_of, added_kept, sao_kept}
 use Rattle.spec_unit_ranges.proofs.Modes.{luma_modes_kept, chroma_modes-gives}
 use Rattle.spec_unit_ranges.proofs.Predictions.{FitsInter, FitsIn, part_mode_gives, merged_gives, motion_gives, some_parts, part_kept, later_kept}
+use Rattle.spec_unit_ranges.proofs.Pulses.{samples_run, pulses_kept}
 use Rattle.spec_unit_ranges.proofs.Quantization.{grouped_kept, begun_kept}
 use Rattle.spec_unit_ranges.proofs.Squares.{IsInside, whole_inside, upper_left_inside, upper_right_inside, lower_left_inside, lower_right_inside, square_inside}
 use Rattle.spec_unit_ranges.proofs.Transforms.{transform_tree_kept}
@@ -36,6 +37,8 @@ pub record Fits (format : UnitFormat) (syntax : CtuSyntax) : Type 0 where
   pub transform : syntax.log2_max_transform ≤ 3
   pub luma_bits : syntax.pcm.luma_bits ≤ 8
   pub chroma_bits : syntax.pcm.chroma_bits ≤ 8
+  pub luma_pulses : syntax.pcm.luma_bits ≡ format.pcm_luma_bits
+  pub chroma_pulses : syntax.pcm.chroma_bits ≡ format.pcm_chroma_bits
   pub least : syntax.pcm.enabled ≡ true → 1 ≤ syntax.pcm.log2_least
   pub greatest : syntax.pcm.log2_greatest ≤ 3
   pub coding : 1 ≤ syntax.log2_min_coding
@@ -63,19 +66,15 @@ module _ (format : UnitFormat) (syntax : CtuSyntax) (fits : Fits format syntax) 
     chroma = shifted-small format.chroma_depth format.pcm_chroma_bits most value fits.chroma few below;
   }
 
-  samples_kept : (bits count : ℕ) (ctu : Ctu) → bits ≤ 8 → Kept ctu → Gives Kept (pcm_samples bits count ctu)
-  samples_kept bits count ctu few kept =
-      times_gives (pcm_sample bits)
-      (λ i c c_kept. then_gives (sample_gives bits) (λ value below. give_gives (added c (Sample value)) (added_kept format (51 + syntax.qp_offset) c (Sample value) c_kept (pulse bits value few below) tt tt)))
-      0 count ctu kept
-
   pcm_kept : (square : Square) (ctu : Ctu) → IsSquare square → 1 ≤ square.log2_size → Kept ctu → Gives Kept (pcm_unit syntax.pcm square ctu)
   unfolding pcm_unit
   pcm_kept square ctu inside some kept =
+      let greatest = 51 + syntax.qp_offset in
       after_any (λ began.
-      then_gives (samples_kept syntax.pcm.luma_bits (16 * 4 ^ square.log2_size) (added ctu (Pcm square)) fits.luma_bits (added_kept format (51 + syntax.qp_offset) ctu (Pcm square) kept (inside, some) tt tt)) (λ luma luma_kept.
-      then_gives (samples_kept syntax.pcm.chroma_bits (8 * 4 ^ square.log2_size) luma fits.chroma_bits luma_kept) (λ chroma chroma_kept.
-      after_any (λ ended. give_gives chroma chroma_kept))))
+      then_gives (samples_run format greatest syntax.pcm.luma_bits (16 * 4 ^ square.log2_size) (added ctu (Pcm square)) (λ value below. pulse syntax.pcm.luma_bits value fits.luma_bits below)
+      (added_read format greatest ctu (Pcm square) (read_of format greatest ctu kept) (inside, some) tt tt)) (λ luma first.
+      then_gives (samples_run format greatest syntax.pcm.chroma_bits (8 * 4 ^ square.log2_size) luma (λ value below. pulse syntax.pcm.chroma_bits value fits.chroma_bits below) first.read) (λ chroma second.
+      after_any (λ ended. give_gives chroma (pulses_kept format greatest square ctu luma chroma syntax.pcm.luma_bits syntax.pcm.chroma_bits kept fits.luma_pulses fits.chroma_pulses first second)))))
 
   pcm_flag-gives : (split : Bool) (n : ℕ) → Gives (IsPcmSize n) (pcm_flag syntax.pcm split n)
   pcm_flag-gives split n =
@@ -107,7 +106,7 @@ module _ (format : UnitFormat) (syntax : CtuSyntax) (fits : Fits format syntax) 
       then_gives (luma_modes_kept format (51 + syntax.qp_offset) split start.square ctu kept) (λ predicted predicted_kept.
       then_gives (chroma_modes-gives format (51 + syntax.qp_offset) start.square.x start.square.y predicted predicted_kept) (λ mode small.
       tree_kept n (intra_syntax start split mode) (added predicted (Chroma mode)) inside
-      (added_kept format (51 + syntax.qp_offset) predicted (Chroma mode) predicted_kept small tt tt)))
+      (added_kept format (51 + syntax.qp_offset) predicted (Chroma mode) predicted_kept small tt tt tt)))
 
   intra_body_kept : (n : ℕ) (start : UnitStart) (ctu : Ctu) → IsInside n start.square → Kept ctu → Gives Kept (intra_body syntax start ctu)
   unfolding intra_body

@@ -56,12 +56,12 @@ module _ (format : UnitFormat) (greatest : ℕ) where
   begun_kept start ctu kept =
       let q = kept.quantized in
       added_kept format greatest (with_quantization ctu (unit_begun ctu.quantization)) (Unit (unit_at start ctu))
-      (quantized_kept format greatest ctu (unit_begun ctu.quantization) kept (record { last = q.qp; predicted = q.predicted; qp = q.qp })) tt tt q.qp
+      (quantized_kept format greatest ctu (unit_begun ctu.quantization) kept (record { last = q.qp; predicted = q.predicted; qp = q.qp })) tt tt q.qp tt
 
   delta_kept : (square : Square) (size : ℕ) (negative : Bool) (qp : ℕ) (ctu : Ctu) → qp ≤ greatest → IsKept format greatest ctu → IsKept format greatest (with_delta ctu square size negative qp)
   delta_kept square size negative qp ctu small kept =
       added_kept format greatest (with_quantization ctu (delta_coded ctu.quantization qp)) (Delta (record { square = square; delta = signed size negative; qp = qp }))
-      (quantized_kept format greatest ctu (delta_coded ctu.quantization qp) kept (record { last = small; predicted = kept.quantized.predicted; qp = small })) tt tt small
+      (quantized_kept format greatest ctu (delta_coded ctu.quantization qp) kept (record { last = small; predicted = kept.quantized.predicted; qp = small })) tt tt small tt
 
 -- cu_qp_delta of a coding unit
 pub delta_where_kept : (format : UnitFormat) (syntax : CtuSyntax) (square : Square) (there : Bool) (ctu : Ctu) → IsKept format (51 + syntax.qp_offset) ctu

@@ -43,13 +43,13 @@ split_gives syntax unit n depth small =
 module _ (format : UnitFormat) (greatest : ℕ) where
   levels_kept : (log2 : ℕ) (levels : List Level) (ctu : Ctu) → IsKept format greatest ctu → IsKept format greatest (fold (with_level log2) ctu levels)
   levels_kept log2 [] ctu kept = kept
-  levels_kept log2 (level ∷ levels) ctu kept = levels_kept log2 levels (with_level log2 ctu level) (added_kept format greatest ctu (item.Level _ level.value) kept tt tt tt)
+  levels_kept log2 (level ∷ levels) ctu kept = levels_kept log2 levels (with_level log2 ctu level) (added_kept format greatest ctu (item.Level _ level.value) kept tt tt tt tt)
 
   residual_kept : (block : TransformBlock) (residual : Residual) (ctu : Ctu) → IsBlock block → IsKept format greatest ctu → IsKept format greatest (with_residual block residual ctu)
   unfolding with_residual
   residual_kept block residual ctu inside kept =
       levels_kept block.log2_size residual.levels (added ctu (item.Block (coded block residual.transform_skip)))
-      (added_kept format greatest ctu (item.Block (coded block residual.transform_skip)) kept (inside residual.transform_skip) tt tt)
+      (added_kept format greatest ctu (item.Block (coded block residual.transform_skip)) kept (inside residual.transform_skip) tt tt tt)
 
 module _ (format : UnitFormat) (syntax : CtuSyntax) where
   abbrev Kept : Ctu → Type 0
@@ -90,7 +90,7 @@ module _ (format : UnitFormat) (syntax : CtuSyntax) where
   unfolding transform_unit
   unit_kept unit flags depth square ctu inside kept =
       after_any (λ cbf_luma. blocks_kept unit cbf_luma flags square (added ctu (item.Transform (transform square depth cbf_luma flags))) inside
-      (added_kept format (51 + syntax.qp_offset) ctu (item.Transform (transform square depth cbf_luma flags)) kept inside tt tt))
+      (added_kept format (51 + syntax.qp_offset) ctu (item.Transform (transform square depth cbf_luma flags)) kept inside tt tt tt))
 
   split_kept : (n : ℕ) (quarter : ChromaFlags → Square → Ctu → Tree Ctu) → ((flags : ChromaFlags) (s : Square) (c : Ctu) → IsInside n s → Kept c → Gives Kept (quarter flags s c)) → syntax.log2_max_transform ≤ 3
       → (unit : UnitSyntax) (above : ChromaFlags) (depth : ℕ) (square : Square) (ctu : Ctu) → IsInside (suc n) square → Kept ctu → Gives Kept (split_or_blocks quarter syntax unit above depth square ctu)

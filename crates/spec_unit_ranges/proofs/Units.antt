@@ -14,7 +14,7 @@ use Rattle.spec_cabac.specs.Engine.{Engine, start_at}
 use Rattle.spec_cabac.specs.Bins.{State, Tree, read}
 use Rattle.spec_bits.specs.Bits.{bits}
 use Rattle.spec_reconstruction.specs.declared.format.UnitFormat.{UnitFormat}
-use Rattle.spec_reconstruction.specs.Sound.{IsSound}
+use Rattle.spec_reconstruction.specs.Sound.{IsSound, ArePulses}
 use Rattle.spec_slice_data.specs.declared.syntax.CtuSyntax.{CtuSyntax}
 use Rattle.spec_slice_data.specs.declared.syntax.End.{End}
 use Rattle.spec_slice_data.specs.Offset.{no_sao}
@@ -57,9 +57,10 @@ module _ (format : UnitFormat) (greatest : ℕ) where
   -- a unit of which nothing is read
   fresh_kept : (size : ℕ) (left above : List Side) (sao : Sao) (q : Quantization) → IsQuantized greatest q → ((k : ℕ) → IsSide (slice_index_or left k no_side))
       → IsKept format greatest (record { size = size; left = left; above = above; sao = sao; quantization = q; items = [] })
-  unfolding luma_mode_at qp_at
+  unfolding luma_mode_at qp_at ArePulses
   fresh_kept size left above sao q quantized small = record {
     each = All-nil (IsSound format);
+    pulses = tt;
     modes = λ i j. omega arith;
     parameters = λ i j. omega arith;
     quantized = quantized;
@@ -130,6 +131,8 @@ module _ (format : UnitFormat) (common : CtuSyntax) (fits : Fits format common) 
     transform = fits.transform;
     luma_bits = fits.luma_bits;
     chroma_bits = fits.chroma_bits;
+    luma_pulses = fits.luma_pulses;
+    chroma_pulses = fits.chroma_pulses;
     least = fits.least;
     greatest = fits.greatest;
     coding = fits.coding;

@@ -1,0 +1,5 @@
+pub mod Means
+pub mod Intra
+pub mod Laying
+pub mod Units
+pub mod Pictures

@@ -1,0 +1,14 @@
+-- Samples in the range of their bit depth.
+use Rattle.std.specs.Prelude.{ℕ, ◌^◌, ◌<◌, Option, Some, None, ⊤}
+use Rattle.spec_reconstruction.specs.declared.format.UnitFormat.{UnitFormat}
+use Rattle.spec_reconstruction.specs.Known.{Known}
+use Rattle.spec_reconstruction.specs.Parameters.{depth_of}
+
+-- a sample of so many bits, where there is one
+abbrev pub IsInRange : ℕ → Option ℕ → Type 0
+IsInRange depth None = ⊤
+IsInRange depth (Some sample) = sample < 2 ^ depth
+
+-- all that are known of a unit and beside it
+abbrev pub AreInRange : UnitFormat → Known → Type 0
+AreInRange format known = (c column line : ℕ) → IsInRange (depth_of format c) (known c column line)

@@ -1,0 +1,7 @@
+//! The samples of a picture before its loop filters are in the range of their bit depth (H.265 8.4.4.2, 8.5.3.3.4,
+//! 8.6.5).
+#![tactic(auto)]
+
+mod laws;
+
+pub use laws::{built_samples_are_in_range, references_in_range_are_not_held};
