@@ -9,6 +9,7 @@ ghost use Rattle.decoder.specs.Pictures.{Enters};
 ghost use Rattle.decoder.specs.Writing.{GoOut};
 
 use crate::picture::decode_picture;
+use header_types::PictureFormat;
 use hv_base::Outcome;
 use hv_io::Sink;
 use picture_buffer::{Bases, Picture};
@@ -23,6 +24,8 @@ use yuv_writer::write_picture;
 pub(crate) struct Buffer {
     alloc: Global,
     pictures: Bases,
+    /// Pictures that left it, in whose memory later ones of their size are kept.
+    spares: Bases,
 }
 
 impl Model for Buffer {
@@ -42,6 +45,7 @@ impl Buffer {
         Buffer {
             alloc,
             pictures: Bases::new(alloc),
+            spares: Bases::new(alloc),
         }
     }
 
@@ -49,7 +53,8 @@ impl Buffer {
     pub(crate) fn decode(&mut self, picture: &PicturePlan) -> Result<(), Outcome>
         ensures { Enters self.old self.new (decoded_picture (buffer_of self.old) picture.now) result }
     {
-        let decoded = decode_picture(self.alloc, picture, &self.pictures)?;
+        let spare = take_spare(self.alloc, &mut self.spares, &picture.sps.fields().format);
+        let decoded = decode_picture(self.alloc, picture, &self.pictures, spare)?;
         match self.pictures.push(decoded) {
             Ok(()) => Ok(()),
             Err(_) => Err(Outcome::Memory),
@@ -63,12 +68,32 @@ impl Buffer {
         write_places(&self.pictures, places, out)
     }
 
-    /// Keeps the pictures at these places, in the buffer's order, and frees the others.
+    /// Keeps the pictures at these places, in the buffer's order. The others are spare.
     pub(crate) fn keep(&mut self, places: &[u32])
         ensures { buffer_of self.new ≡ kept_from places.now 0 (buffer_of self.old) }
     {
-        keep_places(&mut self.pictures, places);
+        keep_places(&mut self.pictures, places, &mut self.spares);
     }
+}
+
+/// Takes the last spare out. Where it isn't of the size of this format all are let go of.
+fn take_spare(alloc: Global, spares: &mut Bases, format: &PictureFormat) -> Option<Picture> {
+    let count = spares.len();
+    if count == 0 {
+        return None;
+    }
+    let spare = spares.remove(count - 1);
+    if has_size(&spare, format) {
+        return Some(spare);
+    }
+    *spares = Bases::new(alloc);
+    None
+}
+
+/// Whether a picture has the luma sides of a format.
+fn has_size(picture: &Picture, format: &PictureFormat) -> bool {
+    picture.format().pic_width_in_luma_samples == format.pic_width_in_luma_samples
+        && picture.format().pic_height_in_luma_samples == format.pic_height_in_luma_samples
 }
 
 fn write_places<O: Sink>(pictures: &Bases, places: &[u32], out: &mut O) -> Result<(), Outcome>
@@ -99,23 +124,23 @@ fn write_out<O: Sink>(picture: &Picture, out: &mut O) -> Result<(), Outcome>
     }
 }
 
-fn keep_places(pictures: &mut Bases, places: &[u32])
+fn keep_places(pictures: &mut Bases, places: &[u32], spares: &mut Bases)
     ensures { buffer_of pictures.new ≡ kept_from places.now 0 (buffer_of pictures.old) }
 {
     let mut place = pictures.len();
     while 0 < place {
         place -= 1;
-        judge_place(pictures, place, places);
+        judge_place(pictures, place, places, spares);
     }
 }
 
-/// Takes the picture at a place out, unless the place is one of these.
-fn judge_place(pictures: &mut Bases, place: usize, places: &[u32])
+/// Takes the picture at a place out, unless the place is one of these. It is spare then, or dropped for want of memory.
+fn judge_place(pictures: &mut Bases, place: usize, places: &[u32], spares: &mut Bases)
     requires { place < length pictures.old }
     ensures { pictures.new ≡ (if is_among places.now place then pictures.old else remove pictures.old place) }
 {
     if !is_among(places, place) {
-        pictures.remove(place);
+        let _pushed = spares.push(pictures.remove(place));
     }
 }
 

@@ -15,12 +15,13 @@ use plan_types::PicturePlan;
 use std::alloc::Global;
 
 /// Decodes a picture by those of the buffer, or answers what is broken or met in it first, or that there is no memory for
-/// it.
+/// it. A spare picture of its size lends it the memory.
 #[tactic(auto, unfolding(spec_decoder::specs::Decoder::decoded_picture))]
 pub(crate) fn decode_picture(
     alloc: Global,
     picture: &PicturePlan,
     bases: &Bases,
+    spare: Option<Picture>,
 ) -> Result<Picture, Outcome>
     ensures { DecodesAs result (decoded_picture (buffer_of bases.now) picture.now) }
 {
@@ -29,15 +30,20 @@ pub(crate) fn decode_picture(
             kind: LimitKind::Unbuilt(feature),
             nal: picture.nal,
         })),
-        None => decode_data(alloc, picture, bases),
+        None => decode_data(alloc, picture, bases, spare),
     }
 }
 
 /// Reads the data of a picture's slice segments and builds its samples.
-fn decode_data(alloc: Global, picture: &PicturePlan, bases: &Bases) -> Result<Picture, Outcome>
+fn decode_data(
+    alloc: Global,
+    picture: &PicturePlan,
+    bases: &Bases,
+    spare: Option<Picture>,
+) -> Result<Picture, Outcome>
     ensures { DecodesAs result (decoded_data picture.now.sps.format (picture_built (buffer_of bases.now) picture.now)) }
 {
-    match build_picture(alloc, picture, bases) {
+    match build_picture(alloc, picture, bases, spare) {
         Ok(built) => Ok(built),
         Err(error) => Err(outcome_of(error)),
     }

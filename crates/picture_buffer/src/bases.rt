@@ -65,11 +65,11 @@ impl Bases {
         }
     }
 
-    /// Takes the picture at a place out; those behind it move up.
-    pub fn remove(&mut self, place: usize)
+    /// Takes the picture at a place out and hands it over; those behind it move up.
+    pub fn remove(&mut self, place: usize) -> Picture
         requires { place < length self.old }
         ensures { self.new ≡ remove self.old place }
     {
-        self.pictures.remove(place);
+        self.pictures.remove(place)
     }
 }

@@ -15,6 +15,7 @@ use crate::format::{common_format, set_slice};
 use crate::lines::lay_unit;
 use crate::motion::{Source, derive};
 use crate::samples::{Depends, build_unit};
+use crate::spare::empty_parts;
 use crate::unit::Unit;
 use ctu_build::{Scratch, UnitSamples};
 use ctu_records::Records;
@@ -72,17 +73,13 @@ impl<'a, B: Buffer> PictureBuilder<'a, B> {
         alloc: Global,
         plan: &'a PicturePlan,
         bases: &'a Bases,
+        spare: Option<Picture>,
     ) -> Result<PictureBuilder<'a, B>, AllocError>
         requires { bases.now ≡ B.pictures }
         ensures built { IfOk result (λ b. IsBuilt (buffer_of B.pictures) b plan.now []) }
         ensures sps { IsSps plan.now.sps }
     {
-        let format = &plan.sps.fields().format;
-        let planes = Planes::new(
-            alloc,
-            format.pic_width_in_luma_samples,
-            format.pic_height_in_luma_samples,
-        )?;
+        let (planes, field) = empty_parts(alloc, &plan.sps.fields().format, spare)?;
         Ok(PictureBuilder {
             buffer: PhantomData,
             plan,
@@ -90,7 +87,7 @@ impl<'a, B: Buffer> PictureBuilder<'a, B> {
             layout: Layout::new(plan),
             format: common_format(alloc, plan)?,
             planes,
-            motion: PictureMotion::new(alloc, plan)?,
+            motion: PictureMotion::over(plan, field),
             samples: UnitSamples::new(),
             scratch: Scratch::new(),
         })

@@ -12,6 +12,7 @@ mod part;
 mod picture;
 mod references;
 mod samples;
+mod spare;
 mod unit;
 mod weights;
 

@@ -15,12 +15,17 @@ use std::marker::Brand;
 
 /// Reads and builds a picture over the pictures of the decoded picture buffer before it: its samples before the loop filters,
 /// and its motion. The error is the first rule that its data break, or want of memory, which is taken before the first unit is
-/// read.
-pub fn build_picture(alloc: Global, plan: &PicturePlan, bases: &Bases) -> Result<Picture, ReadError>
+/// read. A spare picture of its size lends it the memory.
+pub fn build_picture(
+    alloc: Global,
+    plan: &PicturePlan,
+    bases: &Bases,
+    spare: Option<Picture>,
+) -> Result<Picture, ReadError>
     ensures value { BuildsPicture result (picture_built (buffer_of bases.now) plan.now) }
     ensures format { IfOk result (λ p. p.format ≡ plan.now.sps.format) }
 {
-    build_over::<Brand>(alloc, plan, bases)
+    build_over::<Brand>(alloc, plan, bases, spare)
 }
 
 /// The same over a buffer that has a name.
@@ -28,13 +33,14 @@ fn build_over<B: Buffer>(
     alloc: Global,
     plan: &PicturePlan,
     bases: &Bases,
+    spare: Option<Picture>,
 ) -> Result<Picture, ReadError>
     requires { bases.now ≡ B.pictures }
     ensures value { BuildsPicture result (picture_built (buffer_of B.pictures) plan.now) }
     ensures format { IfOk result (λ p. p.format ≡ plan.now.sps.format) }
 {
     units_that_are_read_are_sound();
-    let Ok(mut builder) = PictureBuilder::<B>::new(alloc, plan, bases) else {
+    let Ok(mut builder) = PictureBuilder::<B>::new(alloc, plan, bases, spare) else {
         return Err(ReadError::Memory);
     };
     match read_picture(alloc, plan, &mut builder) {

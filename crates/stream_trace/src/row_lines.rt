@@ -19,7 +19,7 @@ pub(crate) fn print_built<W: Write>(
     plan: &PicturePlan,
     out: &mut W,
 ) -> Result<Option<Stop>, TraceError> {
-    match build_picture(alloc, plan, &Bases::new(alloc)) {
+    match build_picture(alloc, plan, &Bases::new(alloc), None) {
         Ok(picture) => {
             print_rows(picture.planes(), 1 << plan.sps.ctb_log2(), out)?;
             Ok(None)
