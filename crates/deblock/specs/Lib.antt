@@ -1,0 +1,4 @@
+pub mod Samples
+pub mod Windows
+pub mod Passes
+pub mod Rows

@@ -1,0 +1,118 @@
+//! How the lines of a place are filtered across an edge (8.7.2.5.3, 8.7.2.5.6).
+
+ghost use Rattle.std.specs.Prelude.{◌≡◌, ◌<◌, ◌≤◌, ◌+◌, ◌*◌, ◌/◌, ℕ};
+ghost use Rattle.spec_deblocking.specs.Decisions.{bend, bend_before, bend_behind, bends, is_flat, side_bound, luma_filter, edge_filter};
+ghost use Rattle.deblock.specs.Samples.{IsDepth, AreSmall};
+
+use crate::thresholds::{beta, tc};
+use spec_deblocking::{Filter, Line, Place, Plane};
+
+/// How far three samples are from straight.
+#[inline(always)]
+fn bend(s2: u32, s1: u32, s0: u32) -> u32
+    requires { (s2 ≤ 16383) × (s1 ≤ 16383) × (s0 ≤ 16383) }
+    ensures value { result ≡ bend s2 s1 s0 }
+    ensures few { result ≤ 32766 }
+{
+    (s2 + s0).abs_diff(2 * s1)
+}
+
+/// dp.
+#[inline(always)]
+fn bend_before(line: &Line) -> u32
+    requires { AreSmall 16383 line.now }
+    ensures value { result ≡ bend_before line.now }
+    ensures few { result ≤ 32766 }
+{
+    bend(line.p2, line.p1, line.p0)
+}
+
+/// dq.
+#[inline(always)]
+fn bend_behind(line: &Line) -> u32
+    requires { AreSmall 16383 line.now }
+    ensures value { result ≡ bend_behind line.now }
+    ensures few { result ≤ 32766 }
+{
+    bend(line.q2, line.q1, line.q0)
+}
+
+/// dpq.
+#[inline(always)]
+fn bends(line: &Line) -> u32
+    requires { AreSmall 16383 line.now }
+    ensures value { result ≡ bends line.now }
+    ensures few { result ≤ 65532 }
+{
+    bend_before(line) + bend_behind(line)
+}
+
+/// dSam.
+#[inline(always)]
+#[tactic(auto, unfolding(spec_deblocking::specs::Decisions::is_flat))]
+fn is_flat(beta: u32, tc: u32, line: &Line) -> bool
+    requires line { AreSmall 16383 line.now }
+    requires tc { tc ≤ 16320 }
+    ensures { result ≡ is_flat beta tc line.now }
+{
+    2 * bends(line) < beta / 4
+        && line.p3.abs_diff(line.p0) + line.q0.abs_diff(line.q3) < beta / 8
+        && line.p0.abs_diff(line.q0) < (5 * tc + 1) / 2
+}
+
+/// dE, dEp and dEq of luma.
+#[tactic(auto, unfolding(spec_deblocking::specs::Decisions::luma_filter))]
+fn luma_filter(beta: u32, tc: u32, first: &Line, last: &Line) -> Filter
+    requires beta { beta ≤ 16320 }
+    requires tc { tc ≤ 16320 }
+    requires first { AreSmall 16383 first.now }
+    requires last { AreSmall 16383 last.now }
+    ensures { result ≡ luma_filter beta tc first.now last.now }
+{
+    if bends(first) + bends(last) < beta {
+        if is_flat(beta, tc, first) && is_flat(beta, tc, last) {
+            Filter::Strong
+        } else {
+            let bound = (beta + beta / 2) / 8;
+            Filter::Normal {
+                p1: bend_before(first) + bend_before(last) < bound,
+                q1: bend_behind(first) + bend_behind(last) < bound,
+            }
+        }
+    } else {
+        Filter::Off
+    }
+}
+
+/// How the lines of an edge are filtered.
+#[tactic(auto, unfolding(spec_deblocking::specs::Decisions::edge_filter))]
+pub fn edge_filter(
+    plane: Plane,
+    depth: u32,
+    p: &Place,
+    q: &Place,
+    first: &Line,
+    last: &Line,
+) -> Filter
+    requires depth { IsDepth depth }
+    requires first { AreSmall 16383 first.now }
+    requires last { AreSmall 16383 last.now }
+    ensures { result ≡ edge_filter plane depth p.now q.now first.now last.now }
+{
+    match plane {
+        Plane::Luma => {
+            if q.left_strength == 0 {
+                Filter::Off
+            } else {
+                luma_filter(beta(depth, p, q), tc(plane, depth, p, q), first, last)
+            }
+        },
+        Plane::Chroma { .. } => {
+            if q.left_strength == 2 {
+                Filter::Nearest
+            } else {
+                Filter::Off
+            }
+        },
+    }
+}

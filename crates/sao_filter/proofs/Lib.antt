@@ -1,0 +1,6 @@
+pub mod Laid
+pub mod Beside
+pub mod Rows
+pub mod Edges
+pub mod Kept
+pub mod Picture

@@ -1,0 +1,33 @@
+-- The units that the samples of a run read.
+use Rattle.std.specs.Prelude.{◌≡◌, ◌<◌, ℕ, ◌+◌, ◌-◌, ◌*◌, ◌==◌, nat_lt, min, Bool, ◌&&◌, List, ℤ, pos, slice_index_or, if◌then◌else◌}
+use Rattle.spec_sample_adaptive_offset.specs.Plane.{OffsetPlane, meets}
+use Rattle.spec_sample_adaptive_offset.specs.Offsets.{offset_value, band_index, edge_index}
+use Rattle.sao_filter.specs.declared.row.OffsetRow.{OffsetRow}
+use Rattle.sao_filter.specs.declared.block.Block.{Block}
+use Rattle.sao_filter.specs.Row.{top, lines_of}
+
+-- the unit that a neighbour stands in, counted as the neighbour is: 0, 1, 2 are before, at and behind
+abbrev pub shift : ℕ → Bool → Bool → ℕ
+shift h first last = if h == 0 && first then 0 else (if h == 2 && last then 2 else 1)
+
+-- whether samples of a unit may be compared with those of the unit beside it
+abbrev pub reads_unit : OffsetPlane → ℕ → ℕ → ℕ → ℕ → Bool
+reads_unit p k r h v =
+    ((nat_lt 0 (k + h) && nat_lt (p.ctb_size * (k + h - 1)) p.width) && (nat_lt 0 (r + v) && nat_lt (p.ctb_size * (r + v - 1)) p.height))
+    && meets (p.unit k r) (p.unit (k + h - 1) (r + v - 1))
+
+-- a block of the row
+pub record IsBlock (row : OffsetRow) (block : Block) : Type 0 where
+  pub from : block.from ≡ row.size * block.k
+  pub to : block.to ≡ min (row.size * block.k + row.size) row.width
+  pub some : block.from < block.to
+  pub lines : block.lines ≡ lines_of row
+  pub skip : block.skip ≡ min (top row) 1
+
+abbrev pub IsBandTable : ℕ → ℕ → List ℤ → List ℤ → Type 0
+IsBandTable depth position offsets table =
+    (k : ℕ) → k < 32 → slice_index_or table k (pos 0) ≡ offset_value depth offsets (band_index position k)
+
+abbrev pub IsEdgeTable : ℕ → List ℤ → List ℤ → Type 0
+IsEdgeTable depth offsets table =
+    (k : ℕ) → k < 5 → slice_index_or table k (pos 0) ≡ offset_value depth offsets (edge_index k)

@@ -1,0 +1,146 @@
+//! What is added to a sample.
+
+ghost use Rattle.std.specs.Prelude.{◌≡◌, ◌≤◌, ◌<◌, ◌+◌, ◌-◌, ◌*◌, ◌/◌, ◌%◌, ◌^◌, ℕ, List, ℤ, pos, negsuc, ◌≤ℤ◌, ◌*ℤ◌, min, slice_index_or};
+ghost use Rattle.spec_sample_adaptive_offset.specs.Offsets.{band_index, band_moved, compared, edge_index, edge_moved, moved, offset_value};
+ghost use Rattle.sao_filter.specs.Units.{IsBandTable, IsEdgeTable};
+
+/// An offset for so many bits: offsets are coded for up to 10.
+fn scaled(offset: i8, depth: u32) -> i16
+    requires depth { depth ≤ 14 }
+    ensures { result ≡ offset *ℤ pos (2 ^ (depth - min depth 10)) }
+{
+    let offset = i16::from(offset);
+    match depth {
+        11 => offset * 2,
+        12 => offset * 4,
+        13 => offset * 8,
+        14 => offset * 16,
+        _ => offset,
+    }
+}
+
+/// SaoOffsetVal.
+#[tactic(auto, unfolding(spec_sample_adaptive_offset::specs::Offsets::offset_value))]
+fn offset_value(depth: u32, offsets: &[i8; 4], index: usize) -> i16
+    requires depth { depth ≤ 14 }
+    requires index { index ≤ 4 }
+    ensures { result ≡ offset_value depth offsets.now index }
+{
+    if index == 0 {
+        0
+    } else {
+        scaled(offsets[index - 1], depth)
+    }
+}
+
+/// Which offset a band has, or 0.
+#[tactic(auto, unfolding(spec_sample_adaptive_offset::specs::Offsets::band_index))]
+fn band_index(position: u8, band: usize) -> usize
+    requires band { band < 32 }
+    ensures value { result ≡ band_index position band }
+    ensures few { result ≤ 4 }
+{
+    let place = (band + (32 - usize::from(position) % 32)) % 32;
+    if place < 4 { place + 1 } else { 0 }
+}
+
+/// What is added to the samples of each band.
+pub fn band_changes(depth: u32, position: u8, offsets: &[i8; 4]) -> [i16; 32]
+    requires depth { depth ≤ 14 }
+    ensures { IsBandTable depth position offsets.now result }
+{
+    let mut table = [0; 32];
+    for k in 0..32 {
+        table[k] = offset_value(depth, offsets, band_index(position, k));
+    }
+    table
+}
+
+/// Which offset a sample has by the signs of its differences from both neighbours, or 0.
+#[tactic(auto, unfolding(spec_sample_adaptive_offset::specs::Offsets::edge_index))]
+fn edge_index(signs: usize) -> usize
+    requires signs { signs < 5 }
+    ensures value { result ≡ edge_index signs }
+    ensures few { result ≤ 4 }
+{
+    match signs {
+        0 => 1,
+        1 => 2,
+        2 => 0,
+        _ => signs,
+    }
+}
+
+/// What is added to samples by the signs of their differences.
+pub fn edge_changes(depth: u32, offsets: &[i8; 4]) -> [i16; 5]
+    requires depth { depth ≤ 14 }
+    ensures { IsEdgeTable depth offsets.now result }
+{
+    let mut table = [0; 5];
+    for k in 0..5 {
+        table[k] = offset_value(depth, offsets, edge_index(k));
+    }
+    table
+}
+
+/// The greatest sample of so many bits.
+#[inline(always)]
+fn greatest_sample(depth: u32) -> i32
+    requires depth { (8 ≤ depth) × (depth ≤ 14) }
+    ensures value { result ≡ pos (2 ^ depth - 1) }
+    ensures least { pos 0 ≤ℤ result }
+    ensures greatest { result ≤ℤ pos 65535 }
+{
+    (1 << depth) - 1
+}
+
+/// A sample with what is added to it, clipped.
+#[inline(always)]
+#[tactic(auto, unfolding(spec_sample_adaptive_offset::specs::Offsets::moved))]
+fn moved(sample: u16, change: i16, depth: u32) -> u16
+    requires depth { (8 ≤ depth) × (depth ≤ 14) }
+    ensures { result ≡ moved depth sample change }
+{
+    (i32::from(sample) + i32::from(change)).clamp(0, greatest_sample(depth)) as u16
+}
+
+/// A sample by band offset.
+#[inline(always)]
+pub fn band_moved(sample: u16, table: &[i16; 32], depth: u32) -> u16
+    requires depth { (8 ≤ depth) × (depth ≤ 14) }
+    ensures { (position : ℕ) (offsets : List ℤ) → IsBandTable depth position offsets table.now → result ≡ band_moved depth position offsets sample }
+{
+    moved(
+        sample,
+        table[usize::from(sample >> (depth - 5)) % 32],
+        depth,
+    )
+}
+
+/// One more than the sign of a difference.
+#[inline(always)]
+fn compared(sample: u16, other: u16) -> usize
+    ensures value { result ≡ compared sample other }
+    ensures few { result ≤ 2 }
+{
+    if sample < other {
+        0
+    } else if sample == other {
+        1
+    } else {
+        2
+    }
+}
+
+/// A sample by edge offset, between its two neighbours.
+#[inline(always)]
+pub fn edge_moved(sample: u16, first: u16, second: u16, table: &[i16; 5], depth: u32) -> u16
+    requires depth { (8 ≤ depth) × (depth ≤ 14) }
+    ensures { (offsets : List ℤ) → IsEdgeTable depth offsets table.now → result ≡ edge_moved depth offsets sample first second }
+{
+    moved(
+        sample,
+        table[compared(sample, first) + compared(sample, second)],
+        depth,
+    )
+}

@@ -1,0 +1,15 @@
+//! Sample adaptive offset of a row of coding tree blocks (H.265 8.7.3).
+#![tactic(auto)]
+
+mod band;
+mod block;
+mod changes;
+mod edge;
+mod filtering;
+mod row;
+mod runs;
+#[cfg(test)]
+mod tests;
+
+pub use filtering::sao_row;
+pub use row::OffsetRow;

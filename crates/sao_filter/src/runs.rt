@@ -1,0 +1,79 @@
+//! Samples of a line that stand beside one another.
+
+ghost use Rattle.std.specs.Prelude.{◌≡◌, ◌≤◌, ◌<◌, ◌+◌, ◌-◌, ℕ, ℤ, List, length, cond, nat_le, nat_lt, ◌&&◌};
+ghost use Rattle.spec_sample_adaptive_offset.specs.Offsets.{band_moved, edge_moved};
+ghost use Rattle.sao_filter.specs.Row.{at};
+ghost use Rattle.sao_filter.specs.Units.{IsBandTable, IsEdgeTable};
+
+use crate::changes::{band_moved, edge_moved};
+
+/// Where a run of samples is read from and written to.
+#[derive(Clone, Copy)]
+pub struct Run {
+    /// The first sample among those that are read.
+    pub from: usize,
+    /// The first among those that are written.
+    pub first: usize,
+    /// How many.
+    pub count: usize,
+}
+
+/// Copies a run.
+#[inline(always)]
+pub fn copy_run(lines: &[u16], run: Run, out: &mut [u16])
+    requires lines { run.from + run.count ≤ length lines.now }
+    requires out { run.first + run.count ≤ length out.old }
+    ensures { (q : ℕ) → at out.new q ≡ cond (nat_le run.first q && nat_lt q (run.first + run.count)) (at lines.now (run.from + (q - run.first))) (at out.old q) }
+{
+    for k in 0..run.count {
+        out[run.first + k] = lines[run.from + k];
+    }
+}
+
+/// Adds the offsets of bands to a run.
+#[inline(always)]
+pub fn band_run(lines: &[u16], run: Run, table: &[i16; 32], depth: u32, out: &mut [u16])
+    requires lines { run.from + run.count ≤ length lines.now }
+    requires out { run.first + run.count ≤ length out.old }
+    requires depth { (8 ≤ depth) × (depth ≤ 14) }
+    ensures { (position : ℕ) (offsets : List ℤ) → IsBandTable depth position offsets table.now → (q : ℕ) → at out.new q ≡ cond (nat_le run.first q && nat_lt q (run.first + run.count)) (band_moved depth position offsets (at lines.now (run.from + (q - run.first)))) (at out.old q) }
+{
+    for k in 0..run.count {
+        out[run.first + k] = band_moved(lines[run.from + k], table, depth);
+    }
+}
+
+/// The first samples of the neighbours of a run.
+#[derive(Clone, Copy)]
+pub struct Neighbours {
+    pub first: usize,
+    pub second: usize,
+}
+
+/// Adds the offsets of edges to a run.
+#[inline(always)]
+pub fn edge_run(
+    lines: &[u16],
+    run: Run,
+    beside: Neighbours,
+    table: &[i16; 5],
+    depth: u32,
+    out: &mut [u16],
+)
+    requires lines { run.from + run.count ≤ length lines.now }
+    requires first { beside.first + run.count ≤ length lines.now }
+    requires second { beside.second + run.count ≤ length lines.now }
+    requires out { run.first + run.count ≤ length out.old }
+    requires depth { (8 ≤ depth) × (depth ≤ 14) }
+    ensures { (offsets : List ℤ) → IsEdgeTable depth offsets table.now → (q : ℕ) → at out.new q ≡ cond (nat_le run.first q && nat_lt q (run.first + run.count)) (edge_moved depth offsets (at lines.now (run.from + (q - run.first))) (at lines.now (beside.first + (q - run.first))) (at lines.now (beside.second + (q - run.first)))) (at out.old q) }
+{
+    for k in 0..run.count {
+        out[run.first + k] = edge_moved(
+            lines[run.from + k],
+            lines[beside.first + k],
+            lines[beside.second + k],
+            table,
+            depth,
+        );
+    }
+}
