@@ -1,0 +1,136 @@
+//! What was read of a coding tree unit by place.
+
+ghost use Rattle.std.specs.Prelude.{◌≡◌, ◌≤◌, ◌+◌, ◌^◌, true, false, nat_le, List, []};
+ghost use Rattle.std.specs.List.{All};
+ghost use Rattle.ctu_records.specs.declared.item.Item.TheVariants.{Pcm, Prediction, Transform, Unit};
+ghost use Rattle.spec_motion.specs.Derivation.{IsPlaced};
+ghost use Rattle.spec_motion.specs.Units.{IsPlacedItem};
+ghost use Rattle.boundary_strengths.specs.Held.{AreMarked};
+ghost use Rattle.boundary_strengths.specs.Marking.{IsAdded};
+
+use crate::laying::{block_of, lay_block, mark_left, mark_top};
+use ctu_records::{CodingUnit, Item, PredictionUnit, Square, TransformUnit};
+
+/// Edges, coded places and kept ones, in 16 rows of 16.
+#[derive(Clone, Copy)]
+pub(crate) struct Marks {
+    /// Places at the left side of a coding unit or of a transform unit.
+    pub(crate) transform_left: [bool; 256],
+    /// Places at the top of one.
+    pub(crate) transform_top: [bool; 256],
+    /// Places at the left side of a prediction block.
+    pub(crate) prediction_left: [bool; 256],
+    /// Places at the top of one.
+    pub(crate) prediction_top: [bool; 256],
+    /// Places whose luma transform block has levels that aren't 0.
+    pub(crate) coded: [bool; 256],
+    /// Places whose samples stay.
+    pub(crate) kept: [bool; 256],
+}
+
+/// The marks of a unit's items.
+pub(crate) fn marks_of(items: &[Item], pcm_disabled: bool) -> Marks
+    ensures { All IsPlacedItem items.now → AreMarked pcm_disabled items.now result }
+{
+    let mut marks = unmarked(pcm_disabled);
+    for k in 0..items.len() {
+        add_item(&mut marks, items[k], pcm_disabled);
+    }
+    marks
+}
+
+/// No marks.
+fn unmarked(pcm_disabled: bool) -> Marks
+    ensures { AreMarked pcm_disabled [] result }
+{
+    Marks {
+        transform_left: [false; 256],
+        transform_top: [false; 256],
+        prediction_left: [false; 256],
+        prediction_top: [false; 256],
+        coded: [false; 256],
+        kept: [false; 256],
+    }
+}
+
+/// An item more. A prediction unit that doesn't lie in the greatest unit is passed over.
+#[tactic(auto, using(crate::proofs::Steps::same_added))]
+fn add_item(marks: &mut Marks, item: Item, pcm_disabled: bool)
+    ensures { IsPlacedItem item → IsAdded pcm_disabled item marks.old marks.new }
+{
+    match item {
+        Item::Unit(unit) => add_unit(marks, unit, pcm_disabled),
+        Item::Transform(unit) => add_transform(marks, unit, pcm_disabled),
+        Item::Prediction(unit) => {
+            if is_placed(&unit) {
+                add_prediction(marks, &unit, pcm_disabled);
+            }
+        }
+        Item::Pcm(square) => add_pcm(marks, square, pcm_disabled),
+        Item::Luma(_)
+        | Item::Chroma(_)
+        | Item::Sample(_)
+        | Item::Delta(_)
+        | Item::Block(_)
+        | Item::Level(_, _) => {}
+    }
+}
+
+/// A coding unit.
+fn add_unit(marks: &mut Marks, unit: CodingUnit, pcm_disabled: bool)
+    ensures { IsAdded pcm_disabled (Unit unit) marks.old marks.new }
+{
+    let block = block_of(unit.square);
+    mark_left(&mut marks.transform_left, block);
+    mark_top(&mut marks.transform_top, block);
+    lay_block(&mut marks.kept, block, unit.transquant_bypass);
+}
+
+/// A transform unit.
+fn add_transform(marks: &mut Marks, unit: TransformUnit, pcm_disabled: bool)
+    ensures { IsAdded pcm_disabled (Transform unit) marks.old marks.new }
+{
+    let block = block_of(unit.square);
+    mark_left(&mut marks.transform_left, block);
+    mark_top(&mut marks.transform_top, block);
+    lay_block(&mut marks.coded, block, unit.cbf_luma);
+}
+
+/// A prediction unit.
+fn add_prediction(marks: &mut Marks, unit: &PredictionUnit, pcm_disabled: bool)
+    requires { IsPlaced unit.now }
+    ensures { IsAdded pcm_disabled (Prediction unit.now) marks.old marks.new }
+{
+    let block = unit.block();
+    mark_left(&mut marks.prediction_left, block);
+    mark_top(&mut marks.prediction_top, block);
+}
+
+/// A coding unit by pulse code modulation.
+fn add_pcm(marks: &mut Marks, square: Square, pcm_disabled: bool)
+    ensures { IsAdded pcm_disabled (Pcm square) marks.old marks.new }
+{
+    if pcm_disabled {
+        lay_block(&mut marks.kept, block_of(square), true);
+    }
+}
+
+/// Whether a prediction unit lies in the greatest unit.
+fn is_placed(unit: &PredictionUnit) -> bool
+    ensures found { result ≡ true → IsPlaced unit.now }
+    ensures only { IsPlaced unit.now → result ≡ true }
+{
+    let square = unit.unit;
+    square.log2_size <= 4
+        && lies_inside(square.x, square.log2_size)
+        && lies_inside(square.y, square.log2_size)
+        && unit.part <= 3
+}
+
+/// Whether so many places from one on are among the first 16.
+fn lies_inside(first: u8, log2: u8) -> bool
+    requires few { log2 ≤ 4 }
+    ensures { result ≡ nat_le (first + 2 ^ log2) 16 }
+{
+    u32::from(first) + (1 << log2) <= 16
+}

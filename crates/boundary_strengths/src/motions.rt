@@ -1,0 +1,19 @@
+//! The motion of places.
+
+ghost use Rattle.std.specs.Prelude.{◌≡◌, ◌≤◌, ℕ, Option};
+ghost use Rattle.picture_buffer.specs.declared.place_motion.PlaceMotion.{PlaceMotion};
+
+use picture_buffer::PlaceMotion;
+
+/// The motion of a coding tree unit and beside it.
+pub trait PlaceMotions {
+    /// By column and row of places, both counted from 1 at the unit's first place: column 0 stands left of the unit,
+    /// row 0 above it. `None` where a place is predicted in intra mode.
+    ghost motion_at: { Self → ℕ → ℕ → Option PlaceMotion };
+
+    /// The motion of a place.
+    fn motion(&self, column: usize, row: usize) -> Option<PlaceMotion>
+        requires column { column ≤ 16 }
+        requires row { row ≤ 16 }
+        ensures { result ≡ motion_at self.now column row };
+}

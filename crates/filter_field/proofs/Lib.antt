@@ -1,0 +1,4 @@
+pub mod Grids
+pub mod Kept
+pub mod Places
+pub mod Units

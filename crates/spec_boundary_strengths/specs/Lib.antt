@@ -1,0 +1,5 @@
+pub mod Motion
+pub mod Edges
+pub mod Strengths
+pub mod Places
+pub mod Worked
