@@ -1,5 +1,5 @@
 -- Blocks that are laid over cells.
-use Rattle.std.proofs.Common.{◌≡◌, ℕ, ◌+◌, ◌-◌, ◌*◌, ◌%◌, ◌^◌, ◌<◌, ◌≤◌, min, Bool, true, false, ◌&&◌, ◌||◌, cond, nat_le, nat_lt, refl, ap, sym, ◌∙◌, arith}
+use Rattle.std.proofs.Common.{◌≡◌, ℕ, zero, suc, ◌+◌, ◌-◌, ◌*◌, ◌%◌, ◌^◌, ◌<◌, ◌≤◌, min, Bool, true, false, ◌&&◌, ◌||◌, cond, nat_le, nat_lt, refl, ap, sym, ◌∙◌, arith}
 use Rattle.std.specs.Prelude.{◌==◌}
 use Rattle.std.proofs.Math.Nat.{pow-le-pow_right}
 use Rattle.std.proofs.lemmas.Bool.Decides.{nat_tests}
@@ -53,9 +53,6 @@ many_places n le = pow-le-pow_right {n = 2} (omega arith) le
 
 pub few_places : (n : ℕ) → n < 4 → 2 ^ n ≤ 8
 few_places n lt = let le : n ≤ 3 = omega arith in pow-le-pow_right {n = 2} (omega arith) le
-
-pub side_places : (n : ℕ) → n ≤ 4 → 2 ^ n ≤ 16
-side_places n le = pow-le-pow_right {n = 2} (omega arith) le
 
 pub small_side : (n : ℕ) → n < 4 → 1 * 2 ^ n % 256 ≡ min (2 ^ n) 16
 small_side n lt = let le : 2 ^ n ≤ 8 = few_places n lt in omega arith

@@ -1,6 +1,6 @@
 //! The places of a coding tree unit.
 
-ghost use Rattle.std.specs.Prelude.{◌≡◌, ℕ, ◌+◌, ◌*◌, ◌^◌, ◌<◌, ◌≤◌, pos, ◌-ℤ◌};
+ghost use Rattle.std.specs.Prelude.{◌≡◌, ℕ, ◌+◌, ◌*◌, ◌<◌, ◌≤◌, pos, ◌-ℤ◌};
 ghost use Rattle.std.specs.List.{All};
 ghost use Rattle.ctu_records.specs.Places.{by_place};
 ghost use Rattle.ctu_records.specs.Tree.{qp_at};
@@ -16,7 +16,7 @@ use crate::sides::UnitSides;
 use ctu_records::Records;
 use spec_boundary_strengths::UnitPlace;
 
-/// What deblocking asks of the places of a unit, in rows of 16. A prediction unit that doesn't lie in the greatest
+/// What deblocking asks of the places of a unit, in 16 rows of 16. A prediction unit that doesn't lie in the greatest
 /// unit is passed over.
 pub fn unit_places<V: PlaceMotions>(
     records: &Records,
@@ -25,23 +25,12 @@ pub fn unit_places<V: PlaceMotions>(
     places: &mut [UnitPlace; 256],
 )
     requires offset { sides.now.qp_bd_offset ≤ 48 }
-    ensures { All IsPlacedItem records.now.items → ((i j : ℕ) → qp_at records.now.items i j ≤ 127) → (x y : ℕ) (d : UnitPlace) → x < 16 → y < 2 ^ records.now.size → by_place d places.new x y ≡ unit_place (beside_of sides.now (V.motion_at view.now)) sides.now.pcm_loop_filter_disabled sides.now.qp_bd_offset records.now.items x y }
+    ensures { All IsPlacedItem records.now.items → ((i j : ℕ) → qp_at records.now.items i j ≤ 127) → (x y : ℕ) (d : UnitPlace) → x < 16 → y < 16 → by_place d places.new x y ≡ unit_place (beside_of sides.now (V.motion_at view.now)) sides.now.pcm_loop_filter_disabled sides.now.qp_bd_offset records.now.items x y }
 {
     let marks = marks_of(records.items(), sides.pcm_loop_filter_disabled);
-    let side = side_of(records.size());
-    for k in 0..16 * side {
+    for k in 0..256usize {
         places[k] = place(records, &marks, sides, view, k % 16, k / 16);
     }
-}
-
-/// The side of a unit in places.
-#[tactic(auto, using(crate::proofs::Cells::side_places))]
-fn side_of(size: u8) -> usize
-    requires { size ≤ 4 }
-    ensures value { result ≡ 2 ^ size }
-    ensures few { result ≤ 16 }
-{
-    1 << size
 }
 
 /// What is asked of a place.

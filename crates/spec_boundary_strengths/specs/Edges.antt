@@ -1,6 +1,6 @@
 -- The edges of a coding tree unit by what was read of it (8.7.2.2, 8.7.2.3): the left sides and the tops of its blocks,
 -- by column and row of places, counted from 0 at the unit's first place. A place is a block of 4x4 luma samples.
-use Rattle.std.specs.Prelude.{ℕ, ◌+◌, ◌^◌, ◌==◌, Bool, false, ◌&&◌, nat_le, nat_lt, List, Option, Some, None}
+use Rattle.std.specs.Prelude.{ℕ, ◌+◌, ◌^◌, ◌==◌, Bool, false, ◌&&◌, ◌||◌, nat_le, nat_lt, List, Option, Some, None}
 use Rattle.std.specs.List.{list_any}
 use Rattle.ctu_records.specs.declared.item.Item.{Item}
 use Rattle.ctu_records.specs.declared.item.Item.TheVariants.{Unit, Luma, Chroma, Prediction, Pcm, Sample, Transform, Delta, Block, Level}

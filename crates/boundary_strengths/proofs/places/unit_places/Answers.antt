@@ -1,8 +1,9 @@
-use Rattle.std.proofs.Common.{◌≡◌, ℕ, ◌+◌, ◌*◌, ◌^◌, ◌<◌, ◌/◌, ◌%◌, ap, List, length, subst, arith, ◌∙◌}
+use Rattle.std.proofs.Common.{◌≡◌, ℕ, ◌<◌, ◌/◌, ◌%◌, List, length, subst, arith, ◌∙◌}
 use Rattle.std.proofs.lemmas.List.{length-set}
 use Rattle.std.specs.List.{All}
 use Rattle.ctu_records.specs.declared.item.Item.{Item}
 use Rattle.spec_motion.specs.Units.{IsPlacedItem}
+use Rattle.spec_boundary_strengths.specs.declared.place.UnitPlace.{UnitPlace}
 use Rattle.spec_boundary_strengths.specs.Places.{unit_place}
 use Rattle.boundary_strengths.specs.Held.{AreMarked, beside_of}
 use Rattle.boundary_strengths.proofs.Fill.{filled_more}
@@ -13,7 +14,7 @@ loop-k-preserved g c =
     let sides = c.args.sides.now in
     let items = c.args.records.now.items in
     let count = c.loop-k.invariant.count in
-    let room : c.loop-k.k < length c.loop-k.places = omega (arith, count, c.loop-k-test.true, c.side_of-side.ensures.few) in
+    let room : c.loop-k.k < length c.loop-k.places = omega (arith, count, c.loop-k-test.true) in
     let all = subst (λ (xs : List Item). All IsPlacedItem xs → AreMarked sides.pcm_loop_filter_disabled xs c.marks_of-marks.result) c.items.ensures c.marks_of-marks.ensures in
     record {
       count = length-set _ _ _ ∙ count;
@@ -21,11 +22,3 @@ loop-k-preserved g c =
           (λ (q : ℕ). unit_place (beside_of sides (g.V.PlaceMotions.motion_at c.args.view.now)) sides.pcm_loop_filter_disabled sides.qp_bd_offset items (q % 16) (q / 16))
           room (c.loop-k.invariant.told each small) (c.place.ensures (all each) (small (c.loop-k.k % 16) (c.loop-k.k / 16)));
     }
-
-pub returns : goal.returns
-returns g c = λ each small x y d hx hy.
-    let column : (16 * y + x) % 16 ≡ x = omega arith in
-    let row : (16 * y + x) / 16 ≡ y = omega arith in
-    let side : c.side_of-side.result ≡ 2 ^ c.args.records.now.size = c.side_of-side.ensures.value ∙ ap (λ (n : ℕ). 2 ^ n) c.size.ensures.value in
-    let below : 16 * y + x < c.loop-k.k = omega (arith, hy, hx, side, c.loop-k-test.false) in
-    rw (column, row) at (c.loop-k.invariant.told each small (16 * y + x) d below)

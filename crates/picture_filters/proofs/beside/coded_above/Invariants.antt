@@ -1,0 +1,11 @@
+use Rattle.std.proofs.Common.{◌≡◌, ℕ, ◌+◌, ◌<◌, false, length, slice_index_or}
+use Rattle.filter_field.specs.Places.{places_of}
+use Rattle.picture_filters.specs.Filtering.{coded_part}
+use Rattle.spec_picture_filters.specs.Units.{coded_near}
+use Rattle.picture_filters.proofs.beside.coded_above.Given as goal
+
+abbrev pub invariant-loop-k : goal.invariant-loop-k
+invariant-loop-k l = record {
+  count : length l.coded ≡ 16;
+  told : (q : ℕ) → q < l.k → slice_index_or l.coded q false ≡ coded_near l.unit.layout l.unit.address (coded_part (places_of l.places)) (q + 1) 0;
+}

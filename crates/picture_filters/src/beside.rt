@@ -1,0 +1,132 @@
+//! What is known beside a coding tree unit, apart from motion (8.7.2.3).
+
+ghost use Rattle.std.specs.Prelude.{◌≡◌, ◌+◌, ◌-◌, ◌≤◌, ◌&&◌, ◌||◌, nat_le, nat_lt};
+ghost use Rattle.filter_field.specs.Places.{places_of};
+ghost use Rattle.picture_filters.specs.Filtering.{IsCodedAbove, IsCodedLeft, IsUnit, coded_part};
+ghost use Rattle.spec_picture_data.specs.Shapes.{qp_bd_offset};
+ghost use Rattle.spec_picture_filters.specs.Units.{coded_near, is_left_filtered, is_reached, is_top_filtered, pcm_disabled};
+
+use crate::unit::Unit;
+use boundary_strengths::UnitSides;
+use filter_field::PlaceField;
+use plan_types::{PicturePlan, SegmentPlan};
+
+/// What is known beside a unit of a segment.
+pub(crate) fn unit_sides(
+    plan: &PicturePlan,
+    segment: &SegmentPlan,
+    unit: &Unit,
+    places: &PlaceField,
+) -> UnitSides
+    requires { IsUnit plan.now segment.now unit.now }
+    ensures left { result.filter_left ≡ is_left_filtered plan.now segment.now unit.now.address }
+    ensures top { result.filter_top ≡ is_top_filtered plan.now segment.now unit.now.address }
+    ensures disabled { result.deblocking_disabled ≡ segment.now.header.slice.deblocking.slice_deblocking_filter_disabled_flag }
+    ensures pcm { result.pcm_loop_filter_disabled ≡ pcm_disabled plan.now.sps.pcm }
+    ensures offset { result.qp_bd_offset ≡ qp_bd_offset plan.now.sps }
+    ensures small { result.qp_bd_offset ≤ 48 }
+    ensures coded_left { IsCodedLeft unit.now (coded_part (places_of places.now)) result.coded_left }
+    ensures coded_above { IsCodedAbove unit.now (coded_part (places_of places.now)) result.coded_above }
+{
+    let slice = &segment.header.fields().slice;
+    UnitSides {
+        coded_left: coded_left(unit, places),
+        coded_above: coded_above(unit, places),
+        filter_left: is_left_filtered(plan, segment, unit),
+        filter_top: is_top_filtered(plan, segment, unit),
+        deblocking_disabled: slice.deblocking.slice_deblocking_filter_disabled_flag,
+        pcm_loop_filter_disabled: pcm_disabled(plan),
+        qp_bd_offset: qp_bd_offset(plan),
+    }
+}
+
+/// Whether the left side of a unit is filtered.
+#[tactic(auto, unfolding(spec_picture_filters::specs::Units::is_left_filtered))]
+fn is_left_filtered(plan: &PicturePlan, segment: &SegmentPlan, unit: &Unit) -> bool
+    requires { IsUnit plan.now segment.now unit.now }
+    ensures { result ≡ is_left_filtered plan.now segment.now unit.now.address }
+{
+    if 0 < unit.layout.column(unit.address) {
+        is_reached(segment, unit, unit.address.saturating_sub(1))
+    } else {
+        false
+    }
+}
+
+/// Whether its top is filtered.
+#[tactic(auto, unfolding(spec_picture_filters::specs::Units::is_top_filtered))]
+fn is_top_filtered(plan: &PicturePlan, segment: &SegmentPlan, unit: &Unit) -> bool
+    requires { IsUnit plan.now segment.now unit.now }
+    ensures { result ≡ is_top_filtered plan.now segment.now unit.now.address }
+{
+    let width = unit.layout.width();
+    if width <= unit.address {
+        is_reached(segment, unit, unit.address - width)
+    } else {
+        false
+    }
+}
+
+/// Whether the edges to a unit that was read before are filtered.
+fn is_reached(segment: &SegmentPlan, unit: &Unit, before: u32) -> bool
+    ensures { result ≡ (nat_le unit.now.slice before || segment.now.header.slice.slice_loop_filter_across_slices_enabled_flag) }
+{
+    let slice = &segment.header.fields().slice;
+    unit.slice <= before || slice.slice_loop_filter_across_slices_enabled_flag
+}
+
+/// pcm_loop_filter_disabled_flag; 0 where it isn't coded.
+fn pcm_disabled(plan: &PicturePlan) -> bool
+    ensures { result ≡ pcm_disabled plan.now.sps.pcm }
+{
+    match plan.sps.fields().pcm {
+        Some(pcm) => pcm.pcm_loop_filter_disabled_flag,
+        None => false,
+    }
+}
+
+/// QpBdOffsetY.
+fn qp_bd_offset(plan: &PicturePlan) -> u8
+    ensures value { result ≡ qp_bd_offset plan.now.sps }
+    ensures small { result ≤ 48 }
+{
+    6 * plan.sps.fields().format.bit_depth_luma_minus8 as u8
+}
+
+/// Whether the places on the left of a unit are coded, from the upper one down.
+fn coded_left(unit: &Unit, places: &PlaceField) -> [bool; 16]
+    ensures { IsCodedLeft unit.now (coded_part (places_of places.now)) result }
+{
+    let mut coded = [false; 16];
+    for k in 0..16 {
+        coded[k] = coded_near(unit, places, 0, k + 1);
+    }
+    coded
+}
+
+/// Whether the places above it are.
+fn coded_above(unit: &Unit, places: &PlaceField) -> [bool; 16]
+    ensures { IsCodedAbove unit.now (coded_part (places_of places.now)) result }
+{
+    let mut coded = [false; 16];
+    for k in 0..16 {
+        coded[k] = coded_near(unit, places, k + 1, 0);
+    }
+    coded
+}
+
+/// Whether a place that is counted from 1 at a unit's first place is coded; `false` outside the picture.
+#[tactic(auto, unfolding(spec_picture_filters::specs::Units::coded_near))]
+fn coded_near(unit: &Unit, places: &PlaceField, column: usize, row: usize) -> bool
+    requires column { column ≤ 16 }
+    requires row { row ≤ 16 }
+    ensures { result ≡ coded_near unit.now.layout unit.now.address (coded_part (places_of places.now)) column row }
+{
+    if unit.is_there(column, row) {
+        let x = unit.first_column() + column - 1;
+        let y = unit.first_row() + row - 1;
+        places.at(x, y).coded
+    } else {
+        false
+    }
+}

@@ -1,0 +1,112 @@
+//! The places of a coding tree unit over those of its picture.
+
+ghost use Rattle.std.specs.Prelude.{◌≡◌, ℕ, ◌+◌, ◌-◌, ◌<◌, ◌≤◌, ◌==◌, ◌&&◌, nat_le, nat_lt, pos, if◌then◌else◌};
+ghost use Rattle.filter_field.specs.Places.{HasPlaces, places_of};
+ghost use Rattle.picture_filters.specs.Filtering.{IsBlock, IsSmall, filter_place, filter_places_laid, read_place};
+ghost use Rattle.spec_picture_motion.specs.Field.{unit_places};
+ghost use Rattle.spec_picture_filters.specs.Units.{held_offset, place_of};
+
+use crate::unit::Unit;
+use filter_field::{FilterPlace, PlaceField};
+use header_types::SliceDeblocking;
+use spec_boundary_strengths::UnitPlace;
+use spec_deblocking::Place;
+
+/// A place of which nothing is read.
+pub(crate) const NO_PLACE: UnitPlace = UnitPlace {
+    left_strength: 0,
+    top_strength: 0,
+    coded: false,
+    qp_y: 0,
+    kept: false,
+};
+
+/// The places of a unit, in 16 rows of 16, over those of the picture.
+pub(crate) fn lay_places(
+    unit: &Unit,
+    slice: SliceDeblocking,
+    read: &[UnitPlace; 256],
+    field: &mut PlaceField,
+)
+    requires { HasPlaces field.old unit.now.layout.across unit.now.layout.down }
+    ensures value { (i j : ℕ) → places_of field.new i j ≡ filter_places_laid unit.now.layout unit.now.address slice (read_place read.now) (places_of field.old) i j }
+    ensures sides { HasPlaces field.new unit.now.layout.across unit.now.layout.down }
+    ensures few { unit_places unit.now.layout ≤ 16 }
+{
+    let block = block_of(unit);
+    for row in 0..block.rows {
+        lay_row(block, row, slice, read, field);
+    }
+}
+
+/// The places of a unit that the picture has: the first one, and how many there are across and down.
+#[derive(Clone, Copy)]
+pub(crate) struct Block {
+    pub(crate) x: usize,
+    pub(crate) y: usize,
+    pub(crate) columns: usize,
+    pub(crate) rows: usize,
+}
+
+/// Those of a unit.
+fn block_of(unit: &Unit) -> Block
+    ensures block { IsBlock unit.now result }
+    ensures small { IsSmall result }
+    ensures few { unit_places unit.now.layout ≤ 16 }
+{
+    let side = unit.layout.side() as usize;
+    let x = unit.first_column();
+    let y = unit.first_row();
+    Block {
+        x,
+        y,
+        columns: side.min((unit.layout.across() as usize).saturating_sub(x)),
+        rows: side.min((unit.layout.down() as usize).saturating_sub(y)),
+    }
+}
+
+/// A row of places.
+fn lay_row(
+    block: Block,
+    row: usize,
+    slice: SliceDeblocking,
+    read: &[UnitPlace; 256],
+    field: &mut PlaceField,
+)
+    requires row { row < block.rows }
+    requires columns { block.columns ≤ field.old.across - block.x }
+    requires rows { block.rows ≤ field.old.down - block.y }
+    requires small { IsSmall block }
+    ensures places { (i j : ℕ) → places_of field.new i j ≡ (if (j == block.y + row) && (nat_le block.x i && nat_lt i (block.x + block.columns)) then filter_place slice (read_place read.now (i - block.x) row) else places_of field.old i j) }
+    ensures sides { (across down : ℕ) → HasPlaces field.old across down → HasPlaces field.new across down }
+{
+    for column in 0..block.columns {
+        let place = filter_place(slice, read[16 * row + column]);
+        field.put(block.x + column, block.y + row, place);
+    }
+}
+
+/// What is kept of a place of a slice.
+#[tactic(auto, unfolding(spec_picture_filters::specs::Units::place_of))]
+fn filter_place(slice: SliceDeblocking, place: UnitPlace) -> FilterPlace
+    ensures { result ≡ filter_place slice place }
+{
+    FilterPlace {
+        place: Place {
+            left_strength: place.left_strength,
+            top_strength: place.top_strength,
+            qp_y: place.qp_y,
+            kept: place.kept,
+            slice_beta_offset_div2: held_offset(slice.slice_beta_offset_div2),
+            slice_tc_offset_div2: held_offset(slice.slice_tc_offset_div2),
+        },
+        coded: place.coded,
+    }
+}
+
+/// An offset from -6 to 6.
+fn held_offset(offset: i32) -> i8
+    ensures { result ≡ held_offset offset }
+{
+    offset.clamp(-6, 6) as i8
+}

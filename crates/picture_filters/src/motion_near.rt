@@ -1,0 +1,38 @@
+//! The motion of a coding tree unit and beside it.
+
+ghost use Rattle.std.specs.Prelude.{◌≡◌, ◌≤◌};
+ghost use Rattle.picture_buffer.specs.Motion.{motions_of};
+ghost use Rattle.spec_picture_filters.specs.Units.{motion_near};
+
+use crate::unit::Unit;
+use boundary_strengths::PlaceMotions;
+use picture_buffer::{MotionField, PlaceMotion};
+
+/// The motion of a unit in that of its picture.
+#[derive(Clone, Copy)]
+pub(crate) struct MotionNear<'a> {
+    pub(crate) unit: &'a Unit,
+    pub(crate) field: &'a MotionField,
+}
+
+impl<'a> PlaceMotions for MotionNear<'a> {
+    ghost motion_at = { λ v. motion_near v.unit.now.layout v.unit.now.address (motions_of v.field.now) };
+
+    fn motion(&self, column: usize, row: usize) -> Option<PlaceMotion> {
+        motion_near(self.unit, self.field, column, row)
+    }
+}
+
+/// The motion of a place that is counted from 1 at a unit's first place; `None` outside the picture.
+#[tactic(auto, unfolding(spec_picture_filters::specs::Units::motion_near))]
+fn motion_near(unit: &Unit, field: &MotionField, column: usize, row: usize) -> Option<PlaceMotion>
+    requires column { column ≤ 16 }
+    requires row { row ≤ 16 }
+    ensures { result ≡ motion_near unit.now.layout unit.now.address (motions_of field.now) column row }
+{
+    if unit.is_there(column, row) {
+        field.at(unit.first_column() + column - 1, unit.first_row() + row - 1)
+    } else {
+        None
+    }
+}

@@ -1,0 +1,122 @@
+//! What the loop filters of a picture need while its coding tree units are read.
+
+ghost use Rattle.std.specs.Prelude.{◌≡◌, ℕ, ◌≤◌, IfOk};
+ghost use Rattle.std.specs.List.{All};
+ghost use Rattle.ctu_records.specs.Tree.{qp_at};
+ghost use Rattle.filter_field.specs.Places.{HasPlaces};
+ghost use Rattle.filter_field.specs.Units.{HasUnits};
+ghost use Rattle.header_types.specs.SequenceParameterSets.{height_in_ctbs};
+ghost use Rattle.picture_buffer.specs.Motion.{motions_of};
+ghost use Rattle.picture_filters.specs.Filtering.{IsUnit, data_of};
+ghost use Rattle.spec_motion.specs.Units.{IsPlacedItem};
+ghost use Rattle.spec_picture_filters.specs.Data.{no_data};
+ghost use Rattle.spec_picture_filters.specs.Units.{read_added};
+
+use crate::beside::unit_sides;
+use crate::layers::{NO_PLACE, lay_places};
+use crate::motion_near::MotionNear;
+use crate::offsets::lay_offsets;
+use crate::unit::Unit;
+use boundary_strengths::unit_places;
+use ctu_records::Records;
+use filter_field::{PlaceField, UnitField};
+use picture_buffer::MotionField;
+use picture_layout::{Layout, slice_address};
+use plan_types::{PicturePlan, SegmentPlan};
+use std::alloc::{AllocError, Global};
+use std::marker::Model;
+
+/// What the loop filters of a planned picture need, unit after unit.
+#[derive(Drop)]
+pub struct PictureFilters<'a> {
+    plan: &'a PicturePlan,
+    layout: Layout,
+    places: PlaceField,
+    units: UnitField,
+}
+
+impl<'a> Model for PictureFilters<'a> {
+    ghost use Rattle.std.specs.Prelude.{◌≡◌};
+    ghost use Rattle.filter_field.specs.Places.{HasPlaces};
+    ghost use Rattle.filter_field.specs.Units.{HasUnits};
+    ghost use Rattle.header_types.specs.SequenceParameterSets.{height_in_ctbs};
+    ghost use Rattle.picture_filters.specs.Filtering.{Filtering};
+    ghost use Rattle.spec_picture_data.specs.Shapes.{picture_shape};
+
+    ghost Value = { Filtering };
+
+    ghost view = { λ f. record { plan = f.plan.now; places = f.places; units = f.units } };
+
+    ghost invariant = { λ f. (f.layout ≡ picture_shape f.plan.now.sps f.plan.now.pps) × HasPlaces f.places f.layout.across f.layout.down × HasUnits f.units f.layout.width (height_in_ctbs f.plan.now.sps) };
+}
+
+impl<'a> PictureFilters<'a> {
+    /// A picture of which no unit is read. It takes memory, and no other call does.
+    #[tactic(auto, unfolding(spec_picture_data::specs::Shapes::picture_shape))]
+    pub fn new(alloc: Global, plan: &'a PicturePlan) -> Result<PictureFilters<'a>, AllocError>
+        ensures plan { IfOk result (λ f. f.plan ≡ plan.now) }
+        ensures value { IfOk result (λ f. data_of f ≡ no_data) }
+    {
+        let layout = Layout::new(plan);
+        let places = PlaceField::new(alloc, layout.across(), layout.down())?;
+        let units = UnitField::new(alloc, plan.sps.width_in_ctbs(), plan.sps.height_in_ctbs())?;
+        Ok(PictureFilters {
+            plan,
+            layout,
+            places,
+            units,
+        })
+    }
+
+    /// The next unit of a segment, by what was read of it and the motion of the picture behind it.
+    pub fn add(
+        &mut self,
+        segment: &SegmentPlan,
+        address: u32,
+        records: &Records,
+        motion: &MotionField,
+    )
+        ensures plan { self.new.plan ≡ self.old.plan }
+        ensures value { All IsPlacedItem records.now.items → ((i j : ℕ) → qp_at records.now.items i j ≤ 127) → data_of self.new ≡ read_added self.old.plan segment.now address records.now (motions_of motion.now) (data_of self.old) }
+    {
+        let unit = self.unit_of(segment, address);
+        let sides = unit_sides(self.plan, segment, &unit, &self.places);
+        let near = MotionNear {
+            unit: &unit,
+            field: motion,
+        };
+        let mut read = [NO_PLACE; 256];
+        unit_places(records, &sides, &near, &mut read);
+        let deblocking = segment.header.fields().slice.deblocking;
+        lay_places(&unit, deblocking, &read, &mut self.places);
+        lay_offsets(self.plan, segment, &unit, records.sao(), &mut self.units);
+    }
+
+    /// A unit of a segment.
+    fn unit_of(&self, segment: &SegmentPlan, address: u32) -> Unit
+        ensures unit { IsUnit self.now.plan segment.now result }
+        ensures address { result.address ≡ address }
+        ensures places { HasPlaces self.now.places result.layout.across result.layout.down }
+        ensures units { HasUnits self.now.units result.layout.width (height_in_ctbs self.now.plan.sps) }
+    {
+        Unit {
+            layout: self.layout,
+            slice: slice_address(self.plan, segment),
+            address,
+        }
+    }
+
+    /// What is known of the picture's places.
+    pub fn places(&self) -> &PlaceField
+        ensures { result.now ≡ self.now.places }
+    {
+        &self.places
+    }
+
+    /// The offsets of its units.
+    pub fn units(&self) -> &UnitField
+        ensures { result.now ≡ self.now.units }
+    {
+        &self.units
+    }
+}

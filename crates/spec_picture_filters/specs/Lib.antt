@@ -1,0 +1,4 @@
+pub mod Data
+pub mod Units
+pub mod Filtered
+pub mod Disabled
