@@ -1,16 +1,17 @@
 -- When all needs of a list are counted.
-use Rattle.std.proofs.Common.{ℕ, zero, suc, ◌≡◌, ◌+◌, ◌-◌, ◌<◌, ◌≤◌, List, [], ◌∷◌, ◌++◌, length, get_or, min, arith, sym, ap, ◌∙◌, subst, All}
+use Rattle.std.proofs.Common.{ℕ, zero, suc, ◌≡◌, ◌+◌, ◌-◌, ◌<◌, ◌≤◌, List, [], ◌∷◌, ◌++◌, length, get_or, min, arith, refl, sym, ap, ◌∙◌, subst, All}
 use Rattle.std.specs.List.{flat_map, range_with_len}
 use Rattle.std.proofs.lemmas.List.{get_or_append_left, get_or-append_right}
 use Rattle.std.proofs.lemmas.List.Concat.{flat_map-cons}
 use Rattle.std.proofs.lemmas.List.Elements.{All-nil, All-cons, All-head, All-append, All-map, All-from_get_or}
 use Rattle.std.proofs.lemmas.List.FromFn.{get_or-map-range_with_len, get_or-range_with_len, length-map-range_with_len, length-range_with_len}
 use Rattle.std.proofs.lemmas.List.{length-append}
-use Rattle.hv_base.specs.Flight.{FlightRows, picture_at}
+use Rattle.flight_plan.specs.Flight.{FlightRows, picture_at}
 use Rattle.hv_base.specs.declared.line.Line.{Line}
-use Rattle.hv_base.specs.declared.row_range.Reference.TheVariants.{Flight}
-use Rattle.board_core.specs.Places.{b_line}
-use Rattle.board_core.specs.Needs.{above_needs, build_needs, collocated_of, reach_needs, read_needs, reference_needs, row_needs}
+use Rattle.hv_base.specs.declared.line.Phase.{Phase}
+use Rattle.hv_base.specs.declared.line.Phase.TheVariants.{B, V, H, S}
+use Rattle.board_core.specs.Places.{full_count, line_of}
+use Rattle.board_core.specs.Needs.{above_needs, build_needs, collocated_of, counting_needs, filter_needs, reach_needs, read_needs, row_needs, rows_needs, unit_needs}
 use Rattle.board_core.specs.States.{CoreState, AreCounted, count_of}
 
 pub left_part : {X : Type 0} (P : X → Type 0) (xs ys : List X) → All P (xs ++ ys) → All P xs
@@ -41,14 +42,14 @@ pieces_each P f (x ∷ xs) all zero d inside = left_part P (f x) (flat_map f xs)
 pieces_each P f (x ∷ xs) all (suc k) d inside =
     pieces_each P f xs (right_part P (f x) (flat_map f xs) (subst (All P) (flat_map-cons f x xs) all)) k d (omega arith)
 
--- the rows of a range, one by one
-pub rows_all : (plan : FlightRows) (s : CoreState) (k first last : ℕ)
-    → ((r : ℕ) → first ≤ r → r < min (last + 1) (picture_at plan k).rows → (picture_at plan k).width ≤ count_of plan s (b_line k r))
-    → AreCounted plan s (reference_needs plan (Flight k) first last)
-rows_all plan s k first last each =
+-- the rows of a phase, one by one
+pub rows_all : (plan : FlightRows) (s : CoreState) (phase : Phase) (k first last : ℕ)
+    → ((r : ℕ) → first ≤ r → r < min (last + 1) (picture_at plan k).rows → full_count plan (line_of phase k r) ≤ count_of plan s (line_of phase k r))
+    → AreCounted plan s (rows_needs plan phase k first last)
+rows_all plan s phase k first last each =
     let n : ℕ = min (last + 1) (picture_at plan k).rows - first in
     let P : Line × ℕ → Type 0 = λ need. need.1 ≤ count_of plan s need.0 in
-    let f : ℕ → Line × ℕ = λ r. (b_line k r, (picture_at plan k).width) in
+    let f : ℕ → Line × ℕ = λ r. (line_of phase k r, full_count plan (line_of phase k r)) in
     All-map P f (range_with_len first n)
     (All-from_get_or (λ r. P (f r)) (range_with_len first n) 0
     (λ i inside.
@@ -56,17 +57,27 @@ rows_all plan s k first last each =
     let e = get_or-range_with_len first n i 0 lt in
     subst (λ r. P (f r)) (sym e) (each (first + i) (omega arith) (omega arith))))
 
-pub rows_each : (plan : FlightRows) (s : CoreState) (k first last : ℕ) → AreCounted plan s (reference_needs plan (Flight k) first last)
-    → (r : ℕ) → first ≤ r → r < min (last + 1) (picture_at plan k).rows → (picture_at plan k).width ≤ count_of plan s (b_line k r)
-rows_each plan s k first last all r low high =
+pub rows_each : (plan : FlightRows) (s : CoreState) (phase : Phase) (k first last : ℕ) → AreCounted plan s (rows_needs plan phase k first last)
+    → (r : ℕ) → first ≤ r → r < min (last + 1) (picture_at plan k).rows → full_count plan (line_of phase k r) ≤ count_of plan s (line_of phase k r)
+rows_each plan s phase k first last all r low high =
     let n : ℕ = min (last + 1) (picture_at plan k).rows - first in
     let P : Line × ℕ → Type 0 = λ need. need.1 ≤ count_of plan s need.0 in
-    let f : ℕ → Line × ℕ = λ r. (b_line k r, (picture_at plan k).width) in
+    let f : ℕ → Line × ℕ = λ r. (line_of phase k r, full_count plan (line_of phase k r)) in
     let i : ℕ = r - first in
     let lt : i < n = omega arith in
     let at : first + i ≡ r = omega arith in
     let e = get_or-map-range_with_len f first n i r (f 0) lt at in
     subst P e (all i (f 0) (omega (arith, length-map-range_with_len f first n)))
+
+-- two lists of needs, one after the other
+pub both_all : (plan : FlightRows) (s : CoreState) (xs ys : List (Line × ℕ)) → AreCounted plan s xs → AreCounted plan s ys → AreCounted plan s (xs ++ ys)
+both_all plan s xs ys = All-append (λ (need : Line × ℕ). need.1 ≤ count_of plan s need.0) xs ys
+
+pub both_left : (plan : FlightRows) (s : CoreState) (xs ys : List (Line × ℕ)) → AreCounted plan s (xs ++ ys) → AreCounted plan s xs
+both_left plan s xs ys = left_part (λ (need : Line × ℕ). need.1 ≤ count_of plan s need.0) xs ys
+
+pub both_right : (plan : FlightRows) (s : CoreState) (xs ys : List (Line × ℕ)) → AreCounted plan s (xs ++ ys) → AreCounted plan s ys
+both_right plan s xs ys = right_part (λ (need : Line × ℕ). need.1 ≤ count_of plan s need.0) xs ys
 
 pub one_all : (plan : FlightRows) (s : CoreState) (need : Line × ℕ) → need.1 ≤ count_of plan s need.0 → AreCounted plan s (need ∷ [])
 one_all plan s need h = let P : Line × ℕ → Type 0 = λ need. need.1 ≤ count_of plan s need.0 in All-cons P need [] h (All-nil P)
@@ -101,3 +112,17 @@ build_reach plan s l x all =
     let P : Line × ℕ → Type 0 = λ need. need.1 ≤ count_of plan s need.0 in
     let row = row_needs plan (collocated_of plan l x) l.row in
     right_part P row (reach_needs plan l x) (right_part P (above_needs plan l x) (row ++ reach_needs plan l x) all)
+
+-- counting a coding tree unit needs what building it needs
+pub unit_needs_tree : (plan : FlightRows) (l : Line) (x : ℕ) → l.phase ≡ B → unit_needs plan l x ≡ build_needs plan l x
+unit_needs_tree plan l x tree = ap (λ phase. counting_needs phase plan l x) tree
+
+-- counting a line of another phase needs what filtering it needs
+needs_of_filter : (phase : Phase) (plan : FlightRows) (l : Line) (x : ℕ) → ¬ (phase ≡ B) → counting_needs phase plan l x ≡ filter_needs plan l
+needs_of_filter B plan l x filter = absurd (filter refl)
+needs_of_filter V plan l x filter = refl
+needs_of_filter H plan l x filter = refl
+needs_of_filter S plan l x filter = refl
+
+pub unit_needs_filter : (plan : FlightRows) (l : Line) (x : ℕ) → ¬ (l.phase ≡ B) → unit_needs plan l x ≡ filter_needs plan l
+unit_needs_filter plan l x filter = needs_of_filter l.phase plan l x filter

@@ -1,25 +1,22 @@
 -- A sound state that ends has the least bad unit as its least fault.
-use Rattle.std.proofs.Common.{ℕ, ◌≡◌, ◌<◌, List, Option, Some, None, inl, inr, arith, ap, subst, IfSome}
+use Rattle.std.proofs.Common.{ℕ, ◌≡◌, List, Option, Some, None, inl, inr, arith, ap, subst, IfSome}
 use Rattle.std.proofs.lemmas.Bool.{cases_lt}
-use Rattle.hv_base.specs.Flight.{FlightRows, IsFlight, units_of}
+use Rattle.flight_plan.specs.Flight.{FlightRows, IsFlight, IsTreeUnit}
 use Rattle.board_core.specs.declared.event.Event.{Event}
 use Rattle.board_core.specs.Places.{unit_of}
 use Rattle.board_core.specs.States.{CoreState, opening, IsBad, IsBefore}
 use Rattle.board_core.specs.Runs.{AllReady, IsSound, IsEnded, IsLeastBad, run}
-use Rattle.board_core.proofs.Units.{place_exists}
+use Rattle.board_core.proofs.Units.{tree_place}
 use Rattle.board_core.proofs.Steps.{opening_sound, run_sound}
 
--- a bad unit is one of the flight's
-bad_inside : (plan : FlightRows) (u : ℕ) → IsFlight plan → IsBad plan u → u < units_of plan.pictures
-bad_inside plan u flight bad =
-    let (k, inside, is) = bad in
-    let lt = flight.bad k u inside in
-    omega (arith, lt, is)
+-- a bad unit is a coding tree unit of the flight
+bad_tree : (plan : FlightRows) (u : ℕ) → IsFlight plan → IsBad plan u → IsTreeUnit plan.pictures u
+bad_tree plan u flight bad = let (k, inside, is) = bad in subst (IsTreeUnit plan.pictures) is (flight.bad k u inside)
 
 -- a bad unit isn't before the least fault of a state that ends
 not_before : (plan : FlightRows) (s : CoreState) (u : ℕ) → IsFlight plan → IsSound plan s → IsEnded plan s → IsBad plan u → IsBefore u s.least → ⊥
 not_before plan s u flight sound ended bad before =
-    let (l, x, place) = place_exists plan u (bad_inside plan u flight bad) in
+    let (l, x, place, _) = tree_place plan u (bad_tree plan u flight bad) in
     let first : IsBefore (unit_of plan l x) s.least = subst (λ v. IsBefore v s.least) place.unit before in
     let counted = ended l x place.line place.inside first in
     sound.good l x place.line counted (subst (IsBad plan) place.unit bad)
@@ -45,4 +42,4 @@ same_least plan (Some u) (Some v) p q = let low = p.1 v q.0 in let high = q.1 u 
 pub run_ends : (plan : FlightRows) (events : List Event) → IsFlight plan → AllReady plan (opening plan) events
     → IsEnded plan (run plan (opening plan) events) → IsLeastBad plan (run plan (opening plan) events).least
 run_ends plan events flight ready ended =
-    ended_least plan (run plan (opening plan) events) flight (run_sound plan (opening plan) events (opening_sound plan) ready) ended
+    ended_least plan (run plan (opening plan) events) flight (run_sound plan (opening plan) events flight (opening_sound plan) ready) ended

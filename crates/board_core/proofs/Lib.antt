@@ -1,4 +1,5 @@
 pub mod Counting
+pub mod Drawing
 pub mod Endings
 pub mod NeedList
 pub mod Order

@@ -1,29 +1,15 @@
--- Each unit of a flight has its place, and only one.
-use Rattle.std.proofs.Common.{ℕ, zero, suc, ◌≡◌, ◌+◌, ◌-◌, ◌*◌, ◌/◌, ◌%◌, ◌<◌, ◌≤◌, List, inl, inr, length, take, get_or, sum_by, arith, refl, sym, ap, ◌∙◌, subst}
+-- Each coding tree unit of a flight has its place, and each unit only one.
+use Rattle.std.proofs.Common.{ℕ, ◌≡◌, ◌+◌, ◌-◌, ◌*◌, ◌/◌, ◌%◌, ◌<◌, ◌≤◌, List, inl, inr, length, take, get_or, arith, refl, sym, ap, ◌∙◌, subst}
 use Rattle.std.proofs.lemmas.Bool.{cases_lt, cases_order}
-use Rattle.std.proofs.lemmas.List.Sums.{sum_by_more}
 use Rattle.std.proofs.Math.Nat.{mod-lt}
 use Rattle.std.proofs.lemmas.Nat.{div-add-mod'}
-use Rattle.std.proofs.Math.Seq.{take-length}
-use Rattle.hv_base.specs.Flight.{FlightRows, PictureRows, picture_at, picture_units, units_of, no_picture}
+use Rattle.flight_plan.specs.Flight.{FlightRows, IsTreeUnit, PictureRows, picture_at, picture_units, tree_units, units_of, no_picture}
 use Rattle.hv_base.specs.declared.line.Line.{Line}
-use Rattle.board_core.specs.Places.{b_line, IsPlaceOf, ticket_of, unit_of}
-use Rattle.board_core.proofs.Order.{same_ticket, unit_before, unit_inside}
+use Rattle.hv_base.specs.declared.line.Phase.TheVariants.{B}
+use Rattle.board_core.specs.Places.{delay, full_count, line_of, IsPlaceOf, phase_start, phase_units}
+use Rattle.board_core.proofs.Drawing.{same_phase}
+use Rattle.board_core.proofs.Order.{before_more, earlier_phase, earlier_row, earlier_unit, line_inside, same_fields, unit_inside, within_rows}
 use Rattle.board_core.specs.Needs.{read_needs}
-
--- the item that has place u, where the items have sizes
-pub find_piece : (f : PictureRows → ℕ) (ps : List PictureRows) (u n : ℕ) → n ≤ length ps → u < sum_by f (take n ps)
-    → (k : ℕ) × (k < length ps) × (sum_by f (take k ps) ≤ u) × (u < sum_by f (take k ps) + f (get_or ps k no_picture))
-find_piece f ps u zero inside h = absurd (omega arith)
-find_piece f ps u (suc n) inside h =
-    let here : n < length ps = omega arith in
-    let more = sum_by_more f ps n no_picture here in
-    let next : n + 1 ≡ suc n = omega arith in
-    let e : sum_by f (take (n + 1) ps) ≡ sum_by f (take (suc n) ps) = ap (λ i. sum_by f (take i ps)) next in
-    elim (cases_lt u (sum_by f (take n ps))) [
-      | inl lower ↦ find_piece f ps u n (omega arith) lower
-      | inr upper ↦ (n, here, upper, omega (arith, more, h, e))
-    ]
 
 -- a place of a rectangle by its row and column
 pub row_and_column : (w r v : ℕ) → v < r * w → (0 < w) × (v / w < r) × (v % w < w) × (v ≡ v / w * w + v % w)
@@ -45,31 +31,65 @@ row_and_column w r v h =
     ] in
     (some, row, mod-lt v some, sym parts)
 
--- each unit of the flight has a place
-pub place_exists : (plan : FlightRows) (u : ℕ) → u < units_of plan.pictures → (l : Line) × (x : ℕ) × IsPlaceOf plan u l x
-place_exists plan u h =
-    let all : take (length plan.pictures) plan.pictures ≡ plan.pictures = take-length plan.pictures in
-    let below : u < units_of (take (length plan.pictures) plan.pictures) = subst (λ ps. u < units_of ps) (sym all) h in
-    let found = find_piece picture_units plan.pictures u (length plan.pictures) (omega arith) below in
-    let k = found.0 in
+-- each coding tree unit of the flight has a place
+pub tree_place : (plan : FlightRows) (u : ℕ) → IsTreeUnit plan.pictures u → (l : Line) × (x : ℕ) × IsPlaceOf plan u l x × (l.phase ≡ B)
+tree_place plan u (k, unit) =
     let w : ℕ = (picture_at plan k).width in
     let v : ℕ = u - units_of (take k plan.pictures) in
-    let inside : v < (picture_at plan k).rows * w = omega (arith, found.2, found.3) in
+    let inside : v < (picture_at plan k).rows * w = omega (arith, unit.from, unit.below) in
     let place = row_and_column w (picture_at plan k).rows v inside in
-    (b_line k (v / w), v % w, record { line = (refl, place.1); inside = place.2; unit = omega (arith, found.2, place.3) })
+    (line_of B k (v / w), v % w, record { line = place.1; inside = place.2; unit = omega (arith, unit.from, place.3) }, refl)
+
+-- a place of a B line is of a coding tree unit
+pub place_tree : (plan : FlightRows) (u : ℕ) (l : Line) (x : ℕ) → IsPlaceOf plan u l x → l.phase ≡ B → IsTreeUnit plan.pictures u
+place_tree plan u l x place tree =
+    let picture : PictureRows = picture_at plan l.picture in
+    let start : phase_start l.phase picture ≡ 0 = ap (λ p. phase_start p picture) tree in
+    let size : full_count plan l ≡ picture.width = ap (λ p. phase_units p picture) tree in
+    let low = within_rows (full_count plan l) picture.rows l.row x place.line place.inside in
+    let wide : picture.rows * full_count plan l ≡ picture.rows * picture.width = ap (λ w. picture.rows * w) size in (
+      l.picture,
+      record {
+        picture = line_inside plan l place.line;
+        from = omega (arith, place.unit);
+        below = omega (arith, place.unit, start, low, wide);
+      },
+    )
+
+not_less : (u v w : ℕ) → u ≡ v → u ≡ w → v < w → ⊥
+not_less u v w p q h = omega arith
+
+same_rest : (u a b s t c d x y : ℕ) → u ≡ a + (s + (c + x)) → u ≡ b + (t + (d + y)) → a ≡ b → s ≡ t → c ≡ d → x ≡ y
+same_rest u a b s t c d x y p q e f g = omega arith
 
 -- a unit has one place
 pub place_unique : (plan : FlightRows) (u : ℕ) (l m : Line) (x y : ℕ) → IsPlaceOf plan u l x → IsPlaceOf plan u m y → (l ≡ m) × (x ≡ y)
 place_unique plan u l m x y at_l at_m =
-    elim (cases_order (ticket_of plan l) (ticket_of plan m)) [
-      | inl same ↦ let line = same_ticket plan l m at_l.line at_m.line same in
-          let units : unit_of plan l y ≡ unit_of plan m y = ap (λ (k : Line). unit_of plan k y) line in
-          (line, omega (arith, units, at_l.unit, at_m.unit))
-      | inr (inl lower) ↦ let lt = unit_before plan l m x y at_l.line at_m.line lower at_l.inside in absurd (omega (arith, lt, at_l.unit, at_m.unit))
-      | inr (inr upper) ↦ let lt = unit_before plan m l y x at_m.line at_l.line upper at_m.inside in absurd (omega (arith, lt, at_l.unit, at_m.unit))
+    elim (cases_order l.picture m.picture) [
+      | inl picture ↦
+          elim (cases_order (delay l.phase) (delay m.phase)) [
+            | inl delays ↦ let phase = same_phase l.phase m.phase delays in
+                elim (cases_order l.row m.row) [
+                  | inl row ↦ let line = same_fields l m phase picture row in
+                      (line, same_rest u _ _ _ _ _ _ x y at_l.unit at_m.unit (ap (λ (k : Line). units_of (take k.picture plan.pictures)) line) (ap (λ (k : Line). phase_start k.phase (picture_at plan k.picture)) line) (ap (λ (k : Line). k.row * full_count plan k) line))
+                  | inr (inl h) ↦ absurd (not_less u _ _ at_l.unit at_m.unit (earlier_row plan l m x y at_l.inside picture phase h))
+                  | inr (inr h) ↦ absurd (not_less u _ _ at_m.unit at_l.unit (earlier_row plan m l y x at_m.inside (sym picture) (sym phase) h))
+                ]
+            | inr (inl h) ↦ absurd (not_less u _ _ at_l.unit at_m.unit (earlier_phase plan l m x y at_l.line at_l.inside picture h))
+            | inr (inr h) ↦ absurd (not_less u _ _ at_m.unit at_l.unit (earlier_phase plan m l y x at_m.line at_m.inside (sym picture) h))
+          ]
+      | inr (inl h) ↦ absurd (not_less u _ _ at_l.unit at_m.unit (earlier_unit plan l m x y at_l.line at_l.inside h))
+      | inr (inr h) ↦ absurd (not_less u _ _ at_m.unit at_l.unit (earlier_unit plan m l y x at_m.line at_m.inside h))
     ]
 
--- the needs of a unit are those of its place
+-- a unit of another phase is no coding tree unit
+pub filter_unit : (plan : FlightRows) (u : ℕ) (l : Line) (x : ℕ) → IsPlaceOf plan u l x → ¬ (l.phase ≡ B) → ¬ IsTreeUnit plan.pictures u
+filter_unit plan u l x place filter = λ tree.
+    let found = tree_place plan u tree in
+    let same = place_unique plan u l found.0 x found.1 place found.2 in
+    filter (ap (λ (k : Line). k.phase) same.0 ∙ found.3)
+
+-- the needs of a coding tree unit are those of its place
 pub needs_at_place : (plan : FlightRows) (u : ℕ) (l m : Line) (x y : ℕ) → IsPlaceOf plan u l x → IsPlaceOf plan u m y → read_needs plan m y ≡ read_needs plan l x
 needs_at_place plan u l m x y at_l at_m =
     let same = place_unique plan u m l y x at_m at_l in
@@ -81,3 +101,13 @@ place_inside plan u l x place =
     let lt = unit_inside plan l x place.line place.inside in
     let e = place.unit in
     omega arith
+
+-- a unit of a picture past its coding tree units is none of another picture's
+pub past_tree : (ps : List PictureRows) (u k : ℕ) → k < length ps → units_of (take k ps) + tree_units (get_or ps k no_picture) ≤ u
+    → u < units_of (take k ps) + picture_units (get_or ps k no_picture) → ¬ IsTreeUnit ps u
+past_tree ps u k inside low high = λ (j, unit).
+    elim (cases_order j k) [
+      | inl same ↦ let below : u < units_of (take k ps) + tree_units (get_or ps k no_picture) = subst (λ i. u < units_of (take i ps) + tree_units (get_or ps i no_picture)) same unit.below in omega arith
+      | inr (inl h) ↦ let more = before_more picture_units ps j k unit.picture h in omega (arith, unit.below, more)
+      | inr (inr h) ↦ let more = before_more picture_units ps k j inside h in omega (arith, unit.from, more)
+    ]

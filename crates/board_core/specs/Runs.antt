@@ -1,11 +1,12 @@
 -- Lists of events, what holds of each state that they lead to, and when they end.
 use Rattle.std.specs.Prelude.{ℕ, ◌≡◌, ◌<◌, ◌≤◌, true, false, List, [], ◌∷◌, Option, Some, None, length, IfSome}
-use Rattle.hv_base.specs.Flight.{FlightRows}
+use Rattle.flight_plan.specs.Flight.{FlightRows}
 use Rattle.hv_base.specs.declared.line.Line.{Line}
+use Rattle.hv_base.specs.declared.line.Phase.TheVariants.{B}
 use Rattle.board_core.specs.declared.event.Event.{Event}
 use Rattle.board_core.specs.declared.event.Event.TheVariants.{Draw, Read, Build, Filter, Fault}
-use Rattle.board_core.specs.Places.{IsLine, lines_of, ticket_of, unit_of, width_of}
-use Rattle.board_core.specs.Needs.{read_needs, build_needs}
+use Rattle.board_core.specs.Places.{full_count, IsLine, lines_of, ticket_of, unit_of}
+use Rattle.board_core.specs.Needs.{read_needs, unit_needs}
 use Rattle.board_core.specs.States.{CoreState, count_of, is_parsed, AreCounted, IsBad, IsBefore, IsReady, after}
 
 -- the state after a list of events
@@ -24,14 +25,15 @@ pub record IsSound (plan : FlightRows) (s : CoreState) : Type 0 where
   pub counts : length s.counts ≡ lines_of plan
   pub flags : length s.parsed ≡ lines_of plan
   pub drawn : s.drawn ≤ lines_of plan
-  -- a count is at most the line's width
-  pub in_range : (l : Line) → IsLine plan l → count_of plan s l ≤ width_of plan l
+  -- a count is at most that of the line's units
+  pub in_range : (l : Line) → IsLine plan l → count_of plan s l ≤ full_count plan l
   -- a line that isn't drawn stands at 0 with nothing parsed
   pub not_drawn : (l : Line) → IsLine plan l → s.drawn ≤ ticket_of plan l → (count_of plan s l ≡ 0) × (is_parsed plan s l ≡ false)
   -- the needs of each counted unit are counted
-  pub counted : (l : Line) → (x : ℕ) → IsLine plan l → x < count_of plan s l → AreCounted plan s (build_needs plan l x)
-  -- a parsed unit is the next of its line, isn't bad, and what parsing it needs is counted
-  pub parsed_left : (l : Line) → IsLine plan l → is_parsed plan s l ≡ true → count_of plan s l < width_of plan l
+  pub counted : (l : Line) → (x : ℕ) → IsLine plan l → x < count_of plan s l → AreCounted plan s (unit_needs plan l x)
+  -- a parsed unit is the next of a B line, isn't bad, and what parsing it needs is counted
+  pub parsed_phase : (l : Line) → IsLine plan l → is_parsed plan s l ≡ true → l.phase ≡ B
+  pub parsed_left : (l : Line) → IsLine plan l → is_parsed plan s l ≡ true → count_of plan s l < full_count plan l
   pub parsed_good : (l : Line) → IsLine plan l → is_parsed plan s l ≡ true → ¬ IsBad plan (unit_of plan l (count_of plan s l))
   pub parsed_needs : (l : Line) → IsLine plan l → is_parsed plan s l ≡ true → AreCounted plan s (read_needs plan l (count_of plan s l))
   -- no counted unit is bad
@@ -41,20 +43,20 @@ pub record IsSound (plan : FlightRows) (s : CoreState) : Type 0 where
 
 -- no unit before the least fault is uncounted
 abbrev pub IsEnded : FlightRows → CoreState → Type 0
-IsEnded plan s = (l : Line) → (x : ℕ) → IsLine plan l → x < width_of plan l → IsBefore (unit_of plan l x) s.least → x < count_of plan s l
+IsEnded plan s = (l : Line) → (x : ℕ) → IsLine plan l → x < full_count plan l → IsBefore (unit_of plan l x) s.least → x < count_of plan s l
 
 -- a job is unfinished while it has an uncounted unit before the least fault
 pub record IsUnfinished (plan : FlightRows) (s : CoreState) (l : Line) : Type 0 where
   pub line : IsLine plan l
   pub drawn : ticket_of plan l < s.drawn
-  pub unit : (x : ℕ) × (count_of plan s l ≤ x) × (x < width_of plan l) × IsBefore (unit_of plan l x) s.least
+  pub unit : (x : ℕ) × (count_of plan s l ≤ x) × (x < full_count plan l) × IsBefore (unit_of plan l x) s.least
 
 -- the event is Draw, or of a unit before the least fault
 abbrev pub IsBeforeFault : FlightRows → CoreState → Event → Type 0
 IsBeforeFault plan s Draw = Unit {0}
 IsBeforeFault plan s (Read l x) = IsBefore (unit_of plan l x) s.least
 IsBeforeFault plan s (Build l x) = IsBefore (unit_of plan l x) s.least
-IsBeforeFault plan s (Filter l) = ⊥
+IsBeforeFault plan s (Filter l) = IsBefore (unit_of plan l 0) s.least
 IsBeforeFault plan s (Fault u) = IsBefore u s.least
 
 -- the least bad unit, or none where no unit is bad

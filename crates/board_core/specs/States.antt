@@ -1,12 +1,13 @@
 -- The states of the core, when an event is ready, and what it does.
 use Rattle.std.specs.Prelude.{ℕ, ◌≡◌, ◌+◌, ◌<◌, ◌≤◌, Bool, true, false, List, Option, Some, None, min, replicate, slice_index_or, slice_set, All}
 use Rattle.std.specs.List.{Contains}
-use Rattle.hv_base.specs.Flight.{FlightRows}
+use Rattle.flight_plan.specs.Flight.{FlightRows}
 use Rattle.hv_base.specs.declared.line.Line.{Line}
+use Rattle.hv_base.specs.declared.line.Phase.TheVariants.{B}
 use Rattle.board_core.specs.declared.event.Event.{Event}
 use Rattle.board_core.specs.declared.event.Event.TheVariants.{Draw, Read, Build, Filter, Fault}
-use Rattle.board_core.specs.Places.{IsLine, IsPlaceOf, lines_of, ticket_of, unit_of, width_of}
-use Rattle.board_core.specs.Needs.{read_needs, build_needs}
+use Rattle.board_core.specs.Places.{full_count, IsLine, IsPlaceOf, lines_of, ticket_of, unit_of}
+use Rattle.board_core.specs.Needs.{read_needs, build_needs, filter_needs}
 
 -- by ticket, how many units of the line are counted and whether its next unit is parsed; the jobs drawn; the least
 -- unit that was found to break a rule
@@ -44,12 +45,13 @@ abbrev pub IsBefore : ℕ → Option ℕ → Type 0
 IsBefore u None = Unit {0}
 IsBefore u (Some fault) = u < fault
 
--- x is the next unit of a line that is drawn
+-- x is the next coding tree unit of a B line that is drawn
 pub record IsNext (plan : FlightRows) (s : CoreState) (l : Line) (x : ℕ) : Type 0 where
   pub line : IsLine plan l
+  pub phase : l.phase ≡ B
   pub drawn : ticket_of plan l < s.drawn
   pub next : x ≡ count_of plan s l
-  pub left : x < width_of plan l
+  pub left : x < full_count plan l
 
 -- the next unit isn't parsed, and what parsing it needs is counted
 pub record IsReadable (plan : FlightRows) (s : CoreState) (l : Line) (x : ℕ) : Type 0 where
@@ -63,12 +65,20 @@ pub record IsBuildable (plan : FlightRows) (s : CoreState) (l : Line) (x : ℕ) 
   pub parsed : is_parsed plan s l ≡ true
   pub needs : AreCounted plan s (build_needs plan l x)
 
--- when an event is ready; there are no filter lines
+-- a line of another phase that is drawn and uncounted, and what it needs is counted
+pub record IsFilterable (plan : FlightRows) (s : CoreState) (l : Line) : Type 0 where
+  pub line : IsLine plan l
+  pub phase : ¬ (l.phase ≡ B)
+  pub drawn : ticket_of plan l < s.drawn
+  pub uncounted : count_of plan s l ≡ 0
+  pub needs : AreCounted plan s (filter_needs plan l)
+
+-- when an event is ready
 abbrev pub IsReady : FlightRows → CoreState → Event → Type 0
 IsReady plan s Draw = s.drawn < lines_of plan
 IsReady plan s (Read l x) = IsReadable plan s l x × ¬ IsBad plan (unit_of plan l x)
 IsReady plan s (Build l x) = IsBuildable plan s l x
-IsReady plan s (Filter l) = ⊥
+IsReady plan s (Filter l) = IsFilterable plan s l
 IsReady plan s (Fault u) = IsBad plan u × ((l : Line) × (x : ℕ) × IsPlaceOf plan u l x × IsReadable plan s l x)
 
 -- the lesser of a unit and the least fault so far
@@ -88,7 +98,8 @@ after plan s (Build l x) =
       drawn = s.drawn;
       least = s.least;
     }
-after plan s (Filter l) = s
+after plan s (Filter l) =
+    record { counts = slice_set s.counts (ticket_of plan l) 1; parsed = s.parsed; drawn = s.drawn; least = s.least }
 after plan s (Fault u) =
     record { counts = s.counts; parsed = s.parsed; drawn = s.drawn; least = Some (lesser u s.least) }
 

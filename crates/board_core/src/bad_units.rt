@@ -3,7 +3,7 @@
 ghost use Rattle.std.specs.Prelude.{ℕ, ◌≡◌, ◌↔◌, IfOk, false, true, slice_index_or};
 ghost use Rattle.board_core.specs.States.{IsBad};
 
-use hv_base::FlightPlan;
+use flight_plan::FlightPlan;
 use std::alloc::{AllocError, Global};
 
 /// By unit, whether it is bad.

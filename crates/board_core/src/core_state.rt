@@ -2,20 +2,23 @@
 
 ghost use Rattle.std.specs.Prelude.{◌≡◌, ℕ, ◌+◌, ◌<◌, ◌≤◌, min, ◌↔◌, ◌∷◌, [], IsTrue, IfOk, IfSome, None};
 ghost use Rattle.std.specs.Option.{option_to_list};
-ghost use Rattle.hv_base.specs.Flight.{picture_at, units_of};
+ghost use Rattle.flight_plan.specs.Flight.{IsTreeUnit};
 ghost use Rattle.hv_base.specs.declared.line.Line.{Line};
-ghost use Rattle.board_core.specs.Places.{IsLine, IsPlaceOf, lines_of, ticket_of, width_of};
-ghost use Rattle.board_core.specs.Needs.{build_needs, collocated_of, range_needs, reach_needs, read_needs, reference_needs, row_needs};
+ghost use Rattle.board_core.specs.Places.{full_count, IsLine, IsPlaceOf, lines_of, ticket_of};
+ghost use Rattle.board_core.specs.Needs.{build_needs, collocated_of, filter_needs, range_needs, reach_needs, read_needs, row_needs, rows_needs, span_needs};
 ghost use Rattle.std.specs.List.{flat_map};
-ghost use Rattle.board_core.specs.States.{after, count_of, is_parsed, lesser, opening, AreCounted, IsBad, IsBuildable, IsNext, IsReadable, IsReady};
+ghost use Rattle.board_core.specs.States.{after, count_of, is_parsed, lesser, opening, AreCounted, IsBad, IsBuildable, IsFilterable, IsNext, IsReadable, IsReady};
 
 mod progress;
 
 use crate::event::Event;
-use crate::event_needs::{above, b_line, collocated_at, reach_at, whole_row};
-use crate::pictures::{rows_end, width_at};
+use crate::event_needs::{above, built_row, collocated_at, line_of, reach_at};
+use crate::need_list::final_rows;
+use crate::phase_rows::{PhaseRows, filter_rows};
+use crate::pictures::{full_count_at, rows_end};
 use crate::places::Places;
-use hv_base::{FlightPlan, Line, Reference, RowRange, Unit};
+use flight_plan::{FlightPlan, Reference, RowRange};
+use hv_base::{Line, Phase, Unit};
 use std::alloc::{AllocError, Global};
 use std::marker::Model;
 
@@ -76,13 +79,13 @@ impl<'a> Core<'a> {
             Event::Read(line, x) => self.is_readable(line, x)
                 && !self.is_bad(self.places.unit(line, x)),
             Event::Build(line, x) => self.is_buildable(line, x),
-            Event::Filter(_) => false,
+            Event::Filter(line) => self.is_filterable(line),
             Event::Fault(unit) => self.is_bad(unit) && self.is_found(unit),
         }
     }
 
     /// Takes an event that is ready.
-    #[tactic(auto, using(crate::proofs::Steps::step_sound))]
+    #[tactic(auto, using(crate::proofs::Steps::draw_sound))]
     pub fn step(&mut self, event: Event)
         requires { IsReady self.old.plan self.old.state event }
         ensures { self.new ≡ record { plan = self.old.plan; state = after self.old.plan self.old.state event } }
@@ -94,7 +97,7 @@ impl<'a> Core<'a> {
                 self.parsed[ticket] = true;
             }
             Event::Build(line, x) => self.build(line, x),
-            Event::Filter(_) => {}
+            Event::Filter(line) => self.filter(line),
             Event::Fault(unit) => self.least = Some(lesser_unit(unit, self.least)),
         }
     }
@@ -103,10 +106,19 @@ impl<'a> Core<'a> {
         requires { IsBuildable self.old.plan self.old.state line x }
         ensures { self.new ≡ record { plan = self.old.plan; state = after self.old.plan self.old.state (Event.Build line x) } }
     {
-        let _width = self.places.width(line.picture);
+        let _full = self.places.full_count(line);
         let ticket = self.places.ticket(line);
         self.counts[ticket] = x + 1;
         self.parsed[ticket] = false;
+    }
+
+    fn filter(&mut self, line: Line)
+        requires { IsFilterable self.old.plan self.old.state line }
+        ensures { self.new ≡ record { plan = self.old.plan; state = after self.old.plan self.old.state (Event.Filter line) } }
+    {
+        let _pictures = self.plan().pictures();
+        let ticket = self.places.ticket(line);
+        self.counts[ticket] = 1;
     }
 
     /// Whether the unit's place may be read.
@@ -125,7 +137,7 @@ impl<'a> Core<'a> {
 
     fn place(&self, unit: Unit) -> Option<(Line, u32)>
         ensures found { IfSome result (λ place. IsPlaceOf self.now.plan unit place.0 place.1) }
-        ensures none { result ≡ None → units_of self.now.plan.pictures ≤ unit }
+        ensures none { result ≡ None → ¬ IsTreeUnit self.now.plan.pictures unit }
     {
         self.places.place(unit)
     }
@@ -145,16 +157,17 @@ impl<'a> Core<'a> {
     fn is_next(&self, line: Line, x: u32) -> bool
         ensures { IsTrue result ↔ IsNext self.now.plan self.now.state line x }
     {
-        self.places.is_line(line) && self.is_next_of(line, x)
+        line.phase == Phase::B && self.places.is_line(line) && self.is_next_of(line, x)
     }
 
     fn is_next_of(&self, line: Line, x: u32) -> bool
-        requires { IsLine self.now.plan line }
+        requires line { IsLine self.now.plan line }
+        requires phase { line.phase ≡ Phase.B }
         ensures { IsTrue result ↔ IsNext self.now.plan self.now.state line x }
     {
         self.places.ticket(line) < self.drawn
             && x == self.count(line)
-            && x < self.places.width(line.picture)
+            && x < self.places.full_count(line)
     }
 
     /// How many units of the line are counted.
@@ -183,6 +196,29 @@ impl<'a> Core<'a> {
         ensures { IsTrue result ↔ IsBuildable self.now.plan self.now.state line x }
     {
         self.is_next(line, x) && self.is_flagged(line) && self.are_build_needs_counted(line, x)
+    }
+
+    fn is_filterable(&self, line: Line) -> bool
+        ensures { IsTrue result ↔ IsFilterable self.now.plan self.now.state line }
+    {
+        line.phase != Phase::B && self.places.is_line(line) && self.is_filterable_line(line)
+    }
+
+    fn is_filterable_line(&self, line: Line) -> bool
+        requires line { IsLine self.now.plan line }
+        requires phase { ¬ (line.phase ≡ Phase.B) }
+        ensures { IsTrue result ↔ IsFilterable self.now.plan self.now.state line }
+    {
+        self.places.ticket(line) < self.drawn
+            && self.count(line) == 0
+            && self.are_filter_needs_counted(line)
+    }
+
+    fn are_filter_needs_counted(&self, line: Line) -> bool
+        ensures { IsTrue result ↔ AreCounted self.now.plan self.now.state (filter_needs self.now.plan line) }
+    {
+        let rows = filter_rows(line);
+        self.is_span_counted(rows.0) && self.is_span_counted(rows.1)
     }
 
     fn is_above_counted(&self, line: Line, x: u32) -> bool
@@ -217,8 +253,7 @@ impl<'a> Core<'a> {
             ↔ AreCounted self.now.plan self.now.state
             (row_needs self.now.plan (collocated_of self.now.plan line x) line.row) }
     {
-        let plan = self.plan();
-        self.is_counted(whole_row(plan, collocated_at(plan, line, x), line.row))
+        self.is_span_counted(built_row(collocated_at(self.plan(), line, x), line.row))
     }
 
     fn is_counted(&self, need: Option<(Line, u64)>) -> bool
@@ -258,19 +293,31 @@ impl<'a> Core<'a> {
     {
         match range.picture {
             Reference::Base(_) => true,
-            Reference::Flight(picture) => self.are_rows_counted(picture, range.first, range.last),
+            Reference::Flight(picture) => {
+                self.are_rows_counted(final_rows(picture, range.first, range.last))
+            }
+        }
+    }
+
+    fn is_span_counted(&self, span: Option<PhaseRows>) -> bool
+        ensures { IsTrue result ↔ AreCounted self.now.plan self.now.state (span_needs self.now.plan span) }
+    {
+        match span {
+            Some(rows) => self.are_rows_counted(rows),
+            None => true,
         }
     }
 
     #[tactic(auto, using(crate::proofs::Counting::rows_all, crate::proofs::Counting::rows_each))]
-    fn are_rows_counted(&self, picture: u32, first: u32, last: u32) -> bool
+    fn are_rows_counted(&self, rows: PhaseRows) -> bool
         ensures { IsTrue result
             ↔ AreCounted self.now.plan self.now.state
-            (reference_needs self.now.plan (Reference.Flight picture) first last) }
+            (rows_needs self.now.plan rows.phase rows.picture rows.first rows.last) }
     {
         let plan = self.plan();
-        for row in first..rows_end(plan, picture, last) {
-            if self.count(b_line(picture, row)) < width_at(plan, picture) {
+        for row in rows.first..rows_end(plan, rows.picture, rows.last) {
+            let line = line_of(rows.phase, rows.picture, row);
+            if self.count(line) < full_count_at(plan, line) {
                 return false;
             }
         }

@@ -11,7 +11,7 @@ pub enum Event {
     Read(Line, u32),
     /// The coding tree unit at this place of a B line is built and counted.
     Build(Line, u32),
-    /// A filter line is done and counted.
+    /// A line of another phase than B is filtered as a whole and counted.
     Filter(Line),
     /// This unit is found to break a rule.
     Fault(Unit),

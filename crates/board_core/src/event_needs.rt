@@ -3,15 +3,17 @@
 ghost use Rattle.hv_base.specs.declared.line.Line.{Line};
 ghost use Rattle.std.specs.Prelude.{ℕ, ◌≡◌, ◌+◌, ◌*◌, ◌≤◌, ◌↔◌, [], slice_index_or, IfSome, None};
 ghost use Rattle.std.specs.Option.{option_to_list};
-ghost use Rattle.hv_base.specs.Flight.{picture_at, units_of};
-ghost use Rattle.board_core.specs.Needs.{above_needs, collocated_of, read_needs, row_needs, unit_in_picture, IsNeedsOf};
+ghost use Rattle.flight_plan.specs.Flight.{picture_at, FlightRows, IsTreeUnit};
+ghost use Rattle.board_core.specs.Needs.{above_needs, collocated_of, filter_needs, read_needs, row_needs, span_needs, unit_in_picture, IsNeedsOf};
 ghost use Rattle.board_core.specs.Places.{IsLine, IsPlaceOf, width_of};
 
 use crate::event::Event;
 use crate::need_list::Needs;
-use crate::pictures::{rows_at, sync_at, width_at};
+use crate::phase_rows::{PhaseRows, filter_rows};
+use crate::pictures::{sync_at, width_at};
 use crate::places::row_and_column;
-use hv_base::{FlightPlan, Line, Phase, Reference, RowRange, Unit};
+use flight_plan::{FlightPlan, Reference, RowRange};
+use hv_base::{Line, Phase, Unit};
 
 /// What must be counted before `event`.
 pub fn needs<'a>(plan: &'a FlightPlan, event: Event) -> Needs<'a>
@@ -19,22 +21,24 @@ pub fn needs<'a>(plan: &'a FlightPlan, event: Event) -> Needs<'a>
 {
     match event {
         Event::Draw => no_needs(plan),
-        Event::Filter(_) => no_needs(plan),
+        Event::Filter(line) => filter_list(plan, line),
         Event::Read(line, x) => read_list(plan, line, x),
         Event::Build(line, x) => Needs::new(
             plan,
             above(plan, line, x),
-            whole_row(plan, collocated_at(plan, line, x), line.row),
+            built_row(collocated_at(plan, line, x), line.row),
+            None,
             reach_at(plan, line, x),
         ),
         Event::Fault(unit) => fault_needs(plan, unit),
     }
 }
 
-/// What parsing the unit of this number needs; nothing where the flight has no such unit.
+/// What parsing the coding tree unit of this number needs; nothing where the flight has no such coding tree unit.
 fn fault_needs<'a>(plan: &'a FlightPlan, unit: Unit) -> Needs<'a>
-    ensures at_place { (l : Line) (x : ℕ) → IsPlaceOf plan.now unit l x → result ≡ read_needs plan.now l x }
-    ensures none { units_of plan.now.pictures ≤ unit → result ≡ [] }
+    ensures at_place { (l : Line) (x : ℕ) → IsPlaceOf plan.now unit l x → l.phase ≡ Phase.B
+        → result ≡ read_needs plan.now l x }
+    ensures none { ¬ IsTreeUnit plan.now.pictures unit → result ≡ [] }
 {
     match place_of(plan, unit) {
         Some((line, x)) => read_list(plan, line, x),
@@ -45,13 +49,20 @@ fn fault_needs<'a>(plan: &'a FlightPlan, unit: Unit) -> Needs<'a>
 fn no_needs<'a>(plan: &'a FlightPlan) -> Needs<'a>
     ensures { result ≡ [] }
 {
-    Needs::new(plan, None, None, &[])
+    Needs::new(plan, None, None, None, &[])
 }
 
 fn read_list<'a>(plan: &'a FlightPlan, line: Line, x: u32) -> Needs<'a>
     ensures { result ≡ read_needs plan.now line x }
 {
-    Needs::new(plan, above(plan, line, x), None, &[])
+    Needs::new(plan, above(plan, line, x), None, None, &[])
+}
+
+fn filter_list<'a>(plan: &'a FlightPlan, line: Line) -> Needs<'a>
+    ensures { result ≡ filter_needs plan.now line }
+{
+    let (first, second) = filter_rows(line);
+    Needs::new(plan, None, first, second, &[])
 }
 
 /// What is needed of the row above.
@@ -68,22 +79,20 @@ pub fn above(plan: &FlightPlan, line: Line, x: u32) -> Option<(Line, u64)>
     } else {
         width
     };
-    Some((b_line(line.picture, line.row - 1), count))
+    Some((line_of(Phase::B, line.picture, line.row - 1), count))
 }
 
-/// A whole row of a reference picture, where there is one and it has the row.
-pub fn whole_row(plan: &FlightPlan, reference: Option<Reference>, row: u32) -> Option<(Line, u64)>
-    ensures value { option_to_list result ≡ row_needs plan.now reference row }
-    ensures line { IfSome result (λ need. IsLine plan.now need.0) }
+/// A row of a reference picture as it is built, where there is one.
+pub fn built_row(reference: Option<Reference>, row: u32) -> Option<PhaseRows>
+    ensures { (plan : FlightRows) → span_needs plan result ≡ row_needs plan reference row }
 {
     match reference {
-        Some(Reference::Flight(picture)) => {
-            if row < rows_at(plan, picture) {
-                Some((b_line(picture, row), u64::from(width_at(plan, picture))))
-            } else {
-                None
-            }
-        }
+        Some(Reference::Flight(picture)) => Some(PhaseRows {
+            phase: Phase::B,
+            picture,
+            first: row,
+            last: u64::from(row),
+        }),
         Some(Reference::Base(_)) => None,
         None => None,
     }
@@ -113,30 +122,33 @@ pub fn reach_at<'a>(plan: &'a FlightPlan, line: Line, x: u32) -> &'a [RowRange]
     }
 }
 
-/// The B line of a row of a picture.
-pub fn b_line(picture: u32, row: u32) -> Line
-    ensures { result ≡ record { phase = Phase.B; picture = picture; row = row } }
+/// The line of a phase of a row of a picture.
+pub fn line_of(phase: Phase, picture: u32, row: u32) -> Line
+    ensures { result ≡ record { phase = phase; picture = picture; row = row } }
 {
     Line {
-        phase: Phase::B,
+        phase,
         picture,
         row,
     }
 }
 
-/// The line and the place there of a unit. `None` exactly where the flight has no such unit.
+/// The line and the place there of a coding tree unit. `None` exactly where the flight has no such coding tree unit.
 fn place_of(plan: &FlightPlan, unit: Unit) -> Option<(Line, u32)>
     ensures found { IfSome result (λ place. IsPlaceOf plan.now unit place.0 place.1) }
-    ensures none { result ≡ None ↔ (units_of plan.now.pictures ≤ unit) }
+    ensures phase { IfSome result (λ place. place.0.phase ≡ Phase.B) }
+    ensures none { result ≡ None → ¬ IsTreeUnit plan.now.pictures unit }
 {
     let mut within = unit;
     for (picture, found) in plan.pictures().iter().enumerate() {
-        let units = u64::from(found.rows()) * u64::from(found.width());
-        if within < units {
+        if within < found.tree_units() {
             let (row, x) = row_and_column(found.rows(), found.width(), within);
-            return Some((b_line(picture as u32, row), x));
+            return Some((line_of(Phase::B, picture as u32, row), x));
         }
-        within -= units;
+        if within < found.units() {
+            return None;
+        }
+        within -= found.units();
     }
     None
 }

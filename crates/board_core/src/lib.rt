@@ -3,10 +3,12 @@
 
 mod bad_units;
 mod core_state;
+mod drawing_order;
 mod event;
 mod event_needs;
 mod laws;
 mod need_list;
+mod phase_rows;
 mod pictures;
 mod places;
 mod search;
@@ -14,7 +16,7 @@ mod search;
 pub use core_state::Core;
 pub use event::Event;
 pub use event_needs::needs;
-pub use laws::{ending_runs_agree, every_run_is_sound};
+pub use laws::{ending_runs_agree, every_run_is_sound, lines_are_drawn_in_order};
 pub use need_list::Needs;
 
 #[cfg(test)]

@@ -1,8 +1,9 @@
 use super::*;
-use hv_base::{FlightPicture, FlightPlan, Line, Phase};
+use flight_plan::{FlightPicture, FlightPlan};
+use hv_base::{Line, Phase};
 use std::alloc::{AllocError, Global};
 
-/// A flight of one picture of three by two units, with the row above needed.
+/// A flight of one picture of two rows of three coding tree units, with entropy coding sync.
 fn plan_of(alloc: Global) -> Result<FlightPlan, AllocError> {
     let mut plan = FlightPlan::new(alloc);
     let picture = FlightPicture::new(3, 2, true, Vec::new(alloc), Vec::new(alloc));
@@ -24,6 +25,22 @@ fn are_needs_told(plan: &FlightPlan) -> bool {
     first.get(0) == Some((line(0), 2)) && last.get(0) == Some((line(0), 3)) && last.get(1) == None
 }
 
+/// Whether the horizontal edges of the first of two rows wait for the vertical ones of both, and for both as they are
+/// built.
+fn are_filter_needs_told(plan: &FlightPlan) -> bool {
+    let line = |phase, row| Line {
+        phase,
+        picture: 0,
+        row,
+    };
+    let list = needs(plan, Event::Filter(line(Phase::H, 0)));
+    let is_vertical = list.get(0) == Some((line(Phase::V, 0), 1))
+        && list.get(1) == Some((line(Phase::V, 1), 1));
+    let is_built = list.get(2) == Some((line(Phase::B, 0), 3))
+        && list.get(3) == Some((line(Phase::B, 1), 3));
+    is_vertical && is_built && list.get(4) == None
+}
+
 /// How many steps the core takes until it is done.
 fn steps_to_the_end(core: &mut Core) -> u32 {
     let mut steps = 0u32;
@@ -36,13 +53,16 @@ fn steps_to_the_end(core: &mut Core) -> u32 {
     if core.done() { steps } else { 0 }
 }
 
-/// Whether the core runs itself to the end, with Draw for each row and two events a unit.
+/// Whether the core runs itself to the end: with Draw for each of eight lines, two events a coding tree unit and one a
+/// filter line.
 fn is_run(alloc: Global) -> bool {
     let Ok(plan) = plan_of(alloc) else {
         return false;
     };
     match Core::new(alloc, &plan) {
-        Ok(mut core) => are_needs_told(&plan) && steps_to_the_end(&mut core) == 14,
+        Ok(mut core) => are_needs_told(&plan)
+            && are_filter_needs_told(&plan)
+            && steps_to_the_end(&mut core) == 26,
         Err(AllocError) => false,
     }
 }

@@ -30,16 +30,3 @@ fn is_text(found: Result<String, AllocError>, wanted: &str) -> bool {
 fn answers_read_as_documented(rt: HostRuntime) {
     assert!(rt; are_told(rt.alloc()));
 }
-
-/// Whether a plan takes a picture and a bad unit of it.
-fn is_planned(alloc: Global) -> bool {
-    let mut plan = FlightPlan::new(alloc);
-    let picture = FlightPicture::new(3, 2, true, Vec::new(alloc), Vec::new(alloc));
-    let is_taken = plan.takes(&picture) && plan.push(picture).is_ok();
-    is_taken && plan.units() == 6 && plan.push_bad(5).is_ok() && plan.bad() == [5].as_slice()
-}
-
-#[test]
-fn a_flight_takes_a_picture(rt: HostRuntime) {
-    assert!(rt; is_planned(rt.alloc()));
-}

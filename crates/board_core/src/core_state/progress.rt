@@ -1,16 +1,16 @@
 //! What a flight still has to do: whether it has ended, and an event that is ready where it hasn't.
 
 ghost use Rattle.std.specs.Prelude.{◌≡◌, ◌<◌, ◌↔◌, IsTrue, IfSome, None, Some};
-ghost use Rattle.hv_base.specs.Flight.{IsFlight};
+ghost use Rattle.flight_plan.specs.Flight.{IsFlight};
 ghost use Rattle.hv_base.specs.declared.line.Line.{Line};
-ghost use Rattle.board_core.specs.Places.{IsLine, lines_of, ticket_of, unit_of, width_of};
+ghost use Rattle.board_core.specs.Places.{IsLine, lines_of, ticket_of};
 ghost use Rattle.board_core.specs.States.{count_of, IsBefore, IsReady};
 ghost use Rattle.board_core.specs.Runs.{IsBeforeFault, IsEnded, IsUnfinished};
 ghost use Rattle.board_core.specs.Progress.{AreDone, IsLeft};
 
 use super::Core;
 use crate::event::Event;
-use hv_base::{Line, Unit};
+use hv_base::{Line, Phase, Unit};
 
 impl<'a> Core<'a> {
     /// Whether the list of events has ended: no unit before the least fault is uncounted.
@@ -35,7 +35,8 @@ impl<'a> Core<'a> {
         }
     }
 
-    /// The next event of the first line that is left: the line is drawn, or its next unit parsed or built.
+    /// The next event of the first line that is left: the line is drawn, its next unit parsed or built, or the line
+    /// filtered.
     fn next_event(&self, line: Line) -> Event
         requires line { IsLine self.now.plan line }
         requires left { IsLeft self.now.plan self.now.state line }
@@ -44,16 +45,34 @@ impl<'a> Core<'a> {
         ensures before { IsBeforeFault self.now.plan self.now.state result }
         ensures draw { result ≡ Event.Draw → (l : Line) → ¬ IsUnfinished self.now.plan self.now.state l }
     {
-        if self.places.ticket(line) < self.drawn {
+        if self.places.ticket(line) >= self.drawn {
+            Event::Draw
+        } else if line.phase == Phase::B {
             self.unit_event(line)
         } else {
-            Event::Draw
+            self.filter_event(line)
         }
     }
 
-    /// The next event of a drawn line.
+    /// The event of a drawn filter line.
+    #[tactic(auto, using(crate::proofs::Progress::filter_before))]
+    fn filter_event(&self, line: Line) -> Event
+        requires line { IsLine self.now.plan line }
+        requires phase { ¬ (line.phase ≡ Phase.B) }
+        requires drawn { ticket_of self.now.plan line < self.now.state.drawn }
+        requires left { IsLeft self.now.plan self.now.state line }
+        requires earlier { AreDone self.now.plan self.now.state (ticket_of self.now.plan line) }
+        ensures ready { IsReady self.now.plan self.now.state result }
+        ensures before { IsBeforeFault self.now.plan self.now.state result }
+        ensures unit { ¬ (result ≡ Event.Draw) }
+    {
+        Event::Filter(line)
+    }
+
+    /// The next event of a drawn B line.
     fn unit_event(&self, line: Line) -> Event
         requires line { IsLine self.now.plan line }
+        requires phase { line.phase ≡ Phase.B }
         requires drawn { ticket_of self.now.plan line < self.now.state.drawn }
         requires left { IsLeft self.now.plan self.now.state line }
         requires earlier { AreDone self.now.plan self.now.state (ticket_of self.now.plan line) }
@@ -109,7 +128,7 @@ impl<'a> Core<'a> {
         ensures { IsTrue result ↔ IsLeft self.now.plan self.now.state line }
     {
         let x = self.count(line);
-        x < self.places.width(line.picture) && self.is_before_fault(self.places.unit(line, x))
+        x < self.places.full_count(line) && self.is_before_fault(self.places.unit(line, x))
     }
 
     fn is_before_fault(&self, unit: Unit) -> bool

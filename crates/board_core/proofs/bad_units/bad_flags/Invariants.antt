@@ -1,6 +1,6 @@
 use Rattle.std.proofs.Common.{ℕ, ◌≡◌, ◌<◌, false, true, length, slice_index, slice_index_or}
 use Rattle.std.specs.List.{Contains}
-use Rattle.hv_base.specs.Flight.{units_of}
+use Rattle.flight_plan.specs.Flight.{units_of}
 use Rattle.board_core.proofs.bad_units.bad_flags.Given as goal
 
 abbrev pub invariant-loop-unit : goal.invariant-loop-unit

@@ -1,5 +1,5 @@
 use Rattle.std.proofs.Common.{◌≡◌, ◌+◌, take}
-use Rattle.hv_base.specs.Flight.{units_of}
+use Rattle.flight_plan.specs.Flight.{units_of}
 use Rattle.board_core.proofs.event_needs.place_of.Given as goal
 
 abbrev pub invariant-loop-picture : goal.invariant-loop-picture

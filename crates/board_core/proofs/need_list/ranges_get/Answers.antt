@@ -1,8 +1,8 @@
 use Rattle.std.proofs.Common.{ℕ, ◌≡◌, ◌∙◌, ◌+◌, ◌-◌, List, sym, ap, arith, get_or, drop, slice_get, length}
 use Rattle.std.specs.List.{flat_map}
 use Rattle.hv_base.specs.declared.line.Line.{Line}
-use Rattle.hv_base.specs.declared.row_range.RowRange.{RowRange}
-use Rattle.hv_base.specs.declared.row_range.Reference.TheVariants.{Base}
+use Rattle.flight_plan.specs.declared.row_range.RowRange.{RowRange}
+use Rattle.flight_plan.specs.declared.row_range.Reference.TheVariants.{Base}
 use Rattle.board_core.specs.Needs.{range_needs}
 use Rattle.board_core.proofs.NeedList.{left_item, ranges_from, right_item}
 use Rattle.board_core.proofs.need_list.ranges_get.Goals as goal

@@ -2,8 +2,8 @@ use Rattle.std.proofs.Common.{ℕ, ◌≡◌, ◌≤◌, true, false, inl, inr, 
 use Rattle.std.proofs.lemmas.Bool.{cases_lt}
 use Rattle.std.proofs.lemmas.List.{get_or_default}
 use Rattle.hv_base.specs.declared.line.Line.{Line}
-use Rattle.hv_base.specs.declared.row_range.RowRange.{RowRange}
-use Rattle.hv_base.specs.declared.row_range.Reference.TheVariants.{Base}
+use Rattle.flight_plan.specs.declared.row_range.RowRange.{RowRange}
+use Rattle.flight_plan.specs.declared.row_range.Reference.TheVariants.{Base}
 use Rattle.board_core.specs.Needs.{range_needs}
 use Rattle.board_core.specs.States.{AreCounted, count_of}
 use Rattle.board_core.proofs.Counting.{pieces_all, pieces_each}

@@ -1,5 +1,5 @@
 use Rattle.std.proofs.Common.{ℕ, ◌<◌, slice_index_or}
-use Rattle.hv_base.specs.declared.row_range.RowRange.{RowRange}
+use Rattle.flight_plan.specs.declared.row_range.RowRange.{RowRange}
 use Rattle.board_core.specs.Needs.{range_needs}
 use Rattle.board_core.specs.States.{AreCounted}
 use Rattle.board_core.proofs.core_state.Core.are_ranges_counted.Given as goal

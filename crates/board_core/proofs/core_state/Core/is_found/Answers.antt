@@ -1,7 +1,7 @@
-use Rattle.std.proofs.Common.{ℕ, ◌≡◌, true, false, subst, refl, arith}
+use Rattle.std.proofs.Common.{ℕ, ◌≡◌, true, false, subst, refl}
 use Rattle.hv_base.specs.declared.line.Line.{Line}
 use Rattle.board_core.specs.States.{IsReadable}
-use Rattle.board_core.proofs.Units.{place_inside, place_unique}
+use Rattle.board_core.proofs.Units.{place_tree, place_unique}
 use Rattle.board_core.proofs.core_state.Core.is_found.Goals as goal
 
 pub returns-in-Some : goal.returns-in-Some
@@ -18,5 +18,5 @@ returns-in-Some c =
 pub returns-in-None : goal.returns-in-None
 returns-in-None c = (
   λ t. let e : false ≡ true = t in cc,
-  λ h. let lt = place_inside c.args.self.now.plan c.args.unit h.0 h.1 h.2 in let past = c.in-None.ensures.none refl in absurd (omega arith),
+  λ h. absurd (c.in-None.ensures.none refl (place_tree c.args.self.now.plan c.args.unit h.0 h.1 h.2 h.3.next.phase)),
 )

@@ -1,6 +1,6 @@
 use Rattle.std.proofs.Common.{◌≡◌, ◌∙◌, ◌+◌, ◌*◌, [], ap, subst, sym, slice_index_or}
 use Rattle.std.specs.List.{flat_map}
-use Rattle.hv_base.specs.Flight.{FlightRows, picture_at}
+use Rattle.flight_plan.specs.Flight.{FlightRows, picture_at}
 use Rattle.board_core.specs.Places.{width_of}
 use Rattle.board_core.specs.Needs.{range_needs, reach_needs}
 use Rattle.board_core.specs.States.{AreCounted}

@@ -1,10 +1,10 @@
 //! What a flight of pictures is to do: the pictures that are decoded together, each with the rows that it waits for.
 
-ghost use Rattle.std.specs.Prelude.{◌≡◌, ◌<◌, ◌≤◌, ◌++◌, ◌∷◌, ◌↔◌, [], None, length, OnOk, OnErr, IsTrue, All, slice_index_or};
-ghost use Rattle.hv_base.specs.Flight.{IsEarlier, IsFlight, IsInRange, IsNoneOrEarlier, ReadsEarlier, units_of};
+ghost use Rattle.std.specs.Prelude.{◌≡◌, ◌<◌, ◌≤◌, ◌*◌, ◌++◌, ◌∷◌, ◌↔◌, [], None, length, OnOk, OnErr, IsTrue, All, slice_index_or};
+ghost use Rattle.flight_plan.specs.Flight.{IsEarlier, IsFlight, IsInRange, IsNoneOrEarlier, IsTreeUnit, ReadsEarlier, picture_units, tree_units, units_of};
 
 use crate::row_range::{Reference, RowRange, RowRanges};
-use crate::unit::Unit;
+use hv_base::Unit;
 use std::alloc::{AllocError, Global};
 use std::marker::Model;
 
@@ -26,7 +26,7 @@ pub struct FlightPicture {
 }
 
 impl Model for FlightPicture {
-    ghost use Rattle.hv_base.specs.Flight.{PictureRows, IsInRange};
+    ghost use Rattle.flight_plan.specs.Flight.{PictureRows, IsInRange};
 
     ghost Value = { PictureRows };
 
@@ -93,6 +93,23 @@ impl FlightPicture {
         self.rows
     }
 
+    /// The coding tree units of the picture.
+    pub fn tree_units(&self) -> Unit
+        ensures value { result ≡ tree_units self.now }
+        ensures small { result ≤ 262144 }
+    {
+        u64::from(self.rows) * u64::from(self.width)
+    }
+
+    /// The units of the picture: its coding tree units, and one a row for each of the three filter phases.
+    pub fn units(&self) -> Unit
+        ensures value { result ≡ picture_units self.now }
+        ensures small { result ≤ 263680 }
+        ensures in_range { IsInRange self.now }
+    {
+        self.tree_units() + 3 * u64::from(self.rows)
+    }
+
     /// Whether entropy coding sync is on: each row begins with the contexts after two units of the row above.
     pub fn sync(&self) -> bool
         ensures { result ≡ self.now.sync }
@@ -157,8 +174,8 @@ fn is_none_or_earlier(reference: Option<Reference>, count: usize) -> bool
     }
 }
 
-/// The pictures that are decoded together, in decoding order, and the units at which a rule is broken. Contracts see a
-/// `FlightRows`.
+/// The pictures that are decoded together, in decoding order, and the coding tree units at which a rule is broken.
+/// Contracts see a `FlightRows`.
 #[derive(Drop)]
 pub struct FlightPlan {
     pictures: Vec<FlightPicture>,
@@ -168,7 +185,7 @@ pub struct FlightPlan {
 
 impl Model for FlightPlan {
     ghost use Rattle.std.specs.Prelude.{◌≡◌, ◌*◌, ◌≤◌, length};
-    ghost use Rattle.hv_base.specs.Flight.{FlightRows, IsFlight, units_of};
+    ghost use Rattle.flight_plan.specs.Flight.{FlightRows, IsFlight, units_of};
 
     ghost Value = { FlightRows };
 
@@ -177,7 +194,7 @@ impl Model for FlightPlan {
     ghost invariant = { λ p.
         IsFlight (record { pictures = p.pictures.items; bad = p.bad.items })
         × (p.units ≡ units_of p.pictures.items)
-        × (p.units ≤ 262144 * length p.pictures.items) };
+        × (p.units ≤ 263680 * length p.pictures.items) };
 }
 
 impl FlightPlan {
@@ -207,15 +224,29 @@ impl FlightPlan {
         ensures ok { OnOk result (self.new ≡ record { pictures = self.old.pictures ++ picture ∷ []; bad = self.old.bad }) }
         ensures err { OnErr result (self.new ≡ self.old) }
     {
-        let units = u64::from(picture.rows) * u64::from(picture.width);
+        let units = picture.units();
         self.pictures.push(picture)?;
         self.units += units;
         Ok(())
     }
 
-    /// Adds a unit at which a rule is broken. After want of memory the flight is as before.
+    /// Whether this is the number of a coding tree unit of one of the pictures.
+    pub fn is_tree_unit(&self, unit: Unit) -> bool
+        ensures { IsTrue result ↔ IsTreeUnit self.now.pictures unit }
+    {
+        let mut first = 0;
+        for picture in &self.pictures {
+            if first <= unit && unit - first < picture.tree_units() {
+                return true;
+            }
+            first += picture.units();
+        }
+        false
+    }
+
+    /// Adds a coding tree unit at which a rule is broken. After want of memory the flight is as before.
     pub fn push_bad(&mut self, unit: Unit) -> Result<(), AllocError>
-        requires { unit < units_of self.old.pictures }
+        requires { IsTreeUnit self.old.pictures unit }
         ensures ok { OnOk result (self.new ≡ record { pictures = self.old.pictures; bad = self.old.bad ++ unit ∷ [] }) }
         ensures err { OnErr result (self.new ≡ self.old) }
     {
@@ -231,17 +262,19 @@ impl FlightPlan {
         self.pictures.as_slice()
     }
 
-    /// The units at which a rule is broken.
+    /// The coding tree units at which a rule is broken.
     pub fn bad(&self) -> &[Unit]
         ensures value { result.now ≡ self.now.bad }
         ensures flight { IsFlight self.now }
+        ensures inside { All (λ unit. unit < units_of self.now.pictures) self.now.bad }
     {
         self.bad.as_slice()
     }
 
-    /// How many coding tree units the pictures have.
+    /// How many units the pictures have.
     pub fn units(&self) -> Unit
-        ensures { result ≡ units_of self.now.pictures }
+        ensures value { result ≡ units_of self.now.pictures }
+        ensures small { result ≤ 263680 * 65536 }
     {
         self.units
     }

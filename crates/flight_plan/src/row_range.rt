@@ -1,7 +1,7 @@
 //! Rows of other pictures that a picture reads.
 
 ghost use Rattle.std.specs.Prelude.{◌≡◌, ◌++◌, ◌∷◌, ◌↔◌, [], OnOk, OnErr, IsTrue, All};
-ghost use Rattle.hv_base.specs.Flight.{IsEarlier};
+ghost use Rattle.flight_plan.specs.Flight.{IsEarlier};
 
 use std::alloc::{AllocError, Global};
 use std::marker::Model;
@@ -43,7 +43,7 @@ pub struct RowRanges {
 
 impl Model for RowRanges {
     ghost use Rattle.std.specs.Prelude.{List};
-    ghost use Rattle.hv_base.specs.declared.row_range.RowRange.{RowRange};
+    ghost use Rattle.flight_plan.specs.declared.row_range.RowRange.{RowRange};
 
     ghost Value = { List RowRange };
 

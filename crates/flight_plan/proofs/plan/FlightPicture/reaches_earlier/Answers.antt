@@ -1,7 +1,7 @@
 use Rattle.std.proofs.Common.{◌≡◌, All, List, false, true, subst, sym, ap, ◌∙◌}
-use Rattle.hv_base.specs.declared.row_range.RowRange.{RowRange}
-use Rattle.hv_base.specs.Flight.{IsEarlier, PictureRows}
-use Rattle.hv_base.proofs.flight_plan.FlightPicture.reaches_earlier.Goals as goal
+use Rattle.flight_plan.specs.declared.row_range.RowRange.{RowRange}
+use Rattle.flight_plan.specs.Flight.{IsEarlier, PictureRows}
+use Rattle.flight_plan.proofs.plan.FlightPicture.reaches_earlier.Goals as goal
 
 pub returns-then-not-are_earlier : goal.returns-then-not-are_earlier
 returns-then-not-are_earlier c =
