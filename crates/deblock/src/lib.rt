@@ -13,3 +13,6 @@ mod window;
 
 pub use row::{Row, horizontal_row, vertical_row};
 pub use view::Places;
+
+#[cfg(test)]
+mod tests;

@@ -76,3 +76,29 @@ fn edges_and_bands_move_samples(rt: HostRuntime) -> Result<(), Fail> {
     }
     Ok(())
 }
+
+/// A sample lower than those on both sides.
+#[test]
+fn a_valley_is_raised(rt: HostRuntime) {
+    let here = [OffsetUnit {
+        offset: ComponentOffset::Edge(0, [2, 1, -1, -2]),
+        slice: 0,
+        across: true,
+    }];
+    let row = OffsetRow {
+        width: 8,
+        height: 1,
+        size: 8,
+        depth: 8,
+        row: 0,
+        above: &[],
+        here: &here,
+        below: &[],
+        place_log2: 2,
+        places: 2,
+        kept: &[],
+    };
+    let mut out = [0; 8];
+    sao_row(&row, &[10, 8, 10, 10, 10, 10, 10, 10], &mut out);
+    assert!(rt; out == [10, 10, 9, 10, 10, 10, 10, 10]);
+}
