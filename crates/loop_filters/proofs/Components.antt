@@ -1,5 +1,5 @@
 -- Components of a format.
-use Rattle.std.proofs.Common.{◌≡◌, ℕ, zero, suc, ◌+◌, ◌-◌, ◌*◌, ◌/◌, ◌%◌, ◌<◌, ◌≤◌, refl, sym, ◌∙◌, ap, arith}
+use Rattle.std.proofs.Common.{◌≡◌, ℕ, zero, suc, ◌/◌, ◌%◌, ◌<◌, refl, sym, ◌∙◌, arith}
 use Rattle.spec_deblocking.specs.declared.place.Plane.TheVariants.{Luma}
 use Rattle.spec_loop_filters.specs.declared.format.FilterFormat.{FilterFormat}
 use Rattle.spec_loop_filters.specs.Filters.{height_of, width_of}

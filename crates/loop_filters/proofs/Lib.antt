@@ -5,3 +5,4 @@ pub mod Components
 pub mod Lines
 pub mod RowParts
 pub mod Final
+pub mod Parts

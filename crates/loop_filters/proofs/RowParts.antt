@@ -1,5 +1,5 @@
 -- Rows of coding tree blocks in a plane.
-use Rattle.std.proofs.Common.{◌==◌, ◌&&◌, ◌^◌, nat_le, nat_lt, Bool, true, false, cond, ◌≡◌, ℕ, zero, suc, ◌+◌, ◌-◌, ◌*◌, ◌/◌, ◌<◌, ◌≤◌, List, inl, inr, length, get_or, take, drop, refl, ap, sym, subst, ◌∙◌, arith}
+use Rattle.std.proofs.Common.{◌==◌, ◌&&◌, ◌^◌, nat_le, nat_lt, Bool, false, cond, ◌≡◌, ℕ, ◌+◌, ◌-◌, ◌*◌, ◌/◌, ◌<◌, ◌≤◌, List, inl, inr, length, get_or, take, drop, ap, sym, subst, ◌∙◌, arith}
 use Rattle.std.specs.Prelude.{min}
 use Rattle.std.proofs.Math.Nat.{mul-le-mul_left, mul-le-mul, lt_of_mul-lt-mul_left, mul-add-div}
 use Rattle.std.proofs.lemmas.List.{get_or-drop, get_or-take}

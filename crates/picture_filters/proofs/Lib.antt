@@ -1,3 +1,5 @@
 pub mod Lines
 pub mod Same
 pub mod Gathered
+pub mod Formats
+pub mod Whole

@@ -8,6 +8,7 @@ use Rattle.header_types.specs.declared.slice.SliceDeblocking.{SliceDeblocking}
 use Rattle.plan_types.specs.declared.segment_plan.SegmentPlan.{SegmentPlan}
 use Rattle.plan_types.specs.declared.picture_plan.PicturePlan.{PicturePlan}
 use Rattle.spec_boundary_strengths.specs.declared.place.UnitPlace.{UnitPlace}
+use Rattle.spec_loop_filters.specs.declared.format.FilterFormat.{FilterFormat}
 use Rattle.spec_picture_data.specs.Shapes.{picture_shape}
 use Rattle.spec_picture_motion.specs.Field.{first_column, first_row, is_of_unit, unit_places}
 use Rattle.spec_sample_adaptive_offset.specs.declared.unit.OffsetUnit.{OffsetUnit}
@@ -20,6 +21,12 @@ use Rattle.picture_filters.specs.declared.unit.Unit.{Unit}
 -- a planned picture, what is known of its places, and the offsets of its units
 pub record Filtering : Type 0 where
   pub plan : PicturePlan
+  pub places : FieldPlaces
+  pub units : FieldUnits
+
+-- the places and units of a picture of a format
+pub record Viewed : Type 0 where
+  pub format : FilterFormat
   pub places : FieldPlaces
   pub units : FieldUnits
 

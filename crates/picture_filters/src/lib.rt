@@ -1,12 +1,15 @@
-//! What the loop filters of a picture need, unit after unit (H.265 8.7): what is known beside a coding tree unit, and its
-//! places and offsets laid into those of the picture.
+//! What the loop filters of a picture need, unit after unit (H.265 8.7): what is known beside a coding tree unit, and
+//! its places and offsets laid into those of the picture. By these the picture's samples are taken through the filters.
 #![tactic(auto)]
 
 mod beside;
+mod format;
 mod layers;
 mod motion_near;
 mod offsets;
 mod picture;
+mod planned;
 mod unit;
+mod view;
 
 pub use picture::PictureFilters;

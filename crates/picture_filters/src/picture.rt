@@ -1,26 +1,32 @@
 //! What the loop filters of a picture need while its coding tree units are read.
 
-ghost use Rattle.std.specs.Prelude.{◌≡◌, ℕ, ◌≤◌, IfOk};
+ghost use Rattle.std.specs.Prelude.{◌≡◌, ◌-◌, ◌^◌, ℕ, ◌<◌, ◌≤◌, IfOk};
 ghost use Rattle.std.specs.List.{All};
 ghost use Rattle.ctu_records.specs.Tree.{qp_at};
 ghost use Rattle.filter_field.specs.Places.{HasPlaces};
 ghost use Rattle.filter_field.specs.Units.{HasUnits};
 ghost use Rattle.header_types.specs.SequenceParameterSets.{height_in_ctbs};
+ghost use Rattle.loop_filters.specs.Scratch.{HasRoom};
 ghost use Rattle.picture_buffer.specs.Motion.{motions_of};
+ghost use Rattle.picture_buffer.specs.Planes.{HasSides, plane_height, plane_width, samples_of};
 ghost use Rattle.picture_filters.specs.Filtering.{IsUnit, data_of};
+ghost use Rattle.spec_loop_filters.specs.Filters.{depth_of};
 ghost use Rattle.spec_motion.specs.Units.{IsPlacedItem};
 ghost use Rattle.spec_picture_filters.specs.Data.{no_data};
+ghost use Rattle.spec_picture_filters.specs.Filtered.{filter_format, filtered};
 ghost use Rattle.spec_picture_filters.specs.Units.{read_added};
 
 use crate::beside::unit_sides;
 use crate::layers::{NO_PLACE, lay_places};
 use crate::motion_near::MotionNear;
 use crate::offsets::lay_offsets;
+use crate::planned::filter_planned;
 use crate::unit::Unit;
 use boundary_strengths::unit_places;
 use ctu_records::Records;
 use filter_field::{PlaceField, UnitField};
-use picture_buffer::MotionField;
+use loop_filters::FilterScratch;
+use picture_buffer::{MotionField, Planes};
 use picture_layout::{Layout, slice_address};
 use plan_types::{PicturePlan, SegmentPlan};
 use std::alloc::{AllocError, Global};
@@ -33,6 +39,8 @@ pub struct PictureFilters<'a> {
     layout: Layout,
     places: PlaceField,
     units: UnitField,
+    /// Memory in which samples are filtered.
+    scratch: FilterScratch,
 }
 
 impl<'a> Model for PictureFilters<'a> {
@@ -40,6 +48,7 @@ impl<'a> Model for PictureFilters<'a> {
     ghost use Rattle.filter_field.specs.Places.{HasPlaces};
     ghost use Rattle.filter_field.specs.Units.{HasUnits};
     ghost use Rattle.header_types.specs.SequenceParameterSets.{height_in_ctbs};
+    ghost use Rattle.loop_filters.specs.Scratch.{HasRoom};
     ghost use Rattle.picture_filters.specs.Filtering.{Filtering};
     ghost use Rattle.spec_picture_data.specs.Shapes.{picture_shape};
 
@@ -47,7 +56,7 @@ impl<'a> Model for PictureFilters<'a> {
 
     ghost view = { λ f. record { plan = f.plan.now; places = f.places; units = f.units } };
 
-    ghost invariant = { λ f. (f.layout ≡ picture_shape f.plan.now.sps f.plan.now.pps) × HasPlaces f.places f.layout.across f.layout.down × HasUnits f.units f.layout.width (height_in_ctbs f.plan.now.sps) };
+    ghost invariant = { λ f. (f.layout ≡ picture_shape f.plan.now.sps f.plan.now.pps) × HasPlaces f.places f.layout.across f.layout.down × HasUnits f.units f.layout.width (height_in_ctbs f.plan.now.sps) × HasRoom f.scratch f.plan.now.sps.format.pic_width_in_luma_samples f.plan.now.sps.format.pic_height_in_luma_samples };
 }
 
 impl<'a> PictureFilters<'a> {
@@ -60,11 +69,13 @@ impl<'a> PictureFilters<'a> {
         let layout = Layout::new(plan);
         let places = PlaceField::new(alloc, layout.across(), layout.down())?;
         let units = UnitField::new(alloc, plan.sps.width_in_ctbs(), plan.sps.height_in_ctbs())?;
+        let scratch = scratch_for(alloc, plan)?;
         Ok(PictureFilters {
             plan,
             layout,
             places,
             units,
+            scratch,
         })
     }
 
@@ -106,17 +117,32 @@ impl<'a> PictureFilters<'a> {
         }
     }
 
-    /// What is known of the picture's places.
-    pub fn places(&self) -> &PlaceField
-        ensures { result.now ≡ self.now.places }
+    /// Takes the samples of the picture through its loop filters, deblocking and then sample adaptive offset (8.7).
+    pub fn filter(&mut self, planes: &mut Planes)
+        requires sides { HasSides planes.old self.old.plan.sps.format.pic_width_in_luma_samples self.old.plan.sps.format.pic_height_in_luma_samples }
+        requires bounded { (c x y : ℕ) → c < 3 → samples_of planes.old c x y ≤ 2 ^ depth_of (filter_format self.old.plan) c - 1 }
+        ensures same { self.new ≡ self.old }
+        ensures value { (c x y : ℕ) → c < 3 → x < plane_width planes.old c → y < plane_height planes.old c → samples_of planes.new c x y ≡ filtered self.old.plan (data_of self.old) (samples_of planes.old) c x y }
+        ensures sides { HasSides planes.new self.old.plan.sps.format.pic_width_in_luma_samples self.old.plan.sps.format.pic_height_in_luma_samples }
     {
-        &self.places
+        filter_planned(
+            self.plan,
+            &self.places,
+            &self.units,
+            &mut self.scratch,
+            planes,
+        );
     }
+}
 
-    /// The offsets of its units.
-    pub fn units(&self) -> &UnitField
-        ensures { result.now ≡ self.now.units }
-    {
-        &self.units
-    }
+/// Memory in which the samples of a picture are filtered.
+fn scratch_for(alloc: Global, plan: &PicturePlan) -> Result<FilterScratch, AllocError>
+    ensures { IfOk result (λ s. HasRoom s plan.now.sps.format.pic_width_in_luma_samples plan.now.sps.format.pic_height_in_luma_samples) }
+{
+    let format = &plan.sps.fields().format;
+    FilterScratch::new(
+        alloc,
+        format.pic_width_in_luma_samples,
+        format.pic_height_in_luma_samples,
+    )
 }

@@ -1,4 +1,4 @@
-use Rattle.std.proofs.Common.{rules, ◌≡◌, sym, subst, ap, ◌∙◌, w8, to_z, of_z}
+use Rattle.std.proofs.Common.{rules, ◌≡◌, sym, subst, ap, ◌∙◌, w8}
 use Rattle.std.proofs.lemmas.Int.{to_z-of_z}
 use Rattle.loop_filters.specs.Formats.{IsComponent, halved}
 use Rattle.loop_filters.proofs.Components.{cb_is, cr_is, luma_of}

@@ -1,4 +1,4 @@
-use Rattle.std.proofs.Common.{rules, refl, ◌≡◌, ◌<◌, ◌+◌, ◌-◌, ◌*◌, ℕ, length, get_or, ap, ◌∙◌, sym, arith}
+use Rattle.std.proofs.Common.{rules, refl, ◌≡◌, ◌<◌, ℕ, length, get_or, ap, ◌∙◌, arith}
 use Rattle.picture_buffer.specs.Planes.{samples_of}
 use Rattle.loop_filters.proofs.Copied.{bounded_by, copied_length, line_below, line_more}
 use Rattle.loop_filters.proofs.copying.copy_plane.Goals as goal

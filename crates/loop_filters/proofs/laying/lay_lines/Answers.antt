@@ -1,4 +1,4 @@
-use Rattle.std.proofs.Common.{rules, refl, ◌≡◌, ◌<◌, ◌≤◌, ◌+◌, ◌-◌, ◌*◌, ℕ, length, arith}
+use Rattle.std.proofs.Common.{rules, refl, ◌<◌, arith}
 use Rattle.picture_buffer.specs.Planes.{samples_of}
 use Rattle.loop_filters.proofs.Components.{height_is, width_is}
 use Rattle.loop_filters.proofs.Copied.{line_below}

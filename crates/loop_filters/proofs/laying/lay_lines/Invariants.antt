@@ -1,4 +1,4 @@
-use Rattle.std.proofs.Common.{◌≡◌, ◌+◌, ◌-◌, ◌*◌, ◌==◌, ◌&&◌, nat_le, nat_lt, ℕ, cond}
+use Rattle.std.proofs.Common.{◌≡◌, ◌+◌, ◌-◌, ◌==◌, ◌&&◌, nat_le, nat_lt, ℕ, cond}
 use Rattle.deblock.specs.Windows.{at}
 use Rattle.picture_buffer.specs.Planes.{HasSides, plane_height, plane_width, samples_of}
 use Rattle.loop_filters.proofs.laying.lay_lines.Given as goal

@@ -1,5 +1,4 @@
-use Rattle.std.proofs.Common.{rules, ◌≡◌, ◌<◌, ◌≤◌, ◌+◌, ◌-◌, ◌*◌, ℕ, length, sym, ap, ◌∙◌, arith}
-use Rattle.std.specs.Prelude.{min}
+use Rattle.std.proofs.Common.{rules, ◌<◌, ◌+◌, ◌*◌, ap, ◌∙◌, arith}
 use Rattle.deblock.specs.Windows.{at}
 use Rattle.picture_buffer.specs.Planes.{samples_of}
 use Rattle.spec_loop_filters.specs.Filters.{offset_plane}

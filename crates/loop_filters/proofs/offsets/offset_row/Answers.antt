@@ -1,11 +1,8 @@
-use Rattle.std.proofs.Common.{rules, ◌≡◌, ◌<◌, ◌≤◌, ◌+◌, ◌-◌, ◌*◌, ◌/◌, ◌^◌, ℕ, length, take, drop, false, true, slice_index_or, ap, sym, subst, ◌∙◌, refl, Fits, w64, arith}
-use Rattle.std.specs.Prelude.{min}
-use Rattle.spec_deblocking.specs.Places.{side}
+use Rattle.std.proofs.Common.{rules, ◌≡◌, ◌<◌, ◌≤◌, ◌+◌, ◌*◌, ℕ, length, ap, sym, subst, ◌∙◌, refl, arith}
 use Rattle.deblock.specs.Windows.{at}
-use Rattle.sao_filter.specs.Row.{HasLines, IsRow, StandsFor, unit_in}
 use Rattle.spec_loop_filters.specs.Filters.{offset_plane}
-use Rattle.loop_filters.specs.Formats.{IsComponent, columns_of, filters_of}
-use Rattle.loop_filters.proofs.RowParts.{block_is_one, few, has_lines, kept_among, lines_inside, place_inside, place_line, row_begins, row_is_one, sample_among}
+use Rattle.loop_filters.specs.Formats.{columns_of, filters_of}
+use Rattle.loop_filters.proofs.RowParts.{block_is_one, few, has_lines, kept_among, lines_inside, row_begins, row_is_one, sample_among}
 use Rattle.loop_filters.proofs.offsets.offset_row.Goals as goal
 
 pub overflow_mul-from : goal.overflow_mul-from
