@@ -3,7 +3,6 @@
 
 mod buffer;
 mod decoding;
-mod features;
 mod options;
 mod picture;
 mod stream;

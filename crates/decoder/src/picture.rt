@@ -2,20 +2,18 @@
 
 ghost use Rattle.std.specs.Prelude.{◌≡◌};
 ghost use Rattle.picture_build.specs.Pictures.{buffer_of};
-ghost use Rattle.spec_picture_samples.specs.Built.{picture_built};
-ghost use Rattle.spec_decoder.specs.Decoder.{decoded_data, decoded_picture, told_by};
+ghost use Rattle.spec_decoder.specs.Decoder.{decoded_picture, told_by};
 ghost use Rattle.decoder.specs.Pictures.{DecodesAs, IsTold};
 
-use crate::features::unbuilt;
-use hv_base::{Breach, Fault, Limit, LimitKind, Outcome};
+use hv_base::{Breach, Fault, Limit, Outcome};
 use picture_buffer::{Bases, Picture};
 use picture_build::build_picture;
 use picture_trees::ReadError;
 use plan_types::PicturePlan;
 use std::alloc::Global;
 
-/// Decodes a picture by those of the buffer, or answers what is broken or met in it first, or that there is no memory for
-/// it. A spare picture of its size lends it the memory.
+/// Decodes a picture by those of the buffer, its loop filters with it, or answers what is broken or met in it first, or that
+/// there is no memory for it. A spare picture of its size lends it the memory.
 #[tactic(auto, unfolding(spec_decoder::specs::Decoder::decoded_picture))]
 pub(crate) fn decode_picture(
     alloc: Global,
@@ -25,26 +23,8 @@ pub(crate) fn decode_picture(
 ) -> Result<Picture, Outcome>
     ensures { DecodesAs result (decoded_picture (buffer_of bases.now) picture.now) }
 {
-    match unbuilt(picture) {
-        Some(feature) => Err(Outcome::Limit(Limit {
-            kind: LimitKind::Unbuilt(feature),
-            nal: picture.nal,
-        })),
-        None => decode_data(alloc, picture, bases, spare),
-    }
-}
-
-/// Reads the data of a picture's slice segments and builds its samples.
-fn decode_data(
-    alloc: Global,
-    picture: &PicturePlan,
-    bases: &Bases,
-    spare: Option<Picture>,
-) -> Result<Picture, Outcome>
-    ensures { DecodesAs result (decoded_data picture.now.sps.format (picture_built (buffer_of bases.now) picture.now)) }
-{
     match build_picture(alloc, picture, bases, spare) {
-        Ok(built) => Ok(built),
+        Ok(decoded) => Ok(decoded),
         Err(error) => Err(outcome_of(error)),
     }
 }

@@ -4,8 +4,6 @@ use Rattle.std.specs.Fmt.{decimal}
 use Rattle.hv_base.specs.declared.fault.FaultKind.{FaultKind}
 use Rattle.hv_base.specs.declared.fault.FaultKind.TheVariants as rule
 use Rattle.hv_base.specs.declared.fault.Fault.{Fault}
-use Rattle.hv_base.specs.declared.limit.Feature.{Feature}
-use Rattle.hv_base.specs.declared.limit.Feature.TheVariants as feature
 use Rattle.hv_base.specs.declared.limit.LimitKind.{LimitKind}
 use Rattle.hv_base.specs.declared.limit.LimitKind.TheVariants as bound
 use Rattle.hv_base.specs.declared.limit.Limit.{Limit}
@@ -79,12 +77,6 @@ fault_text f =
     codes "fault " ++ (decimal (fault_number f.kind) ++ (codes " " ++ (fault_name f.kind
     ++ (codes " nal " ++ (decimal f.nal ++ (codes " ctu " ++ place_text f.ctu))))))
 
--- the name of a feature that isn't built
-abbrev pub feature_name : Feature → List ℕ
-feature_name feature.Inter = codes "Inter"
-feature_name feature.Intra = codes "Intra"
-feature_name feature.Filters = codes "Filters"
-
 -- the number of a limit
 abbrev pub limit_number : LimitKind → ℕ
 limit_number bound.Side = 1
@@ -92,7 +84,6 @@ limit_number bound.Area = 2
 limit_number bound.NalSize = 3
 limit_number bound.Segments = 4
 limit_number bound.Tiles = 5
-limit_number (bound.Unbuilt _) = 6
 
 -- the name of a limit
 abbrev pub limit_name : LimitKind → List ℕ
@@ -101,22 +92,12 @@ limit_name bound.Area = codes "Area"
 limit_name bound.NalSize = codes "NalSize"
 limit_name bound.Segments = codes "Segments"
 limit_name bound.Tiles = codes "Tiles"
-limit_name (bound.Unbuilt _) = codes "Unbuilt"
 
--- what stands at the end of a limit's line: the feature that isn't built
-abbrev pub limit_end : LimitKind → List ℕ
-limit_end bound.Side = []
-limit_end bound.Area = []
-limit_end bound.NalSize = []
-limit_end bound.Segments = []
-limit_end bound.Tiles = []
-limit_end (bound.Unbuilt f) = codes " " ++ feature_name f
-
--- limit <number> <Name> nal <n>, and for what isn't built its feature
+-- limit <number> <Name> nal <n>
 abbrev pub limit_text : Limit → List ℕ
 limit_text l =
     codes "limit " ++ (decimal (limit_number l.kind) ++ (codes " " ++ (limit_name l.kind
-    ++ (codes " nal " ++ (decimal l.nal ++ limit_end l.kind)))))
+    ++ (codes " nal " ++ decimal l.nal))))
 
 -- the exit status of an outcome
 abbrev pub status_of : Outcome → ℕ

@@ -16,7 +16,7 @@ mod unit;
 pub use breach::Breach;
 pub use fault::{Fault, FaultKind};
 pub use field_rules::{FieldRules, PARAMETER_SET_RULES, SLICE_HEADER_RULES};
-pub use limit::{Feature, Limit, LimitKind};
+pub use limit::{Limit, LimitKind};
 pub use line::{Line, Phase};
 pub use lists::{Bytes, Places};
 pub use nal::Nal;

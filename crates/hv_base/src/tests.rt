@@ -9,14 +9,11 @@ fn are_told(alloc: Global) -> bool {
         ctu: Some(0),
     };
     let limit = Limit {
-        kind: LimitKind::Unbuilt(Feature::Intra),
+        kind: LimitKind::Tiles,
         nal: 4_294_967_295,
     };
     is_text(fault.to_string(alloc), "fault 20 DataEnd nal 2 ctu 0")
-        && is_text(
-            limit.to_string(alloc),
-            "limit 6 Unbuilt nal 4294967295 Intra",
-        )
+        && is_text(limit.to_string(alloc), "limit 5 Tiles nal 4294967295")
 }
 
 fn is_text(found: Result<String, AllocError>, wanted: &str) -> bool {

@@ -1,5 +1,5 @@
 -- A picture while its units are built one after the other.
-use Rattle.std.proofs.Common.{◌≡◌, ℕ, List, [], ◌∷◌, ◌++◌, length, slice_get, Option, Some, None, Ok, Err, sym, ap, subst, ◌∙◌, arith}
+use Rattle.std.proofs.Common.{◌≡◌, ℕ, List, [], ◌∷◌, ◌++◌, length, slice_get, Option, Some, None, Ok, sym, ap, subst, ◌∙◌, arith}
 use Rattle.std.specs.List.{All}
 use Rattle.std.proofs.Math.Path.{fun_ext}
 use Rattle.std.proofs.Math.Seq.{get_or-append_seam}
@@ -8,18 +8,19 @@ use Rattle.std.proofs.lemmas.List.Sums.{fold-append}
 use Rattle.header_types.specs.SequenceParameterSets.{IsSps}
 use Rattle.plan_types.specs.declared.picture_plan.PicturePlan.{PicturePlan}
 use Rattle.plan_types.specs.declared.segment_plan.SegmentPlan.{SegmentPlan}
-use Rattle.spec_picture_data.specs.Picture.{TreeUnit, PictureBroken, Progress, picture_read}
+use Rattle.spec_picture_data.specs.Picture.{TreeUnit, Progress, picture_read}
 use Rattle.spec_picture_motion.specs.Field.{Motions, no_motions}
+use Rattle.spec_picture_filters.specs.Data.{no_data}
+use Rattle.spec_picture_filters.specs.Filtered.{with_unit as filtered_with_unit}
 use Rattle.spec_picture_samples.specs.Border.{Samples, no_samples}
 use Rattle.spec_picture_samples.specs.Built.{BuiltPicture, added_in, built_of, no_picture, picture_built, unit_added, units_built, with_unit}
-use Rattle.spec_picture_samples.specs.References.{DecodedPicture}
+use Rattle.spec_picture_samples.specs.References.{DecodedPicture, motions_of as motions_at}
 use Rattle.picture_buffer.specs.Motion.{motions_of}
-use Rattle.picture_buffer.specs.Pictures.{HeldPicture}
 use Rattle.picture_buffer.specs.Planes.{samples_of}
-use Rattle.picture_trees.specs.Given.{AreAll, ReadsPicture}
-use Rattle.picture_trees.specs.declared.trees.ReadError.{ReadError}
-use Rattle.picture_trees.specs.declared.trees.ReadError.TheVariants as errors
-use Rattle.picture_build.specs.Building.{Building, BuildsPicture, IsBuilt, IsSoundUnit, built_by}
+use Rattle.picture_filters.specs.Filtering.{data_of}
+use Rattle.picture_trees.specs.Given.{AreAll}
+use Rattle.picture_build.specs.Building.{Building, IsBuilt, IsSoundUnit, behind_by, built_by}
+use Rattle.picture_build.proofs.Behind.{behind_more, behind_none}
 
 -- a picture by its parts
 abbrev of_parts : Samples → Motions → BuiltPicture
@@ -30,11 +31,12 @@ same_picture s t m n es em = ap (λ v. of_parts v m) es ∙ ap (λ v. of_parts t
 
 -- no unit is built
 pub built_none : (buffer : List DecodedPicture) (building : Building) (p : PicturePlan) → building.plan ≡ p → ((c x y : ℕ) → samples_of building.planes c x y ≡ 0)
-    → motions_of building.motion.field ≡ no_motions → IsBuilt buffer building p []
+    → motions_of building.motion.field ≡ no_motions → data_of building.filters ≡ no_data → IsBuilt buffer building p []
 unfolding units_built
-built_none buffer building p plan none still = record {
+built_none buffer building p plan none still empty = record {
   plan = plan;
   picture = λ sound. same_picture _ no_samples _ no_motions (fun_ext (λ c. fun_ext (λ x. fun_ext (λ y. none c x y)))) still;
+  behind = λ sound. behind_none (motions_at buffer) p (motions_of building.motion.field) (data_of building.filters) still empty;
 }
 
 -- a unit of a segment of the picture, and one of none
@@ -53,37 +55,43 @@ sound_last p given unit sound = subst (IsSoundUnit p) (get_or-append_seam given 
 
 -- one unit more
 pub built_more : (buffer : List DecodedPicture) (old new : Building) (p : PicturePlan) (given : List TreeUnit) (unit : TreeUnit) → IsBuilt buffer old p given → new.plan ≡ old.plan
-    → (IsSoundUnit old.plan unit → built_by new ≡ with_unit buffer old.plan (built_by old) unit) → IsBuilt buffer new p (given ++ unit ∷ [])
+    → (IsSoundUnit old.plan unit → built_by new ≡ with_unit buffer old.plan (built_by old) unit)
+    → (IsSoundUnit old.plan unit → behind_by new ≡ filtered_with_unit (motions_at buffer) old.plan (behind_by old) unit) → IsBuilt buffer new p (given ++ unit ∷ [])
 unfolding units_built
-built_more buffer old new p given unit before same told = record {
-  plan = same ∙ before.plan;
-  picture = λ sound.
-      told (subst (λ q. IsSoundUnit q unit) (sym before.plan) (sound_last p given unit sound))
-      ∙ ap (λ q. with_unit buffer q (built_by old) unit) before.plan
-      ∙ ap (λ b. with_unit buffer p b unit) (before.picture (sound_before p given unit sound))
-      ∙ sym (fold-append (with_unit buffer p) no_picture given (unit ∷ []));
-}
+built_more buffer old new p given unit before same told gathered =
+    let last : All (IsSoundUnit p) (given ++ unit ∷ []) → IsSoundUnit old.plan unit = λ sound. subst (λ q. IsSoundUnit q unit) (sym before.plan) (sound_last p given unit sound) in
+    record {
+      plan = same ∙ before.plan;
+      picture = λ sound.
+          told (last sound)
+          ∙ ap (λ q. with_unit buffer q (built_by old) unit) before.plan
+          ∙ ap (λ b. with_unit buffer p b unit) (before.picture (sound_before p given unit sound))
+          ∙ sym (fold-append (with_unit buffer p) no_picture given (unit ∷ []));
+      behind = λ sound.
+          gathered (last sound)
+          ∙ ap (λ q. filtered_with_unit (motions_at buffer) q (behind_by old) unit) before.plan
+          ∙ behind_more (motions_at buffer) p (behind_by old) given unit (before.behind (sound_before p given unit sound));
+    }
 
--- all units are built
+-- all units are built, of a picture whose sequence parameter set is in range
+pub record AreBuilt (buffer : List DecodedPicture) (building : Building) (p : PicturePlan) (given : List TreeUnit) : Type 0 where
+  pub is : IsBuilt buffer building p given
+  pub sps : IsSps p.sps
+  pub sound : All (IsSoundUnit p) given
+  pub all : AreAll given (picture_read p [])
+
 pub built_all : (buffer : List DecodedPicture) (p : PicturePlan) (building : Building) (given : List TreeUnit) → IsBuilt buffer building p given → IsSps p.sps
     → ((q : PicturePlan) (progress : Progress) → IsSps q.sps → picture_read q [] ≡ Ok progress → All (IsSoundUnit q) progress.given)
-    → AreAll given (picture_read p []) → picture_built buffer p ≡ Ok (built_by building)
+    → AreAll given (picture_read p []) → AreBuilt buffer building p given
+built_all buffer p building given is sps sound all = record {
+  is = is;
+  sps = sps;
+  sound = subst (λ g. All (IsSoundUnit p) g) all.same (sound p all.progress sps all.all);
+  all = all;
+}
+
+-- they are the picture before its loop filters
+pub picture_is : (buffer : List DecodedPicture) (p : PicturePlan) (building : Building) (given : List TreeUnit) → AreBuilt buffer building p given → picture_built buffer p ≡ Ok (built_by building)
 unfolding picture_built
-built_all buffer p building given is sps sound all =
-    let at : All (IsSoundUnit p) given = subst (λ g. All (IsSoundUnit p) g) all.same (sound p all.progress sps all.all) in
-    ap (built_of buffer p) all.all ∙ ap (λ g. Ok (units_built buffer p g)) all.same ∙ sym (ap (λ b. Ok b) (is.picture at))
-
--- a rule is broken
-pub built_broken : (buffer : List DecodedPicture) (p : PicturePlan) (given : List TreeUnit) (broken : PictureBroken) → picture_read p [] ≡ Err (record { given = given; broken = broken })
-    → picture_built buffer p ≡ Err broken
-unfolding picture_built
-built_broken buffer p given broken e = ap (built_of buffer p) e
-
--- reading a picture ended at a broken rule, or for want of memory
-pub built_fails : (buffer : List DecodedPicture) (p : PicturePlan) (e : ReadError) (tells : List TreeUnit → Type 0) → ReadsPicture (Err e) tells (picture_read p []) → BuildsPicture (Err e) (picture_built buffer p)
-built_fails buffer p errors.Memory tells read = tt
-built_fails buffer p (errors.Broken breach nal ctu) tells read = built_broken buffer p read.0 (record { breach = breach; nal = nal; ctu = ctu }) read.2
-
--- the picture that is held
-abbrev pub held_picture : HeldPicture → BuiltPicture
-held_picture p = record { samples = samples_of p.planes; motions = motions_of p.motion }
+picture_is buffer p building given are =
+    ap (built_of buffer p) are.all.all ∙ ap (λ g. Ok (units_built buffer p g)) are.all.same ∙ sym (ap (λ b. Ok b) (are.is.picture are.sound))

@@ -6,7 +6,9 @@ pub mod Planes
 pub mod Known
 pub mod Laid
 pub mod Rows
+pub mod Behind
 pub mod Built
+pub mod Filtered
 pub mod Referring
 pub mod Weighing
 pub mod Deriving

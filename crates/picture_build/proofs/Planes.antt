@@ -17,13 +17,13 @@ covered picture c shape =
     let e : samples_of_place c * (2 ^ picture.size * picture.width) ≡ unit_side picture c * picture.width = grind arith in
     subst (λ n. width_of picture c ≤ n) e le
 
-widths : (p : PictureSamples) (picture : PictureShape) (c : ℕ) → c < 3 → HasSides p (4 * picture.across) (4 * picture.down) → plane_width p c ≡ width_of picture c
+pub widths : (p : PictureSamples) (picture : PictureShape) (c : ℕ) → c < 3 → HasSides p (4 * picture.across) (4 * picture.down) → plane_width p c ≡ width_of picture c
 widths p picture zero lt sides = sides.luma_width
 widths p picture (suc zero) lt sides = sides.cb_width ∙ halves picture.across
 widths p picture (suc (suc zero)) lt sides = sides.cr_width ∙ halves picture.across
 widths p picture (suc (suc (suc c))) lt sides = absurd (omega (arith, lt))
 
-heights : (p : PictureSamples) (picture : PictureShape) (c : ℕ) → c < 3 → HasSides p (4 * picture.across) (4 * picture.down) → plane_height p c ≡ height_of picture c
+pub heights : (p : PictureSamples) (picture : PictureShape) (c : ℕ) → c < 3 → HasSides p (4 * picture.across) (4 * picture.down) → plane_height p c ≡ height_of picture c
 heights p picture zero lt sides = sides.luma_height
 heights p picture (suc zero) lt sides = sides.cb_height ∙ halves picture.down
 heights p picture (suc (suc zero)) lt sides = sides.cr_height ∙ halves picture.down

@@ -1,13 +1,18 @@
 //! A picture while its coding tree units are read.
 
-ghost use Rattle.std.specs.Prelude.{◌≡◌, ◌*◌, ℕ, IfOk, [], List};
+ghost use Rattle.std.specs.Prelude.{◌≡◌, ◌≤◌, ◌*◌, ℕ, IfOk, Some, [], List};
 ghost use Rattle.header_types.specs.SequenceParameterSets.{IsSps};
-ghost use Rattle.picture_build.specs.Building.{IsBuilt, IsSoundUnit, built_by};
-ghost use Rattle.picture_build.specs.Pictures.{buffer_of};
+ghost use Rattle.picture_build.specs.Building.{IsBuilt, IsSoundUnit, behind_by, built_by};
+ghost use Rattle.picture_build.specs.Pictures.{buffer_of, decoded_of};
 ghost use Rattle.picture_buffer.specs.Pictures.{HeldPicture};
+ghost use Rattle.picture_buffer.specs.Planes.{samples_of};
+ghost use Rattle.picture_filters.specs.Filtering.{data_of};
 ghost use Rattle.picture_trees.specs.Given.{tree_unit};
+ghost use Rattle.spec_decoded_pictures.specs.Decoded.{decoded_by};
+ghost use Rattle.spec_picture_filters.specs.Filtered.{added_in, with_unit as filtered_with_unit};
 ghost use Rattle.spec_picture_samples.specs.Built.{unit_added, with_unit};
 ghost use Rattle.spec_picture_samples.specs.Format.{unit_format};
+ghost use Rattle.spec_picture_samples.specs.References.{greatest_sample, motions_of as motions_at};
 ghost use Rattle.spec_reconstruction.specs.Sound.{AreSound};
 
 use crate::beside::gather;
@@ -20,6 +25,7 @@ use crate::unit::Unit;
 use ctu_build::{Scratch, UnitSamples};
 use ctu_records::Records;
 use picture_buffer::{Bases, Picture, Planes};
+use picture_filters::PictureFilters;
 use picture_layout::{Layout, slice_address};
 use picture_motion::PictureMotion;
 use picture_trees::Trees;
@@ -48,6 +54,7 @@ pub(crate) struct PictureBuilder<'a, B: Buffer> {
     format: UnitFormat,
     planes: Planes,
     motion: PictureMotion<'a>,
+    filters: PictureFilters<'a>,
     samples: UnitSamples,
     scratch: Scratch,
 }
@@ -62,9 +69,9 @@ impl<'a, B: Buffer> Model for PictureBuilder<'a, B> {
 
     ghost Value = { Building };
 
-    ghost view = { λ b. record { plan = b.plan.now; planes = b.planes; motion = b.motion } };
+    ghost view = { λ b. record { plan = b.plan.now; planes = b.planes; motion = b.motion; filters = b.filters } };
 
-    ghost invariant = { λ b. (b.layout ≡ picture_shape b.plan.now.sps b.plan.now.pps) × HasSides b.planes (4 * b.layout.across) (4 * b.layout.down) × (4 * b.layout.across ≡ b.plan.now.sps.format.pic_width_in_luma_samples) × (4 * b.layout.down ≡ b.plan.now.sps.format.pic_height_in_luma_samples) × IsFormat b.format × IsCommon b.plan.now.sps b.plan.now.pps b.format × (b.motion.plan ≡ b.plan.now) × (b.bases.now ≡ B.pictures) };
+    ghost invariant = { λ b. (b.layout ≡ picture_shape b.plan.now.sps b.plan.now.pps) × HasSides b.planes (4 * b.layout.across) (4 * b.layout.down) × (4 * b.layout.across ≡ b.plan.now.sps.format.pic_width_in_luma_samples) × (4 * b.layout.down ≡ b.plan.now.sps.format.pic_height_in_luma_samples) × IsFormat b.format × IsCommon b.plan.now.sps b.plan.now.pps b.format × (b.motion.plan ≡ b.plan.now) × (b.filters.plan ≡ b.plan.now) × (b.bases.now ≡ B.pictures) };
 }
 
 impl<'a, B: Buffer> PictureBuilder<'a, B> {
@@ -88,23 +95,29 @@ impl<'a, B: Buffer> PictureBuilder<'a, B> {
             format: common_format(alloc, plan)?,
             planes,
             motion: PictureMotion::over(plan, field),
+            filters: PictureFilters::new(alloc, plan)?,
             samples: UnitSamples::new(),
             scratch: Scratch::new(),
         })
     }
 
-    /// The picture.
+    /// The picture behind its loop filters.
     pub(crate) fn into_picture(self) -> Picture
-        ensures { result ≡ record { format = self.entry.plan.sps.format; planes = self.entry.planes; motion = self.entry.motion.field } }
+        requires { (c x y : ℕ) → samples_of self.planes c x y ≤ greatest_sample self.plan.sps.format c }
+        ensures { decoded_of result ≡ decoded_by self.entry.plan (built_by self.entry) (data_of self.entry.filters) }
     {
+        let mut planes = self.planes;
+        let mut filters = self.filters;
+        filters.filter(&mut planes);
         let format = self.plan.sps.fields().format;
-        Picture::new(format, self.planes, self.motion.into_field())
+        Picture::new(format, planes, self.motion.into_field())
     }
 
     /// The next unit, of the segment with this number.
     fn add(&mut self, number: usize, address: u32, records: &Records)
         ensures plan { self.new.plan ≡ self.old.plan }
         ensures value { IsSoundUnit self.old.plan (tree_unit number address records.now) → built_by self.new ≡ with_unit (buffer_of B.pictures) self.old.plan (built_by self.old) (tree_unit number address records.now) }
+        ensures behind { IsSoundUnit self.old.plan (tree_unit number address records.now) → behind_by self.new ≡ filtered_with_unit (motions_at (buffer_of B.pictures)) self.old.plan (behind_by self.old) (tree_unit number address records.now) }
     {
         let plan = self.plan;
         let segments = plan.segments.as_slice();
@@ -117,6 +130,7 @@ impl<'a, B: Buffer> PictureBuilder<'a, B> {
     fn build(&mut self, segment: &SegmentPlan, address: u32, records: &Records)
         ensures plan { self.new.plan ≡ self.old.plan }
         ensures value { (number : ℕ) → AreSound (unit_format self.old.plan.sps self.old.plan.pps segment.now.header.slice) records.now.items → built_by self.new ≡ unit_added (buffer_of B.pictures) self.old.plan segment.now (tree_unit number address records.now) (built_by self.old) }
+        ensures behind { (number : ℕ) → AreSound (unit_format self.old.plan.sps self.old.plan.pps segment.now.header.slice) records.now.items → behind_by self.new ≡ added_in (motions_at (buffer_of B.pictures)) self.old.plan (Some segment.now) (tree_unit number address records.now) (behind_by self.old) }
     {
         let source = Source {
             plan: self.plan,
@@ -124,6 +138,8 @@ impl<'a, B: Buffer> PictureBuilder<'a, B> {
             segment,
         };
         derive(&source, address, records, &mut self.motion);
+        self.filters
+            .add(segment, address, records, self.motion.field());
         let unit = Unit {
             layout: self.layout,
             slice: slice_address(self.plan, segment),

@@ -1,29 +1,29 @@
 //! A whole picture.
 
-ghost use Rattle.std.specs.Prelude.{◌≡◌, IfOk};
+ghost use Rattle.std.specs.Prelude.{◌≡◌};
 ghost use Rattle.picture_build.specs.Building.{BuildsPicture};
 ghost use Rattle.picture_build.specs.Pictures.{buffer_of};
-ghost use Rattle.spec_picture_samples.specs.Built.{picture_built};
+ghost use Rattle.spec_decoded_pictures.specs.Decoded.{picture_decoded};
 
 use crate::builder::{Buffer, PictureBuilder};
 use picture_buffer::{Bases, Picture};
 use picture_trees::{ReadError, read_picture};
 use plan_types::PicturePlan;
+use spec_sample_ranges::built_samples_are_in_range;
 use spec_unit_ranges::units_that_are_read_are_sound;
 use std::alloc::Global;
 use std::marker::Brand;
 
-/// Reads and builds a picture over the pictures of the decoded picture buffer before it: its samples before the loop filters,
-/// and its motion. The error is the first rule that its data break, or want of memory, which is taken before the first unit is
-/// read. A spare picture of its size lends it the memory.
+/// Reads and builds a picture over the pictures of the decoded picture buffer before it, and filters it: its samples and its
+/// motion. The error is the first rule that its data break, or want of memory, which is taken before the first unit is read. A
+/// spare picture of its size lends it the memory.
 pub fn build_picture(
     alloc: Global,
     plan: &PicturePlan,
     bases: &Bases,
     spare: Option<Picture>,
 ) -> Result<Picture, ReadError>
-    ensures value { BuildsPicture result (picture_built (buffer_of bases.now) plan.now) }
-    ensures format { IfOk result (λ p. p.format ≡ plan.now.sps.format) }
+    ensures { BuildsPicture result (picture_decoded (buffer_of bases.now) plan.now) }
 {
     build_over::<Brand>(alloc, plan, bases, spare)
 }
@@ -36,10 +36,10 @@ fn build_over<B: Buffer>(
     spare: Option<Picture>,
 ) -> Result<Picture, ReadError>
     requires { bases.now ≡ B.pictures }
-    ensures value { BuildsPicture result (picture_built (buffer_of B.pictures) plan.now) }
-    ensures format { IfOk result (λ p. p.format ≡ plan.now.sps.format) }
+    ensures { BuildsPicture result (picture_decoded (buffer_of B.pictures) plan.now) }
 {
     units_that_are_read_are_sound();
+    built_samples_are_in_range();
     let Ok(mut builder) = PictureBuilder::<B>::new(alloc, plan, bases, spare) else {
         return Err(ReadError::Memory);
     };

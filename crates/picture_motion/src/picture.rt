@@ -144,6 +144,13 @@ impl<'a> PictureMotion<'a> {
         &self.motion
     }
 
+    /// The motion so far.
+    pub fn field(&self) -> &MotionField
+        ensures { result.now ≡ self.now.field }
+    {
+        &self.field
+    }
+
     /// The motion of the picture.
     pub fn into_field(self) -> MotionField
         ensures { result ≡ self.entry.field }

@@ -3,18 +3,15 @@ use Rattle.std.proofs.Common.{ℕ, Bool, List, [], ◌∷◌, ◌++◌, Option, 
 use Rattle.std.specs.Prelude.{IfErr}
 use Rattle.hv_base.specs.declared.breach.Breach.{Breach}
 use Rattle.hv_base.specs.declared.breach.Breach.TheVariants as breach
-use Rattle.hv_base.specs.declared.limit.Feature.{Feature}
 use Rattle.hv_base.specs.declared.outcome.Outcome.{Outcome}
 use Rattle.hv_base.specs.declared.refusal.Stop.{Stop}
 use Rattle.hv_base.specs.declared.refusal.Stop.TheVariants as stop
-use Rattle.header_types.specs.declared.sps.PictureFormat.{PictureFormat}
 use Rattle.plan_types.specs.declared.picture_plan.PicturePlan.{PicturePlan}
 use Rattle.spec_pictures.specs.Planned.{planned_of}
 use Rattle.spec_picture_data.specs.Picture.{PictureBroken}
-use Rattle.spec_picture_samples.specs.Built.{BuiltPicture, picture_built}
+use Rattle.spec_decoded_pictures.specs.Decoded.{picture_decoded}
 use Rattle.spec_picture_samples.specs.References.{DecodedPicture}
-use Rattle.spec_decoder.specs.Features.{unbuilt}
-use Rattle.spec_decoder.specs.Decoder.{Decoded, IsDecided, ending, told_by, kept_from, decoded_data, decoded_built, decoded_picture, entered, decoded_from, finished, decoded}
+use Rattle.spec_decoder.specs.Decoder.{Decoded, IsDecided, ending, told_by, kept_from, decoded_data, decoded_picture, entered, decoded_from, finished, decoded}
 
 pub ending_decided : (end : Option Stop) → IsDecided (ending end)
 ending_decided None = tt
@@ -25,18 +22,14 @@ told_decided : (nal ctu : ℕ) (e : Breach) → IsDecided (told_by nal ctu e)
 told_decided nal ctu (breach.Fault kind) = tt
 told_decided nal ctu (breach.Limit kind) = tt
 
-data_decided : (format : PictureFormat) (r : Result BuiltPicture PictureBroken) → IfErr (decoded_data format r) IsDecided
-data_decided format (Ok built) = tt
-data_decided format (Err broken) = told_decided broken.nal broken.ctu broken.breach
-
-built_decided : (buffer : List DecodedPicture) (p : PicturePlan) (f : Option Feature) → IfErr (decoded_built buffer p f) IsDecided
-built_decided buffer p None = data_decided p.sps.format (picture_built buffer p)
-built_decided buffer p (Some f) = tt
+data_decided : (r : Result DecodedPicture PictureBroken) → IfErr (decoded_data r) IsDecided
+data_decided (Ok picture) = tt
+data_decided (Err broken) = told_decided broken.nal broken.ctu broken.breach
 
 -- what ends decoding in a picture
 pub picture_decided : (buffer : List DecodedPicture) (p : PicturePlan) → IfErr (decoded_picture buffer p) IsDecided
 unfolding decoded_picture
-picture_decided buffer p = built_decided buffer p (unbuilt p)
+picture_decided buffer p = data_decided (picture_decoded buffer p)
 
 entered_decided : (p : PicturePlan) (next : List DecodedPicture → Decoded) (buffer : List DecodedPicture) (r : Result DecodedPicture Outcome)
     → IfErr r IsDecided → ((b : List DecodedPicture) → IsDecided (next b).outcome) → IsDecided (entered p next buffer r).outcome

@@ -3,20 +3,16 @@ use Rattle.std.specs.Prelude.{◌≡◌, ℕ, suc, Bool, List, [], ◌∷◌, �
 use Rattle.std.specs.List.{concat, list_any}
 use Rattle.hv_base.specs.declared.breach.Breach.{Breach}
 use Rattle.hv_base.specs.declared.breach.Breach.TheVariants as breach
-use Rattle.hv_base.specs.declared.limit.LimitKind.TheVariants as bound
-use Rattle.hv_base.specs.declared.limit.Feature.{Feature}
 use Rattle.hv_base.specs.declared.outcome.Outcome.{Outcome}
 use Rattle.hv_base.specs.declared.outcome.Outcome.TheVariants as outcome
 use Rattle.hv_base.specs.declared.refusal.Stop.{Stop}
 use Rattle.hv_base.specs.declared.refusal.Stop.TheVariants as stop
-use Rattle.header_types.specs.declared.sps.PictureFormat.{PictureFormat}
 use Rattle.plan_types.specs.declared.picture_plan.PicturePlan.{PicturePlan}
 use Rattle.spec_pictures.specs.Planned.{Planned, planned_of}
 use Rattle.spec_picture_data.specs.Picture.{PictureBroken}
-use Rattle.spec_picture_samples.specs.Built.{BuiltPicture, picture_built}
+use Rattle.spec_decoded_pictures.specs.Decoded.{picture_decoded}
 use Rattle.spec_picture_samples.specs.Output.{picture_bytes}
 use Rattle.spec_picture_samples.specs.References.{DecodedPicture}
-use Rattle.spec_decoder.specs.Features.{unbuilt}
 
 -- the pictures in output order, each as its bytes, and how decoding ends
 pub record Decoded : Type 0 where
@@ -35,18 +31,13 @@ told_by nal ctu (breach.Limit kind) = outcome.Limit (record { kind = kind; nal =
 abbrev pub told : PictureBroken → Outcome
 told broken = told_by broken.nal broken.ctu broken.breach
 
-abbrev pub decoded_data : PictureFormat → Result BuiltPicture PictureBroken → Result DecodedPicture Outcome
-decoded_data format (Ok built) = Ok (record { format = format; samples = built.samples; motions = built.motions })
-decoded_data format (Err broken) = Err (told broken)
-
--- what isn't built is told at the picture's first slice segment
-abbrev pub decoded_built : List DecodedPicture → PicturePlan → Option Feature → Result DecodedPicture Outcome
-decoded_built buffer p (Some f) = Err (outcome.Limit (record { kind = bound.Unbuilt f; nal = p.nal }))
-decoded_built buffer p None = decoded_data p.sps.format (picture_built buffer p)
+abbrev pub decoded_data : Result DecodedPicture PictureBroken → Result DecodedPicture Outcome
+decoded_data (Ok picture) = Ok picture
+decoded_data (Err broken) = Err (told broken)
 
 -- a picture by the buffer before it, or what is broken or met in it first
 unfoldable pub decoded_picture : List DecodedPicture → PicturePlan → Result DecodedPicture Outcome
-decoded_picture buffer p = decoded_built buffer p (unbuilt p)
+decoded_picture buffer p = decoded_data (picture_decoded buffer p)
 
 -- the pictures at these places of a buffer, one after the other, as they go out. A place behind the last has none
 abbrev pub next_out : Option DecodedPicture → List (List ℕ) → List (List ℕ)

@@ -3,3 +3,4 @@ pub mod Intra
 pub mod Laying
 pub mod Units
 pub mod Pictures
+pub mod Filtered

@@ -6,6 +6,7 @@ ghost use Rattle.ctu_records.specs.declared.item.Item.{Item};
 ghost use Rattle.header_types.specs.SequenceParameterSets.{IsSps};
 ghost use Rattle.plan_types.specs.declared.picture_plan.PicturePlan.{PicturePlan};
 ghost use Rattle.plan_types.specs.declared.segment_plan.SegmentPlan.{SegmentPlan};
+ghost use Rattle.spec_decoded_pictures.specs.Decoded.{picture_decoded};
 ghost use Rattle.spec_inter_prediction.specs.Taps.{clamped};
 ghost use Rattle.spec_picture_data.specs.Picture.{TreeUnit};
 ghost use Rattle.spec_picture_samples.specs.Built.{BuiltPicture, picture_built, units_built};
@@ -25,6 +26,12 @@ pub fn built_samples_are_in_range()
     ensures unit { (format : UnitFormat) (inter : InterUnit) (items : List Item) (known : Known) → IsFormat format → ArePulses format items → AreInRange format known → AreInRange format (unit_built format inter items known) }
     ensures picture { (buffer : List DecodedPicture) (p : PicturePlan) (units : List TreeUnit) → ((s : SegmentPlan) → IsFormat (unit_format p.sps p.pps s.header.slice)) → All (λ (unit : TreeUnit). (s : SegmentPlan) → ArePulses (unit_format p.sps p.pps s.header.slice) unit.read.items) units → (c x y : ℕ) → (units_built buffer p units).samples c x y ≤ greatest_sample p.sps.format c }
     ensures whole { (buffer : List DecodedPicture) (p : PicturePlan) (built : BuiltPicture) → IsSps p.sps → picture_built buffer p ≡ Ok built → (c x y : ℕ) → built.samples c x y ≤ greatest_sample p.sps.format c }
+{}
+
+/// Loop filters keep samples in range: no sample of a decoded picture exceeds the greatest one of its component, if its
+/// sequence parameter set is in range.
+pub fn decoded_samples_are_in_range()
+    ensures { (buffer : List DecodedPicture) (p : PicturePlan) (decoded : DecodedPicture) → IsSps p.sps → picture_decoded buffer p ≡ Ok decoded → (c x y : ℕ) → decoded.samples c x y ≤ greatest_sample decoded.format c }
 {}
 
 /// Where the samples of a picture are in range, its samples as a reference are those at the nearest place inside: that

@@ -7,7 +7,7 @@
 //! order count, its `nal_unit_type`, its width and its height inside the conformance window; with the word `slices` the
 //! fields of the picture's slice segment headers follow, and with the word `outputs` the pictures come in output order.
 //! With the word `trees` the coding trees of pictures come, a line each for what was read; with the word `rows`
-//! their samples before loop filters, a line each with the MD5 of a row of coding tree blocks.
+//! their samples behind their loop filters, a line each with the MD5 of a row of coding tree blocks.
 //! What stops the stream is told on the error stream then, and by the exit status: 2 where it breaks a rule, 3 where it
 //! meets a limit.
 //!

@@ -1,4 +1,4 @@
-//! The samples of pictures of I slices before their loop filters, told by rows of coding tree blocks.
+//! The samples of pictures of I slices behind their loop filters, told by rows of coding tree blocks.
 
 ghost use Rattle.std.specs.Prelude.{◌<◌};
 
@@ -13,8 +13,8 @@ use plan_types::PicturePlan;
 use std::alloc::Global;
 use std::io::Write;
 
-/// Builds a picture of I slices, which refers to no other, and prints its rows, or answers what its data break.
-pub(crate) fn print_built<W: Write>(
+/// Decodes a picture of I slices, which refers to no other, and prints its rows, or answers what its data break.
+pub(crate) fn print_decoded<W: Write>(
     alloc: Global,
     plan: &PicturePlan,
     out: &mut W,
@@ -48,7 +48,7 @@ fn print_plane<W: Write>(
     let side = side.max(1);
     let rows = height / side + u32::from(height % side != 0);
     for row in 0..rows {
-        write!(out, "row built {c} {row}: ")?;
+        write!(out, "row final {c} {row}: ")?;
         print_digest(&digest(planes, c, side.saturating_mul(row), side), out)?;
     }
     Ok(())

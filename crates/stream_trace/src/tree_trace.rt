@@ -1,7 +1,7 @@
 //! The coding trees of pictures, or the samples of pictures of I slices, read and printed.
 
 use crate::motion_buffer::MotionBuffer;
-use crate::row_lines::print_built;
+use crate::row_lines::print_decoded;
 use crate::trace_error::TraceError;
 use crate::tree_lines::{UnitOrigin, unit_items, unit_start};
 use ctu_records::Records;
@@ -62,7 +62,7 @@ impl TreeTrace {
         out: &mut W,
     ) -> Result<Option<Stop>, TraceError> {
         if self.rows {
-            return print_built(self.alloc, picture, out);
+            return print_decoded(self.alloc, picture, out);
         }
         let buffer = std::mem::replace(&mut self.buffer, MotionBuffer::new(self.alloc));
         let (stop, buffer) = print_units(self.alloc, picture, buffer, out)?;

@@ -1,23 +1,29 @@
-use Rattle.std.proofs.Common.{◌≡◌, ◌≤◌, subst, rules}
+use Rattle.std.proofs.Common.{◌≡◌, ◌≤◌, Some, ap, subst, rules}
 use Rattle.ctu_build.specs.Held.{held}
 use Rattle.ctu_motion.specs.Held.{held as motion_held}
 use Rattle.picture_buffer.specs.Motion.{motions_of}
 use Rattle.picture_buffer.specs.Planes.{samples_of}
+use Rattle.picture_filters.specs.Filtering.{data_of}
 use Rattle.picture_trees.specs.Given.{tree_unit}
 use Rattle.spec_picture_data.specs.Picture.{TreeUnit}
 use Rattle.spec_picture_data.specs.Shapes.{picture_shape}
+use Rattle.spec_picture_filters.specs.Filtered.{added_in}
 use Rattle.spec_picture_motion.specs.Field.{first_row}
 use Rattle.spec_picture_samples.specs.Built.{unit_added}
 use Rattle.spec_picture_samples.specs.Format.{unit_format}
+use Rattle.spec_picture_samples.specs.References.{motions_of as motions_at}
+use Rattle.spec_reconstruction.specs.declared.format.UnitFormat.{UnitFormat}
 use Rattle.spec_reconstruction.specs.Sound.{AreSound}
-use Rattle.picture_build.specs.Building.{Building, built_by}
+use Rattle.spec_transforms.specs.Scaling.{IsDepth}
+use Rattle.picture_build.specs.Building.{Building, behind_by, built_by}
 use Rattle.picture_build.specs.Pictures.{buffer_of}
 use Rattle.picture_build.proofs.Added.{unit_below, unit_is}
+use Rattle.picture_build.proofs.Behind.{behind_unit}
 use Rattle.picture_build.proofs.builder.PictureBuilder.build.Goals as goal
 
 pub returns-in-Some-clause-value : goal.returns-in-Some-clause-value
 returns-in-Some-clause-value g c = λ number.
-    let old : Building = record { plan = c.self.inside.plan.now; planes = c.self.inside.planes; motion = c.self.inside.motion } in
+    let old : Building = record { plan = c.self.inside.plan.now; planes = c.self.inside.planes; motion = c.self.inside.motion; filters = c.self.inside.filters } in
     let unit : TreeUnit = tree_unit number c.args.address c.args.records.now in
     let bases : c.self.inside.bases.now ≡ g.B.Buffer.pictures = search rules in
     let layout : c.self.inside.layout ≡ picture_shape c.self.inside.plan.now.sps c.self.inside.plan.now.pps = search rules in
@@ -32,7 +38,7 @@ returns-in-Some-clause-value g c = λ number.
 
 pub returns-in_default-clause-value : goal.returns-in_default-clause-value
 returns-in_default-clause-value g c = λ number.
-    let old : Building = record { plan = c.self.inside.plan.now; planes = c.self.inside.planes; motion = c.self.inside.motion } in
+    let old : Building = record { plan = c.self.inside.plan.now; planes = c.self.inside.planes; motion = c.self.inside.motion; filters = c.self.inside.filters } in
     let unit : TreeUnit = tree_unit number c.args.address c.args.records.now in
     let bases : c.self.inside.bases.now ≡ g.B.Buffer.pictures = search rules in
     let layout : c.self.inside.layout ≡ picture_shape c.self.inside.plan.now.sps c.self.inside.plan.now.pps = search rules in
@@ -42,3 +48,27 @@ returns-in_default-clause-value g c = λ number.
     subst Q c.self.view_is (λ sound.
     unit_below c.self.inside.bases.now g.B.Buffer.pictures c.self.inside.plan.now c.args.segment.now unit c.self.inside.layout (built_by old) (motions_of c.derive.new.motion.field)
     bases layout sound (c.derive.ensures.value number) c.in_default.ensures.shape past)
+
+pub returns-in-Some-clause-behind : goal.returns-in-Some-clause-behind
+returns-in-Some-clause-behind g c = λ number.
+    let old : Building = record { plan = c.self.inside.plan.now; planes = c.self.inside.planes; motion = c.self.inside.motion; filters = c.self.inside.filters } in
+    let unit : TreeUnit = tree_unit number c.args.address c.args.records.now in
+    let format : UnitFormat = unit_format c.self.inside.plan.now.sps c.self.inside.plan.now.pps c.args.segment.now.header.slice in
+    let depth : IsDepth format.luma_depth = subst (λ (f : UnitFormat). IsDepth f.luma_depth) (c.self.invariant.5 c.args.segment.now.header.slice) c.self.invariant.4.luma in
+    let Q : Building → Type 0 = λ b. AreSound (unit_format b.plan.sps b.plan.pps c.args.segment.now.header.slice) c.args.records.now.items
+    → record { motions = motions_of c.derive.new.motion.field; gathered = data_of c.add.new.self } ≡ added_in (motions_at (buffer_of g.B.Buffer.pictures)) b.plan (Some c.args.segment.now) unit (behind_by b) in
+    subst Q c.self.view_is (λ sound.
+    behind_unit c.self.inside.bases.now g.B.Buffer.pictures c.self.inside.plan.now c.self.inside.filters.plan c.args.segment.now unit format (behind_by old) (motions_of c.derive.new.motion.field) (motions_of c.field.result.now) (data_of c.add.new.self)
+    c.self.invariant.8 c.self.invariant.7 (ap motions_of c.field.ensures) depth sound (c.derive.ensures.value number) c.add.ensures.value)
+
+pub returns-in_default-clause-behind : goal.returns-in_default-clause-behind
+returns-in_default-clause-behind g c = λ number.
+    let old : Building = record { plan = c.self.inside.plan.now; planes = c.self.inside.planes; motion = c.self.inside.motion; filters = c.self.inside.filters } in
+    let unit : TreeUnit = tree_unit number c.args.address c.args.records.now in
+    let format : UnitFormat = unit_format c.self.inside.plan.now.sps c.self.inside.plan.now.pps c.args.segment.now.header.slice in
+    let depth : IsDepth format.luma_depth = subst (λ (f : UnitFormat). IsDepth f.luma_depth) (c.self.invariant.5 c.args.segment.now.header.slice) c.self.invariant.4.luma in
+    let Q : Building → Type 0 = λ b. AreSound (unit_format b.plan.sps b.plan.pps c.args.segment.now.header.slice) c.args.records.now.items
+    → record { motions = motions_of c.derive.new.motion.field; gathered = data_of c.add.new.self } ≡ added_in (motions_at (buffer_of g.B.Buffer.pictures)) b.plan (Some c.args.segment.now) unit (behind_by b) in
+    subst Q c.self.view_is (λ sound.
+    behind_unit c.self.inside.bases.now g.B.Buffer.pictures c.self.inside.plan.now c.self.inside.filters.plan c.args.segment.now unit format (behind_by old) (motions_of c.derive.new.motion.field) (motions_of c.field.result.now) (data_of c.add.new.self)
+    c.self.invariant.8 c.self.invariant.7 (ap motions_of c.field.ensures) depth sound (c.derive.ensures.value number) c.add.ensures.value)
