@@ -1,9 +1,6 @@
 -- What the error sink is told of a run.
-use Rattle.std.specs.Prelude.{◌≡◌, ℕ, List, ◌⊎◌}
-use Rattle.hv_base.specs.declared.outcome.Outcome.{Outcome}
-use Rattle.hv_base.specs.declared.outcome.Outcome.TheVariants as outcome
+use Rattle.std.specs.Prelude.{◌≡◌, ℕ, List}
 use Rattle.hv_io.specs.Streams.{Gains, GainsPrefix}
-use Rattle.spec_decoder.specs.Decoder.{IsDecided}
 use Rattle.decoder.specs.Headline.{Change, Failed}
 
 -- the sink for lines gained the line, or a prefix of it where its count of faults rose
@@ -13,7 +10,3 @@ Tells err line = (¬ Failed err → Gains err.before err.after line) × GainsPre
 -- a run did nothing to a source or a sink
 abbrev pub IsUntouched : Change → Type 0
 IsUntouched c = (c.after ≡ c.before) × (c.faults_after ≡ c.faults_before)
-
--- an outcome is told as it is, or as want of memory where there was none for its line
-abbrev pub IsToldAs : Outcome → Outcome → Type 0
-IsToldAs o told = (told ≡ o) ⊎ ((told ≡ outcome.Memory) × IsDecided o)

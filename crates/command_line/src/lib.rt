@@ -2,6 +2,7 @@
 #![tactic(auto)]
 
 mod line;
+mod line_text;
 mod program;
 mod words;
 

@@ -9,10 +9,10 @@ ghost use Rattle.decoder.specs.declared.options.Options.{Options};
 ghost use Rattle.command_line.specs.Telling.{IsUntouched, Tells};
 ghost use Rattle.command_line.specs.Words.{usage_line, words_taken};
 
-use crate::line::{tell, tell_line, tell_memory};
+use crate::line::{tell, tell_line};
 use crate::words::{USAGE, WordsError, parse_words};
 use decoder::{Options, decode};
-use hv_base::Status;
+use hv_base::{Outcome, Status};
 use hv_io::{Gate, Sink, Source};
 use std::alloc::Global;
 use std::sync::Wait;
@@ -55,7 +55,10 @@ pub fn run<R: Threads + Wait + Sync, S: Source, O: Sink, E: Sink, G: Gate + Sync
             tell_line(err, USAGE);
             Status(1)
         }
-        Err(WordsError::Memory) => tell_memory(err).status(),
+        Err(WordsError::Memory) => {
+            tell(Outcome::Memory, err);
+            Outcome::Memory.status()
+        }
     }
 }
 
@@ -74,5 +77,6 @@ fn run_decode<S: Source, O: Sink, E: Sink>(
         × Tells (change_of E.contents E.faults err.old err.new) (outcome_line o) }
 {
     let outcome = decode(alloc, options, src, out);
-    tell(alloc, outcome, err).status()
+    tell(outcome, err);
+    outcome.status()
 }
