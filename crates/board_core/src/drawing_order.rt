@@ -18,7 +18,8 @@ pub fn delay_of(phase: Phase) -> u32
     }
 }
 
-/// The lines of the phase with delay `other` that are drawn before the phase with delay `behind` has its line in a turn.
+/// The lines of the phase with delay `other` that are drawn before the phase with delay `behind` has its line in a
+/// turn.
 fn phase_lines(rows: u32, turn: u32, behind: u32, other: u32) -> u32
     requires { turn ≤ 1024 }
     ensures value { result ≡ phase_lines_before rows turn behind other }

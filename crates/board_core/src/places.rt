@@ -198,7 +198,8 @@ impl<'a> Places<'a> {
         line_in(picture as u32, self.rows(picture as u32), within as u32)
     }
 
-    /// The line and the place there of a coding tree unit. `None` exactly where the flight has no such coding tree unit.
+    /// The line and the place there of a coding tree unit. `None` exactly where the flight has no such coding tree
+    /// unit.
     pub fn place(&self, unit: Unit) -> Option<(Line, u32)>
         ensures found { IfSome result (λ place. IsPlaceOf self.now unit place.0 place.1) }
         ensures none { result ≡ None → ¬ IsTreeUnit self.now.pictures unit }

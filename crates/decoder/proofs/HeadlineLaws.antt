@@ -1,8 +1,8 @@
 -- From what reading and decoding a stream answer to what a run owes.
-use Rattle.std.proofs.Common.{◌≡◌, ℕ, zero, suc, Bool, true, false, List, [], ◌∷◌, ◌++◌, length, take, Option, Some, None, refl, sym, ap, subst, ◌∙◌, inl, inr, ◌⊎◌}
+use Rattle.std.proofs.Common.{◌≡◌, ℕ, zero, suc, Bool, true, false, List, [], ◌∷◌, ◌++◌, take, Option, Some, None, refl, sym, ap, subst, ◌∙◌, inl, inr, ◌⊎◌}
 use Rattle.std.specs.Prelude.{IfSome}
 use Rattle.std.specs.List.{concat}
-use Rattle.std.proofs.Math.Seq.{take-length, take-nil}
+use Rattle.std.proofs.Math.Seq.{take-nil}
 use Rattle.std.proofs.lemmas.List.{append-nil}
 use Rattle.hv_base.specs.declared.outcome.Outcome.{Outcome}
 use Rattle.hv_base.specs.declared.outcome.Outcome.TheVariants as outcome
@@ -11,7 +11,7 @@ use Rattle.hv_io.proofs.StreamLemmas.{GainsPrefix-front}
 use Rattle.spec_decoder.specs.Decoder.{Decoded, Continues, IsDecided, decoded, bytes_of}
 use Rattle.spec_decoder.proofs.Continuing.{of_continues}
 use Rattle.spec_decoder.proofs.Deciding.{of_decided}
-use Rattle.decoder.specs.Headline.{Change, Failed, IsQuiet, GainsAll, GainsWhole, GainsCut, IsResult, IsDecoded, IsWhole, Headline, IsComplete}
+use Rattle.decoder.specs.Headline.{Change, Failed, IsQuiet, GainsAll, GainsWhole, GainsCut, IsResult, IsDecoded, Headline, IsComplete}
 use Rattle.decoder.specs.Writing.{IsAnswered}
 
 if_some : (o : Option (List ℕ)) (P Q : List ℕ → Type 0) → IfSome o P → ((b : List ℕ) → P b → Q b) → IfSome o Q
@@ -92,12 +92,6 @@ open_read (Some b) after out read takes r = (read, takes, r.1, sym r.0)
 -- a read failed, and nothing had stopped decoding before
 pub headline_open : (src out : Change) (read : List ℕ) → Takes src.before src.after read → Failed src → IsAnswered (decoded false read) out outcome.Ok → Headline src out outcome.ReadFault
 headline_open src out read takes failed a = (failed, open_read src.before src.after out read takes a.0, a.1)
-
--- the pictures of sequential decoding are whole pictures
-pub whole_decoded : (src out : Change) (o : Outcome) → IsDecoded src out o → IsWhole src out
-whole_decoded src out o d =
-    if_some src.before (λ b. IsResult out o (decoded true b)) (λ b. GainsWhole out (decoded true b)) d
-    (λ b e. (length (decoded true b).pictures, subst (λ (ps : List (List ℕ)). Gains out.before out.after (concat ps)) (sym (take-length (decoded true b).pictures)) e.1))
 
 decoded_or : (src out : Change) (o : Outcome) → IsDecoded src out o → IfSome src.before (λ b. (o ≡ (decoded true b).outcome) ⊎ (o ≡ outcome.Memory))
 decoded_or src out o d =

@@ -6,7 +6,7 @@ use Rattle.std.proofs.lemmas.Bool.Decides.{nat_tests}
 use Rattle.header_types.specs.declared.sps.PictureFormat.{PictureFormat}
 use Rattle.header_types.specs.SequenceParameterSets.{IsSps}
 use Rattle.plan_types.specs.declared.picture_plan.PicturePlan.{PicturePlan}
-use Rattle.spec_decoded_pictures.specs.Decoded.{decoded_by, decoded_of, picture_decoded, samples_filtered, units_decoded}
+use Rattle.spec_decoded_pictures.specs.Decoded.{decoded_by, picture_decoded, reading_decoded, samples_filtered, units_decoded}
 use Rattle.spec_loop_filters.specs.Filters.{depth_of}
 use Rattle.spec_picture_data.specs.Picture.{TreeUnit, PictureBroken, picture_read}
 use Rattle.spec_picture_data.specs.Shapes.{picture_shape}
@@ -135,7 +135,7 @@ pub decoded_all : (buffer : List DecodedPicture) (p : PicturePlan) (building : B
     → picture_decoded buffer p ≡ Ok (decoded_by building.plan (built_by building) (data_of building.filters))
 unfolding picture_decoded
 decoded_all buffer p building given are =
-    ap (decoded_of buffer p) are.all.all
+    ap (reading_decoded buffer p) are.all.all
     ∙ ap (λ g. Ok (units_decoded buffer p g)) are.all.same
     ∙ ap (λ b. Ok (decoded_by p b (units_filtered (motions_at buffer) p given))) (sym (are.is.picture are.sound))
     ∙ ap (λ (f : Behind). Ok (decoded_by p (built_by building) f.gathered)) (sym (are.is.behind are.sound))
@@ -145,7 +145,7 @@ decoded_all buffer p building given are =
 decoded_broken : (buffer : List DecodedPicture) (p : PicturePlan) (given : List TreeUnit) (broken : PictureBroken) → picture_read p [] ≡ Err (record { given = given; broken = broken })
     → picture_decoded buffer p ≡ Err broken
 unfolding picture_decoded
-decoded_broken buffer p given broken e = ap (decoded_of buffer p) e
+decoded_broken buffer p given broken e = ap (reading_decoded buffer p) e
 
 -- reading a picture ended at a broken rule, or for want of memory
 pub decoding_fails : (buffer : List DecodedPicture) (p : PicturePlan) (e : ReadError) (tells : List TreeUnit → Type 0) → ReadsPicture (Err e) tells (picture_read p []) → BuildsPicture (Err e) (picture_decoded buffer p)

@@ -27,10 +27,11 @@ decoded_by p built gathered = record {
 abbrev pub units_decoded : List DecodedPicture → PicturePlan → List TreeUnit → DecodedPicture
 units_decoded buffer p units = decoded_by p (units_built buffer p units) (units_filtered (motions_of buffer) p units)
 
-abbrev pub decoded_of : List DecodedPicture → PicturePlan → Result Progress Halt → Result DecodedPicture PictureBroken
-decoded_of buffer p (Ok progress) = Ok (units_decoded buffer p progress.given)
-decoded_of buffer p (Err halt) = Err halt.broken
+-- by how reading it ended
+abbrev pub reading_decoded : List DecodedPicture → PicturePlan → Result Progress Halt → Result DecodedPicture PictureBroken
+reading_decoded buffer p (Ok progress) = Ok (units_decoded buffer p progress.given)
+reading_decoded buffer p (Err halt) = Err halt.broken
 
 -- a picture by the buffer before it, or the first rule that its data break
 unfoldable pub picture_decoded : List DecodedPicture → PicturePlan → Result DecodedPicture PictureBroken
-picture_decoded buffer p = decoded_of buffer p (picture_read p [])
+picture_decoded buffer p = reading_decoded buffer p (picture_read p [])

@@ -13,7 +13,7 @@ use Rattle.spec_picture_filters.specs.Filtered.{filter_format, filtered, loop_fi
 use Rattle.spec_picture_samples.specs.Border.{Samples, has_sample}
 use Rattle.spec_picture_samples.specs.Built.{picture_built, units_built}
 use Rattle.spec_picture_samples.specs.References.{DecodedPicture, greatest_sample}
-use Rattle.spec_decoded_pictures.specs.Decoded.{decoded_by, decoded_of, picture_decoded, samples_filtered, units_decoded}
+use Rattle.spec_decoded_pictures.specs.Decoded.{decoded_by, picture_decoded, reading_decoded, samples_filtered, units_decoded}
 use Rattle.spec_sample_ranges.proofs.Means.{case_holds}
 use Rattle.spec_sample_ranges.proofs.Pictures.{whole_below}
 
@@ -60,7 +60,7 @@ module _ (buffer : List DecodedPicture) (p : PicturePlan) (sps : IsSps p.sps) wh
   units_below progress is =
       samples_below p _ _ (whole_below buffer p sps (units_built buffer p progress.given) (built_as progress is))
 
-  gives_below : (decoded : DecodedPicture) (r : Result Progress Halt) → picture_read p [] ≡ r → decoded_of buffer p r ≡ Ok decoded → IsBelow decoded
+  gives_below : (decoded : DecodedPicture) (r : Result Progress Halt) → picture_read p [] ≡ r → reading_decoded buffer p r ≡ Ok decoded → IsBelow decoded
   gives_below decoded (Err halt) is gives = absurd cc
   gives_below decoded (Ok progress) is gives =
       let same : units_decoded buffer p progress.given ≡ decoded = ap (λ (r : Result DecodedPicture PictureBroken). elim r as (λ r. DecodedPicture) [ Ok d ↦ d | Err e ↦ decoded ]) gives in
