@@ -1,6 +1,6 @@
 //! What was read of a coding tree unit by place.
 
-ghost use Rattle.std.specs.Prelude.{◌≡◌, ◌≤◌, ◌+◌, ◌^◌, true, false, nat_le, List, []};
+ghost use Rattle.std.specs.Prelude.{[]};
 ghost use Rattle.std.specs.List.{All};
 ghost use Rattle.ctu_records.specs.declared.item.Item.TheVariants.{Pcm, Prediction, Transform, Unit};
 ghost use Rattle.spec_motion.specs.Derivation.{IsPlaced};
@@ -10,6 +10,7 @@ ghost use Rattle.boundary_strengths.specs.Marking.{IsAdded};
 
 use crate::laying::{block_of, lay_block, mark_left, mark_top};
 use ctu_records::{CodingUnit, Item, PredictionUnit, Square, TransformUnit};
+use spec_motion::is_placed;
 
 /// Edges, coded places and kept ones, in 16 rows of 16.
 #[derive(Clone, Copy)]
@@ -113,24 +114,4 @@ fn add_pcm(marks: &mut Marks, square: Square, pcm_disabled: bool)
     if pcm_disabled {
         lay_block(&mut marks.kept, block_of(square), true);
     }
-}
-
-/// Whether a prediction unit lies in the greatest unit.
-fn is_placed(unit: &PredictionUnit) -> bool
-    ensures found { result ≡ true → IsPlaced unit.now }
-    ensures only { IsPlaced unit.now → result ≡ true }
-{
-    let square = unit.unit;
-    square.log2_size <= 4
-        && lies_inside(square.x, square.log2_size)
-        && lies_inside(square.y, square.log2_size)
-        && unit.part <= 3
-}
-
-/// Whether so many places from one on are among the first 16.
-fn lies_inside(first: u8, log2: u8) -> bool
-    requires few { log2 ≤ 4 }
-    ensures { result ≡ nat_le (first + 2 ^ log2) 16 }
-{
-    u32::from(first) + (1 << log2) <= 16
 }

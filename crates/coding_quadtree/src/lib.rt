@@ -29,6 +29,3 @@ pub use laws::unit_is_the_next_step;
 pub use offset::sao;
 pub use quadtree::{coding_quadtree, coding_tree_unit};
 pub use unit_place::UnitPlace;
-
-#[cfg(test)]
-mod tests;

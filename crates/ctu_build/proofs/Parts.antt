@@ -1,8 +1,10 @@
 -- The parts of coding units.
-use Rattle.std.proofs.Common.{◌≡◌, ℕ, ◌<◌, ◌≤◌, nat_le, true, arith}
-use Rattle.std.proofs.lemmas.Bool.Decides.{nat_tests}
+use Rattle.std.proofs.Common.{◌≤◌, arith}
 use Rattle.ctu_records.specs.declared.prediction.PartMode.{PartMode}
 use Rattle.ctu_records.specs.declared.prediction.PartMode.TheVariants.{Whole, TwoNxN, Nx2N, NxN, TwoNxnU, TwoNxnD, NLx2N, NRx2N}
+use Rattle.ctu_records.specs.declared.prediction.PredictionUnit.{PredictionUnit}
+use Rattle.spec_motion.specs.Derivation.{IsPlaced}
+use Rattle.spec_reconstruction.specs.Sound.{IsPrediction}
 use Rattle.spec_slice_data.specs.Inter.{part_count}
 
 count_few : (mode : PartMode) → part_count mode ≤ 4
@@ -16,5 +18,13 @@ count_few TwoNxnD = omega arith
 count_few NLx2N = omega arith
 count_few NRx2N = omega arith
 
-pub part_few : (mode : PartMode) (part : ℕ) → part < part_count mode → nat_le part 3 ≡ true
-part_few mode part lt = let few = count_few mode in grind (arith, nat_tests)
+-- a sound prediction unit lies in the greatest unit
+pub prediction_placed : (unit : PredictionUnit) → IsPrediction unit → IsPlaced unit
+prediction_placed unit sound =
+    let few = count_few unit.part_mode in
+    record {
+      few = sound.placed.size;
+      column = sound.placed.x;
+      row = sound.placed.y;
+      part = omega (arith, few, sound.part);
+    }

@@ -18,15 +18,17 @@ use crate::intra_border::IntraUnit;
 use crate::prediction_units::lay_prediction;
 use crate::pulses::lay_pulses;
 use crate::scratch::Scratch;
-use crate::soundness::{is_coded, is_placed, is_square};
+use crate::soundness::{is_coded, is_square};
 use crate::source::Source;
 use crate::transform_units::{Modes, predict_unit};
 use crate::unit_samples::UnitSamples;
 use ctu_records::{CodedBlock, Item, PredictionUnit, Records, Square};
 use inter_pred::RefWindow;
+use spec_motion::is_placed;
 use spec_reconstruction::UnitFormat;
 
 /// Predicts the block of a prediction unit.
+#[tactic(auto, using(crate::proofs::Parts::prediction_placed))]
 pub(crate) fn build_prediction<V: RefWindow>(
     source: &Source<'_, V>,
     prediction: &PredictionUnit,

@@ -1,11 +1,10 @@
 //! Whether what was read lies in a unit.
 
 ghost use Rattle.std.specs.Prelude.{◌≡◌, ◌+◌, ◌^◌, ◌≤◌, nat_le, true};
-ghost use Rattle.spec_motion.specs.Derivation.{IsPlaced};
-ghost use Rattle.spec_reconstruction.specs.Sound.{IsCoded, IsPrediction, IsSquare};
+ghost use Rattle.spec_reconstruction.specs.Sound.{IsCoded, IsSquare};
 ghost use Rattle.spec_slice_data.specs.Residual.{samples_of_place};
 
-use ctu_records::{CodedBlock, PredictionUnit, Square};
+use ctu_records::{CodedBlock, Square};
 
 /// Whether so many samples or places from one on are among the first of them.
 fn lies_inside(first: u32, log2: u8, all: u32) -> bool
@@ -47,16 +46,4 @@ pub(crate) fn is_coded(block: CodedBlock) -> bool
         && block.y < 16
         && lies_inside(side * u32::from(block.x), block.log2_size, 64)
         && lies_inside(side * u32::from(block.y), block.log2_size, 64)
-}
-
-/// Whether a prediction unit lies in the greatest unit.
-pub(crate) fn is_placed(prediction: &PredictionUnit) -> bool
-    ensures found { result ≡ true → IsPlaced prediction.now }
-    ensures only { IsPrediction prediction.now → result ≡ true }
-{
-    let unit = prediction.unit;
-    unit.log2_size <= 4
-        && lies_inside(u32::from(unit.x), unit.log2_size, 16)
-        && lies_inside(u32::from(unit.y), unit.log2_size, 16)
-        && prediction.part <= 3
 }

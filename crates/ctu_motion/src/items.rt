@@ -1,14 +1,13 @@
 //! The motion of a coding tree unit by what was read of it.
 
-ghost use Rattle.std.specs.Prelude.{◌≡◌, ◌+◌, ◌^◌, ◌≤◌, nat_le, true};
+ghost use Rattle.std.specs.Prelude.{◌≡◌};
 ghost use Rattle.std.specs.List.{All};
 ghost use Rattle.ctu_motion.specs.Held.{held, held_beneath};
-ghost use Rattle.spec_motion.specs.Derivation.{IsPlaced};
 ghost use Rattle.spec_motion.specs.Units.{IsPlacedItem, item_derived, unit_derived};
 
 use crate::unit_motion::UnitMotion;
-use ctu_records::{Item, PredictionUnit};
-use spec_motion::SliceMotion;
+use ctu_records::Item;
+use spec_motion::{SliceMotion, is_placed};
 
 /// Derives the prediction units of a coding tree unit in reading order, each over what those before it left. One that doesn't
 /// lie in the unit is passed over.
@@ -43,24 +42,4 @@ fn derive_item(item: Item, slice: &SliceMotion, motion: &mut UnitMotion)
         | Item::Block(_)
         | Item::Level(_, _) => {}
     }
-}
-
-/// Whether a prediction unit lies in a coding tree unit.
-fn is_placed(unit: &PredictionUnit) -> bool
-    ensures found { result ≡ true → IsPlaced unit.now }
-    ensures only { IsPlaced unit.now → result ≡ true }
-{
-    let square = unit.unit;
-    square.log2_size <= 4
-        && lies_inside(square.x, square.log2_size)
-        && lies_inside(square.y, square.log2_size)
-        && unit.part <= 3
-}
-
-/// Whether so many places from one on are among the first 16.
-fn lies_inside(first: u8, log2: u8) -> bool
-    requires few { log2 ≤ 4 }
-    ensures { result ≡ nat_le (first + 2 ^ log2) 16 }
-{
-    u32::from(first) + (1 << log2) <= 16
 }

@@ -3,6 +3,7 @@
 ghost use Rattle.std.specs.Prelude.{◌≡◌, ℕ, ◌+◌, ◌-◌, ◌*◌, ◌<◌, ◌≤◌, ◌==◌, ◌&&◌, min, length, slice_index_or, IfOk, false, if◌then◌else◌};
 ghost use Rattle.filter_field.specs.Kept.{HasFlags, kept_of};
 
+use crate::cells::cell;
 use std::alloc::{AllocError, Global};
 use std::marker::Model;
 
@@ -51,15 +52,11 @@ impl KeptField {
     }
 
     /// Whether the samples of a place stay; `false` outside the picture.
-    #[tactic(auto, unfolding(crate::specs::Kept::kept_of, crate::specs::Grids::cell))]
+    #[tactic(auto, unfolding(crate::specs::Kept::kept_of))]
     pub fn at(&self, x: usize, y: usize) -> bool
         ensures { result ≡ kept_of self.now x y }
     {
-        if x < self.across as usize && y < self.down as usize {
-            self.flags[self.across as usize * y + x]
-        } else {
-            false
-        }
+        cell(self.across, self.down, &self.flags, false, x, y)
     }
 
     /// Whether the samples of a place stay.

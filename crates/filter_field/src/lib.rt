@@ -3,6 +3,7 @@
 #![tactic(auto)]
 
 mod beside;
+mod cells;
 mod filter_place;
 mod kept_field;
 mod place_field;

@@ -3,6 +3,7 @@
 ghost use Rattle.std.specs.Prelude.{◌≡◌, ℕ, ◌+◌, ◌-◌, ◌*◌, ◌<◌, ◌≤◌, ◌==◌, ◌&&◌, min, nat_le, nat_lt, length, slice_index_or, IfOk, false, if◌then◌else◌};
 ghost use Rattle.filter_field.specs.Places.{HasPlaces, first_place, places_of};
 
+use crate::cells::cell;
 use crate::filter_place::{FIRST_PLACE, FilterPlace};
 use crate::kept_field::KeptField;
 use deblock::Places;
@@ -74,15 +75,11 @@ impl PlaceField {
     }
 
     /// What is known of a place; nothing outside the picture.
-    #[tactic(auto, unfolding(crate::specs::Places::places_of, crate::specs::Grids::cell))]
+    #[tactic(auto, unfolding(crate::specs::Places::places_of))]
     pub fn at(&self, x: usize, y: usize) -> FilterPlace
         ensures { result ≡ places_of self.now x y }
     {
-        if x < self.across as usize && y < self.down as usize {
-            self.places[self.across as usize * y + x]
-        } else {
-            FIRST_PLACE
-        }
+        cell(self.across, self.down, &self.places, FIRST_PLACE, x, y)
     }
 
     /// What is known of a place.

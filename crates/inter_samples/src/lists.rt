@@ -1,9 +1,9 @@
 //! The samples of a block of one component by the vectors of one list, or of both.
 
-ghost use Rattle.std.specs.Prelude.{◌≡◌, ℕ, ◌+◌, ◌*◌, ◌^◌, ◌<◌, ◌≤◌, ℤ};
+ghost use Rattle.std.specs.Prelude.{◌≡◌, ℕ, ◌+◌, ◌*◌, ◌<◌};
 ghost use Rattle.ctu_motion.specs.Held.{held};
 ghost use Rattle.inter_pred.specs.Passes.{at, at_z};
-ghost use Rattle.inter_samples.specs.Inter.{AreSmall, inter_unit};
+ghost use Rattle.inter_samples.specs.Inter.{AreSmall, IsPart, inter_unit};
 ghost use Rattle.spec_inter_prediction.specs.Weighting.{IsWeighting, weighted_one, weighted_two};
 ghost use Rattle.spec_reconstruction.specs.Inter.{predicted_by};
 ghost use Rattle.spec_reconstruction.specs.Parameters.{depth_of};
@@ -38,8 +38,7 @@ fn predict_list<V: RefWindow>(
     out: &mut Prediction,
 )
     requires format { IsFormat format.now }
-    requires size { (part.block.width ≤ 64) × (part.block.height ≤ 64) }
-    requires place { (part.block.x ≤ 65536) × (part.block.y ≤ 65536) }
+    requires part { IsPart part }
     requires small { AreSmall format.now (V.reference_at view.now) }
     ensures { (x y : ℕ) → x < part.block.width → y < part.block.height → at_z out.new (64 * y + x) ≡ predicted_by format.now (inter_unit (held inter.now.motion.now) inter.now.slice.now inter.now.weighting.now (V.reference_at view.now) inter.now.column inter.now.row) list part.c vector (part.block.x + x) (part.block.y + y) }
 {
@@ -67,8 +66,7 @@ pub fn by_one<V: RefWindow>(
     out: &mut [u16; 4096],
 )
     requires format { IsFormat format.now }
-    requires size { (part.block.width ≤ 64) × (part.block.height ≤ 64) }
-    requires place { (part.block.x ≤ 65536) × (part.block.y ≤ 65536) }
+    requires part { IsPart part }
     requires weighting { IsWeighting weighting }
     requires small { AreSmall format.now (V.reference_at view.now) }
     ensures { (x y : ℕ) → x < part.block.width → y < part.block.height → at out.new (64 * y + x) ≡ weighted_one (depth_of format.now part.c) weighting list (predicted_by format.now (inter_unit (held inter.now.motion.now) inter.now.slice.now inter.now.weighting.now (V.reference_at view.now) inter.now.column inter.now.row) list part.c vector (part.block.x + x) (part.block.y + y)) }
@@ -101,8 +99,7 @@ pub fn by_both<V: RefWindow>(
     out: &mut [u16; 4096],
 )
     requires format { IsFormat format.now }
-    requires size { (part.block.width ≤ 64) × (part.block.height ≤ 64) }
-    requires place { (part.block.x ≤ 65536) × (part.block.y ≤ 65536) }
+    requires part { IsPart part }
     requires weighting { IsWeighting weighting }
     requires small { AreSmall format.now (V.reference_at view.now) }
     ensures { (x y : ℕ) → x < part.block.width → y < part.block.height → at out.new (64 * y + x) ≡ weighted_two (depth_of format.now part.c) weighting (predicted_by format.now (inter_unit (held inter.now.motion.now) inter.now.slice.now inter.now.weighting.now (V.reference_at view.now) inter.now.column inter.now.row) 0 part.c first (part.block.x + x) (part.block.y + y)) (predicted_by format.now (inter_unit (held inter.now.motion.now) inter.now.slice.now inter.now.weighting.now (V.reference_at view.now) inter.now.column inter.now.row) 1 part.c second (part.block.x + x) (part.block.y + y)) }

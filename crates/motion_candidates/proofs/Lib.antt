@@ -4,3 +4,4 @@ pub mod FilterMap
 pub mod Completed
 pub mod First
 pub mod Choice
+pub mod Sought

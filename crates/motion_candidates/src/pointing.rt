@@ -2,8 +2,9 @@
 
 ghost use Rattle.std.specs.Prelude.{◌≡◌, option_and_then};
 ghost use Rattle.spec_motion.specs.declared.vectors.Vector.{Vector};
-ghost use Rattle.spec_motion.specs.VectorPrediction.{if_same_mark, if_same_picture, of_same_mark, of_same_picture, pointing, reaching};
+ghost use Rattle.spec_motion.specs.VectorPrediction.{if_same_mark, if_same_picture};
 ghost use Rattle.spec_motion.specs.Vectors.{in_list, in_other, reference_in, reference_in_other};
+ghost use Rattle.motion_candidates.specs.Predictors.{of_motion, sought, taken};
 
 use crate::references::{reference_in, reference_in_other};
 use crate::sameness::agree;
@@ -11,59 +12,96 @@ use crate::scaling::{difference, scaled};
 use ctu_records::Mv;
 use spec_motion::{Motion, Reference, SliceMotion, Vector};
 
-/// The vector of a place that points to the picture of a reference.
-#[tactic(auto, unfolding(spec_motion::specs::VectorPrediction::pointing))]
-pub(crate) fn pointing(
+/// Which vectors are taken for a reference.
+#[derive(Clone, Copy)]
+pub(crate) enum Search {
+    /// Those that point to its picture.
+    SamePicture,
+    /// Those whose reference has the same mark as long-term, scaled.
+    SameMark,
+}
+
+/// The vector of a place that a search takes for a reference.
+#[tactic(auto, using(crate::proofs::Sought::sought_by))]
+pub(crate) fn sought(
+    search: Search,
     slice: &SliceMotion,
     list: u8,
     target: Reference,
     place: Option<Motion>,
 ) -> Option<Mv>
-    ensures { result ≡ pointing slice.now list target place }
+    ensures { result ≡ sought search slice.now list target place }
 {
     match place {
-        Some(motion) => of_same_picture(slice, list, target, motion),
+        Some(motion) => of_motion(search, slice, list, target, motion),
         None => None,
     }
 }
 
-/// The vector of a motion that points to the picture of a reference.
-fn of_same_picture(slice: &SliceMotion, list: u8, target: Reference, motion: Motion) -> Option<Mv>
-    ensures { result ≡ of_same_picture slice.now list target motion }
+/// The vector of a motion that it takes: that in the list, or else that in the other one.
+fn of_motion(
+    search: Search,
+    slice: &SliceMotion,
+    list: u8,
+    target: Reference,
+    motion: Motion,
+) -> Option<Mv>
+    ensures { result ≡ of_motion search slice.now list target motion }
 {
-    match own_if_same_picture(slice, list, target, in_list(list, motion)) {
+    match own_taken(search, slice, list, target, in_list(list, motion)) {
         Some(mv) => Some(mv),
-        None => other_if_same_picture(slice, list, target, in_other(list, motion)),
+        None => other_taken(search, slice, list, target, in_other(list, motion)),
     }
 }
 
-/// A vector in a list, where it points to the picture of a reference.
-fn own_if_same_picture(
+/// A vector in a list, where it is taken.
+fn own_taken(
+    search: Search,
     slice: &SliceMotion,
     list: u8,
     target: Reference,
     vector: Option<Vector>,
 ) -> Option<Mv>
-    ensures { result ≡ option_and_then (λ (v : Vector). if_same_picture target (reference_in slice.now list v.ref_idx) v.mv) vector }
+    ensures { result ≡ option_and_then (λ (v : Vector). taken search slice.now target (reference_in slice.now list v.ref_idx) v.mv) vector }
 {
-    match vector {
-        Some(v) => if_same_picture(target, reference_in(slice, list, v.ref_idx), v.mv),
-        None => None,
-    }
+    let v = vector?;
+    taken(
+        search,
+        slice,
+        target,
+        reference_in(slice, list, v.ref_idx),
+        v.mv,
+    )
 }
 
-/// A vector in the other list, where it points to the picture of a reference.
-fn other_if_same_picture(
+/// A vector in the other list, where it is taken.
+fn other_taken(
+    search: Search,
     slice: &SliceMotion,
     list: u8,
     target: Reference,
     vector: Option<Vector>,
 ) -> Option<Mv>
-    ensures { result ≡ option_and_then (λ (v : Vector). if_same_picture target (reference_in_other slice.now list v.ref_idx) v.mv) vector }
+    ensures { result ≡ option_and_then (λ (v : Vector). taken search slice.now target (reference_in_other slice.now list v.ref_idx) v.mv) vector }
 {
-    match vector {
-        Some(v) => if_same_picture(target, reference_in_other(slice, list, v.ref_idx), v.mv),
-        None => None,
+    let v = vector?;
+    let reference = reference_in_other(slice, list, v.ref_idx);
+    taken(search, slice, target, reference, v.mv)
+}
+
+/// A vector, where it is taken.
+fn taken(
+    search: Search,
+    slice: &SliceMotion,
+    target: Reference,
+    reference: Reference,
+    mv: Mv,
+) -> Option<Mv>
+    ensures { result ≡ taken search slice.now target reference mv }
+{
+    match search {
+        Search::SamePicture => if_same_picture(target, reference, mv),
+        Search::SameMark => if_same_mark(slice, target, reference, mv),
     }
 }
 
@@ -75,67 +113,6 @@ fn if_same_picture(target: Reference, reference: Reference, mv: Mv) -> Option<Mv
         Some(mv)
     } else {
         None
-    }
-}
-
-/// The vector of a place whose reference has the same mark as long-term, scaled.
-#[tactic(auto, unfolding(spec_motion::specs::VectorPrediction::reaching))]
-pub(crate) fn reaching(
-    slice: &SliceMotion,
-    list: u8,
-    target: Reference,
-    place: Option<Motion>,
-) -> Option<Mv>
-    ensures { result ≡ reaching slice.now list target place }
-{
-    match place {
-        Some(motion) => of_same_mark(slice, list, target, motion),
-        None => None,
-    }
-}
-
-/// The vector of a motion whose reference has the same mark, scaled.
-fn of_same_mark(slice: &SliceMotion, list: u8, target: Reference, motion: Motion) -> Option<Mv>
-    ensures { result ≡ of_same_mark slice.now list target motion }
-{
-    match own_if_same_mark(slice, list, target, in_list(list, motion)) {
-        Some(mv) => Some(mv),
-        None => other_if_same_mark(slice, list, target, in_other(list, motion)),
-    }
-}
-
-/// A vector in a list, scaled, where its reference has the same mark.
-fn own_if_same_mark(
-    slice: &SliceMotion,
-    list: u8,
-    target: Reference,
-    vector: Option<Vector>,
-) -> Option<Mv>
-    ensures { result ≡ option_and_then (λ (v : Vector). if_same_mark slice.now target (reference_in slice.now list v.ref_idx) v.mv) vector }
-{
-    match vector {
-        Some(v) => if_same_mark(slice, target, reference_in(slice, list, v.ref_idx), v.mv),
-        None => None,
-    }
-}
-
-/// A vector in the other list, scaled, where its reference has the same mark.
-fn other_if_same_mark(
-    slice: &SliceMotion,
-    list: u8,
-    target: Reference,
-    vector: Option<Vector>,
-) -> Option<Mv>
-    ensures { result ≡ option_and_then (λ (v : Vector). if_same_mark slice.now target (reference_in_other slice.now list v.ref_idx) v.mv) vector }
-{
-    match vector {
-        Some(v) => if_same_mark(
-            slice,
-            target,
-            reference_in_other(slice, list, v.ref_idx),
-            v.mv,
-        ),
-        None => None,
     }
 }
 

@@ -1,13 +1,13 @@
 //! Advanced motion vector prediction (8.5.3.2.6, 8.5.3.2.7).
 
 ghost use Rattle.std.specs.Prelude.{◌≡◌, ◌∷◌, [], ◌++◌, ◌||◌, None, map, option_to_list, slice_index_or, unwrap_or, if◌then◌else◌};
-ghost use Rattle.motion_candidates.specs.Predictors.{is_needed, nth};
+ghost use Rattle.motion_candidates.specs.Predictors.{is_needed, nth, sought};
 ghost use Rattle.spec_motion.specs.Derivation.{IsBlock};
 ghost use Rattle.spec_motion.specs.Temporal.{temporal_mv};
 ghost use Rattle.spec_motion.specs.VectorPrediction.{distinct, first_of, is_same_mv, is_there, predicted_mv, pointing, reaching, spatial_mvs, spatial_predictors};
 ghost use Rattle.spec_motion.specs.Vectors.{or_else, zero_mv};
 
-use crate::pointing::{pointing, reaching};
+use crate::pointing::{Search, sought};
 use crate::references::reference_in;
 use crate::sameness::same_mv;
 use crate::temporal::temporal_mv;
@@ -93,11 +93,12 @@ fn spatial_mvs(
 ) -> (Option<Mv>, Option<Mv>)
     ensures { option_to_list result.0 ++ option_to_list result.1 ≡ spatial_mvs slice.now list target left above (is_there (slice_index_or left 0 None) || is_there (slice_index_or left 1 None)) }
 {
-    let pointing_above = first_pointing(slice, list, target, &above);
+    let pointing_above = first_sought(Search::SamePicture, slice, list, target, &above);
     if is_there(left[0]) || is_there(left[1]) {
         distinct(left_mv(slice, list, target, &left), pointing_above)
     } else {
-        distinct(pointing_above, first_reaching(slice, list, target, &above))
+        let reaching_above = first_sought(Search::SameMark, slice, list, target, &above);
+        distinct(pointing_above, reaching_above)
     }
 }
 
@@ -105,41 +106,24 @@ fn spatial_mvs(
 fn left_mv(slice: &SliceMotion, list: u8, target: Reference, left: &[Option<Motion>]) -> Option<Mv>
     ensures { result ≡ or_else (first_of (map (pointing slice.now list target) left.now)) (first_of (map (reaching slice.now list target) left.now)) }
 {
-    match first_pointing(slice, list, target, left) {
+    match first_sought(Search::SamePicture, slice, list, target, left) {
         Some(mv) => Some(mv),
-        None => first_reaching(slice, list, target, left),
+        None => first_sought(Search::SameMark, slice, list, target, left),
     }
 }
 
-/// The first vector of places that points to the picture of a reference.
-fn first_pointing(
+/// The first vector of places that a search takes for a reference.
+fn first_sought(
+    search: Search,
     slice: &SliceMotion,
     list: u8,
     target: Reference,
     places: &[Option<Motion>],
 ) -> Option<Mv>
-    ensures { result ≡ first_of (map (pointing slice.now list target) places.now) }
+    ensures { result ≡ first_of (map (sought search slice.now list target) places.now) }
 {
     for k in 0..places.len() {
-        match pointing(slice, list, target, places[k]) {
-            Some(mv) => return Some(mv),
-            None => {}
-        }
-    }
-    None
-}
-
-/// The first vector of places whose reference has the same mark as long-term, scaled.
-fn first_reaching(
-    slice: &SliceMotion,
-    list: u8,
-    target: Reference,
-    places: &[Option<Motion>],
-) -> Option<Mv>
-    ensures { result ≡ first_of (map (reaching slice.now list target) places.now) }
-{
-    for k in 0..places.len() {
-        match reaching(slice, list, target, places[k]) {
+        match sought(search, slice, list, target, places[k]) {
             Some(mv) => return Some(mv),
             None => {}
         }

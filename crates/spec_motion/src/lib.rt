@@ -5,11 +5,13 @@
 mod collocation;
 mod laws;
 mod pairs;
+mod placement;
 mod slice_motion;
 mod vectors;
 
 pub use collocation::{Collocated, CollocatedVector};
 pub use laws::{merge_lists_are_full, predictors_are_two, vectors_over_two_pictures_are_halved};
 pub use pairs::COMBINED_PAIRS;
+pub use placement::is_placed;
 pub use slice_motion::SliceMotion;
 pub use vectors::{Motion, Reference, Vector};

@@ -3,18 +3,17 @@
 ghost use Rattle.std.specs.Prelude.{◌≡◌, ◌^◌, ◌<◌, ◌≤◌, false, length};
 ghost use Rattle.spec_slice_data.specs.Syntax.{IsSyntax};
 
-use crate::beside::NO_SAO;
-use crate::{UnitPlace, read_ctu};
 use cabac_contexts::{BinReader, Contexts};
 use cabac_engine::Interval;
+use coding_quadtree::{UnitPlace, read_ctu};
 use ctu_records::{
-    Item, MotionSyntax, Mv, Neighbours, PartMode, Picture, PredictionUnit, Records, Sao, Side,
-    Square, VectorSyntax,
+    ComponentOffset, Item, MotionSyntax, Mv, Neighbours, PartMode, Picture, PredictionUnit,
+    Records, Sao, Side, Square, VectorSyntax,
 };
 use hv_base::{Breach, FaultKind};
 use residual_syntax::Levels;
 use spec_slice_data::{CtuSyntax, End, InterSyntax, PcmSyntax};
-use std::test::Fail;
+use std::alloc::Global;
 
 /// A view of which each place may be asked, and none is available.
 #[derive(Drop)]
@@ -50,7 +49,11 @@ impl Neighbours for NoUnits {
     }
 
     fn sao(&mut self, _ctu: u32) -> Sao {
-        NO_SAO
+        Sao {
+            luma: ComponentOffset::Off,
+            cb: ComponentOffset::Off,
+            cr: ComponentOffset::Off,
+        }
     }
 
     fn sample(&mut self, _c: u8, _x: u32, _y: u32) -> u16 {
@@ -130,6 +133,29 @@ fn end_of(
     Some(read_ctu(&mut reader, syntax, &place, &mut NoUnits, records, levels))
 }
 
+/// Whether a unit ends its slice segment and has so many items, one of which stands at its place.
+fn is_read(
+    end: Option<Result<End, Breach>>,
+    items: &[Item],
+    count: usize,
+    place: usize,
+    item: Item,
+) -> bool {
+    matches!(end, Some(Ok(End::Segment))) && items.len() == count && items.get(place) == Some(&item)
+}
+
+/// The grey unit.
+fn is_grey_read(records: &mut Records, levels: &mut Levels) -> bool {
+    let end = end_of(&[0x05, 0xF7], 26, &SAMPLES, records, levels);
+    matches!(end, Some(Ok(End::Segment))) && records.items().len() == 4
+}
+
+/// Bits behind its end.
+fn are_bits_behind_told(records: &mut Records, levels: &mut Levels) -> bool {
+    let end = end_of(&[0x05, 0xF7, 0x01], 26, &SAMPLES, records, levels);
+    matches!(end, Some(Err(Breach::Fault(FaultKind::TrailingBits))))
+}
+
 /// A unit by pulse code modulation whose samples are 1 to 96.
 fn samples() -> [u8; 100] {
     let mut bytes = [0; 100];
@@ -143,6 +169,12 @@ fn samples() -> [u8; 100] {
     bytes
 }
 
+/// Those samples.
+fn are_samples_read(records: &mut Records, levels: &mut Levels) -> bool {
+    let end = end_of(&samples(), 26, &SAMPLES, records, levels);
+    is_read(end, records.items(), 98, 97, Item::Sample(96))
+}
+
 /// The data of an encoder's slice of SliceQpY 20: four luma blocks of modes 0, 11, 24 and 33 and two chroma blocks of
 /// mode 26.
 #[rattlefmt::skip]
@@ -152,27 +184,15 @@ const DATA: [u8; 61] = [
     178, 170, 69, 150, 205, 43, 171, 123, 219, 254, 44, 197, 59, 62, 175, 93, 37, 7, 56,
 ];
 
-/// The grey unit, bits behind its end, samples, and the levels of another decoder.
-#[test]
-fn units_are_read(rt: HostRuntime) -> Result<(), Fail> {
-    let mut records = Records::new(rt.alloc(), 4)?;
-    let mut levels = Levels::new(rt.alloc())?;
-    let end = end_of(&[0x05, 0xF7], 26, &SAMPLES, &mut records, &mut levels);
-    assert!(rt; end == Some(Ok(End::Segment)) && records.items().len() == 4);
-    let end = end_of(&[0x05, 0xF7, 0x01], 26, &SAMPLES, &mut records, &mut levels);
-    assert!(rt; end == Some(Err(Breach::Fault(FaultKind::TrailingBits))));
-    let end = end_of(&samples(), 26, &SAMPLES, &mut records, &mut levels);
-    assert!(rt; end == Some(Ok(End::Segment)) && records.items().len() == 98);
-    assert!(rt; records.items().get(97) == Some(&Item::Sample(96)));
+/// Their levels, as another decoder has them.
+fn are_levels_read(records: &mut Records, levels: &mut Levels) -> bool {
     let mut syntax = SAMPLES;
     syntax.pcm.enabled = false;
     syntax.max_depth_intra = 2;
     syntax.transform_skip_enabled = true;
     syntax.sign_data_hiding_enabled = true;
-    let end = end_of(&DATA, 20, &syntax, &mut records, &mut levels);
-    assert!(rt; end == Some(Ok(End::Segment)) && records.items().len() == 96);
-    assert!(rt; records.items().get(95) == Some(&Item::Level(0, 4)));
-    Ok(())
+    let end = end_of(&DATA, 20, &syntax, records, levels);
+    is_read(end, records.items(), 96, 95, Item::Level(0, 4))
 }
 
 /// The data of an encoder's B slice of SliceQpY 29: one unit of two prediction units, the first of which points two quarters of
@@ -184,10 +204,7 @@ const B_SLICE: [u8; 25] = [
 ];
 
 /// The parts of that unit, and its levels up to the end of the slice.
-#[test]
-fn prediction_units_are_read(rt: HostRuntime) -> Result<(), Fail> {
-    let mut records = Records::new(rt.alloc(), 4)?;
-    let mut levels = Levels::new(rt.alloc())?;
+fn are_parts_read(records: &mut Records, levels: &mut Levels) -> bool {
     let mut syntax = SAMPLES;
     syntax.pcm.enabled = false;
     syntax.transform_skip_enabled = true;
@@ -202,7 +219,14 @@ fn prediction_units_are_read(rt: HostRuntime) -> Result<(), Fail> {
         amp_enabled: true,
         max_depth_inter: 2,
     };
-    let first = PredictionUnit {
+    let end = end_of(&B_SLICE, 29, &syntax, records, levels);
+    matches!(end, Some(Ok(End::Segment)))
+        && records.items().get(1) == Some(&Item::Prediction(first_part()))
+}
+
+/// The first of them.
+fn first_part() -> PredictionUnit {
+    PredictionUnit {
         unit: Square {
             x: 0,
             y: 0,
@@ -218,9 +242,27 @@ fn prediction_units_are_read(rt: HostRuntime) -> Result<(), Fail> {
             }),
             None,
         ),
+    }
+}
+
+/// Whether the unit of a row is read as it should be.
+fn is_row_read(alloc: Global, row: u8) -> bool {
+    let (Ok(mut records), Ok(mut levels)) = (Records::new(alloc, 4), Levels::new(alloc)) else {
+        return false;
     };
-    let end = end_of(&B_SLICE, 29, &syntax, &mut records, &mut levels);
-    assert!(rt; end == Some(Ok(End::Segment)));
-    assert!(rt; records.items().get(1) == Some(&Item::Prediction(first)));
-    Ok(())
+    match row {
+        0 => is_grey_read(&mut records, &mut levels),
+        1 => are_bits_behind_told(&mut records, &mut levels),
+        2 => are_samples_read(&mut records, &mut levels),
+        3 => are_levels_read(&mut records, &mut levels),
+        _ => are_parts_read(&mut records, &mut levels),
+    }
+}
+
+/// The grey unit, bits behind its end, samples, levels, and prediction units.
+#[test]
+fn units_are_read(rt: HostRuntime) {
+    for row in 0..5u8 {
+        assert!(rt; is_row_read(rt.alloc(), row), "row {row}");
+    }
 }

@@ -1,6 +1,0 @@
-use Rattle.std.proofs.Common.{◌≡◌, drop, map}
-use Rattle.spec_motion.specs.VectorPrediction.{first_of, reaching}
-use Rattle.motion_candidates.proofs.predictors.first_reaching.Given as goal
-
-abbrev pub invariant-loop-k : goal.invariant-loop-k
-invariant-loop-k l = first_of (map (reaching l.slice l.list l.target) (drop l.k l.places)) ≡ first_of (map (reaching l.slice l.list l.target) l.places)
