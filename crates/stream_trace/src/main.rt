@@ -17,35 +17,22 @@
 
 ghost use Rattle.std.specs.Prelude.{◌≡◌, false};
 
-mod inter_lines;
-mod lines;
-mod motion_buffer;
-mod output_trace;
 mod plan_trace;
-mod pps_lines;
-mod prediction_lines;
-mod reference_lines;
-mod row_lines;
-mod set_lists;
 mod set_trace;
-mod slice_lines;
-mod sps_lines;
 mod trace_error;
-mod tree_lines;
-mod tree_trace;
-mod weight_lines;
 
-use crate::output_trace::OutputTrace;
 use crate::plan_trace::{PlanLines, PlanTrace};
 use crate::set_trace::print_set;
 use crate::trace_error::TraceError;
-use crate::tree_trace::TreeTrace;
 use hv_base::{Nal, Outcome, Status, Stop};
 use nal_stream::{Framer, Next};
+use picture_lines::OutputTrace;
+use row_lines::RowTrace;
 use std::alloc::Global;
 use std::io::{self, BufWriter, Read, Write};
 use std::process::ExitCode;
 use std::{env, fs};
+use tree_lines::TreeTrace;
 
 /// What is printed of a stream.
 #[derive(Drop)]
@@ -82,20 +69,15 @@ fn trace_standard(rt: &HostRuntime, trace: &mut Trace) -> Result<ExitCode, Trace
 }
 
 /// Prints what is asked for of the stream on standard input.
-fn print_standard(rt: &HostRuntime, trace: &mut Trace) -> Result<(), TraceError> {
+fn print_standard(rt: &HostRuntime, trace: &mut Trace) -> io::Result<()> {
     let mut out = BufWriter::new(rt.alloc(), io::writer(rt))?;
     print_whole(rt, trace, &mut out)
 }
 
 /// Prints what is asked for of the stream on standard input, and flushes it.
-fn print_whole<W: Write>(
-    rt: &HostRuntime,
-    trace: &mut Trace,
-    out: &mut W,
-) -> Result<(), TraceError> {
+fn print_whole<W: Write>(rt: &HostRuntime, trace: &mut Trace, out: &mut W) -> io::Result<()> {
     trace_stream(rt, trace, rt.reader(), out)?;
-    out.flush()?;
-    Ok(())
+    out.flush()
 }
 
 /// Prints what words ask for of the streams in files, in turn.
@@ -150,8 +132,8 @@ fn asked_for(rt: &HostRuntime, word: &str) -> Result<Trace, TraceError> {
         "pictures" => plan(rt, PlanLines::Pictures),
         "slices" => plan(rt, PlanLines::Slices),
         "outputs" => plan(rt, PlanLines::Outputs(OutputTrace::new(rt.alloc()))),
-        "trees" => plan(rt, PlanLines::Trees(TreeTrace::new(rt.alloc(), false))),
-        "rows" => plan(rt, PlanLines::Trees(TreeTrace::new(rt.alloc(), true))),
+        "trees" => plan(rt, PlanLines::Trees(TreeTrace::new(rt.alloc()))),
+        "rows" => plan(rt, PlanLines::Rows(RowTrace::new(rt.alloc()))),
         _ => Err(TraceError::Usage),
     }
 }
@@ -164,7 +146,8 @@ fn trace_named<W: Write>(
     out: &mut W,
 ) -> Result<(), TraceError> {
     let mut trace = asked_for(rt, word)?;
-    trace_file(rt, &mut trace, path, out)
+    trace_file(rt, &mut trace, path, out)?;
+    Ok(())
 }
 
 /// Prints a file's name, what is asked for of its stream, and what stops that.
@@ -173,15 +156,14 @@ fn trace_file<W: Write>(
     trace: &mut Trace,
     path: &str,
     out: &mut W,
-) -> Result<(), TraceError> {
+) -> io::Result<()> {
     writeln!(out, "== {path}")?;
     trace_stream(rt, trace, fs::open(rt, path)?, out)?;
     match stop_of(trace) {
-        None => {}
-        Some(Stop::Fault(fault)) => writeln!(out, "{fault}")?,
-        Some(Stop::Limit(limit)) => writeln!(out, "{limit}")?,
+        None => Ok(()),
+        Some(Stop::Fault(fault)) => writeln!(out, "{fault}"),
+        Some(Stop::Limit(limit)) => writeln!(out, "{limit}"),
     }
-    Ok(())
 }
 
 /// Prints what is asked for of a stream.
@@ -190,7 +172,7 @@ fn trace_stream<R: Read + Drop, W: Write>(
     trace: &mut Trace,
     input: R,
     out: &mut W,
-) -> Result<(), TraceError> {
+) -> io::Result<()> {
     let buffer = vec![in rt.alloc(); 0; 65_536]?;
     let mut framer = Framer::new(rt.alloc())?;
     frame_stream(trace, input, buffer, &mut framer, out)
@@ -203,7 +185,7 @@ fn frame_stream<R: Read + Drop, W: Write>(
     mut buffer: Vec<u8>,
     framer: &mut Framer,
     out: &mut W,
-) -> Result<(), TraceError>
+) -> io::Result<()>
     requires { framer.old.finished ≡ false }
 {
     match read_all(trace, &mut input, &mut buffer, framer, out) {
@@ -214,11 +196,7 @@ fn frame_stream<R: Read + Drop, W: Write>(
 }
 
 /// Prints what is known of a stream only where its input ends.
-fn print_rest<W: Write>(
-    trace: &mut Trace,
-    framer: &mut Framer,
-    out: &mut W,
-) -> Result<(), TraceError> {
+fn print_rest<W: Write>(trace: &mut Trace, framer: &mut Framer, out: &mut W) -> io::Result<()> {
     framer.finish();
     let _ = print_units(trace, framer, out)?;
     print_end(trace, out)
@@ -236,7 +214,7 @@ fn read_all<R: Read, W: Write>(
     buffer: &mut [u8],
     framer: &mut Framer,
     out: &mut W,
-) -> Result<bool, TraceError>
+) -> io::Result<bool>
     requires { framer.old.finished ≡ false }
 {
     for _ in 0..u64::MAX {
@@ -253,11 +231,7 @@ fn read_all<R: Read, W: Write>(
 }
 
 /// Prints the units that are whole. Says whether none was refused.
-fn print_units<W: Write>(
-    trace: &mut Trace,
-    framer: &mut Framer,
-    out: &mut W,
-) -> Result<bool, TraceError>
+fn print_units<W: Write>(trace: &mut Trace, framer: &mut Framer, out: &mut W) -> io::Result<bool>
     ensures { framer.new.finished ≡ framer.old.finished }
 {
     for _ in 0..u64::MAX {
@@ -274,7 +248,7 @@ fn print_units<W: Write>(
 }
 
 /// Prints what comes of a framer's answer. Says whether the stream goes on.
-fn print_next<W: Write>(trace: &mut Trace, next: Next, out: &mut W) -> Result<bool, TraceError> {
+fn print_next<W: Write>(trace: &mut Trace, next: Next, out: &mut W) -> io::Result<bool> {
     match trace {
         Trace::Units => print_answer(None, next, out),
         Trace::Fields(alloc) => print_answer(Some(*alloc), next, out),
@@ -283,7 +257,7 @@ fn print_next<W: Write>(trace: &mut Trace, next: Next, out: &mut W) -> Result<bo
 }
 
 /// Prints what is known of a picture only where the input ends.
-fn print_end<W: Write>(trace: &mut Trace, out: &mut W) -> Result<(), TraceError> {
+fn print_end<W: Write>(trace: &mut Trace, out: &mut W) -> io::Result<()> {
     match trace {
         Trace::Units | Trace::Fields(_) => Ok(()),
         Trace::Plan(plan) => plan.print_end(out),
@@ -292,11 +266,7 @@ fn print_end<W: Write>(trace: &mut Trace, out: &mut W) -> Result<(), TraceError>
 
 /// Prints a framer's answer, and the fields of parameter sets where memory to read them is given. Says whether the
 /// stream goes on.
-fn print_answer<W: Write>(
-    sets: Option<Global>,
-    next: Next,
-    out: &mut W,
-) -> Result<bool, TraceError> {
+fn print_answer<W: Write>(sets: Option<Global>, next: Next, out: &mut W) -> io::Result<bool> {
     match next {
         Next::Unit(nal) => {
             print_nal(sets, &nal, out)?;
@@ -315,7 +285,7 @@ fn print_answer<W: Write>(
 }
 
 /// A unit's line, and the fields of a parameter set where memory to read them is given.
-fn print_nal<W: Write>(sets: Option<Global>, nal: &Nal, out: &mut W) -> Result<(), TraceError> {
+fn print_nal<W: Write>(sets: Option<Global>, nal: &Nal, out: &mut W) -> io::Result<()> {
     print_unit(nal, out)?;
     match sets {
         Some(alloc) => print_set(alloc, nal, out),
@@ -323,12 +293,11 @@ fn print_nal<W: Write>(sets: Option<Global>, nal: &Nal, out: &mut W) -> Result<(
     }
 }
 
-fn print_unit<W: Write>(nal: &Nal, out: &mut W) -> Result<(), TraceError> {
+fn print_unit<W: Write>(nal: &Nal, out: &mut W) -> io::Result<()> {
     let (number, kind, layer, id) = (nal.index, nal.nal_type, nal.layer, nal.temporal_id);
     let payload = nal.rbsp.as_slice().len();
     let removed = nal.removed.as_slice().len();
-    writeln!(out, "{number} {kind} {layer} {id} {payload} {removed}")?;
-    Ok(())
+    writeln!(out, "{number} {kind} {layer} {id} {payload} {removed}")
 }
 
 /// What stopped the planning.

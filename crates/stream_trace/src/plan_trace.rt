@@ -1,15 +1,14 @@
 //! The planned pictures as lines.
 
-use crate::output_trace::{OutputTrace, PictureLine};
-use crate::slice_lines::slice_lines;
-use crate::trace_error::TraceError;
-use crate::tree_trace::TreeTrace;
 use hv_base::Stop;
 use nal_stream::Next;
+use picture_lines::{OutputTrace, PictureLine, print_slice_segments};
 use picture_plan::{Flight, Flights, Planned, Planner};
 use plan_types::PicturePlan;
+use row_lines::RowTrace;
 use std::alloc::Global;
-use std::io::Write;
+use std::io::{self, Write};
+use tree_lines::TreeTrace;
 
 /// What is printed of the pictures.
 #[derive(Drop)]
@@ -20,8 +19,10 @@ pub(crate) enum PlanLines {
     Slices,
     /// A line a picture, in output order.
     Outputs(OutputTrace),
-    /// The coding trees of pictures of I slices, or their samples by rows, in decoding order.
+    /// The coding trees of pictures, in decoding order.
     Trees(TreeTrace),
+    /// The samples of pictures of I slices by rows, in decoding order.
+    Rows(RowTrace),
 }
 
 /// Prints pictures as they are planned.
@@ -36,7 +37,7 @@ pub(crate) struct PlanTrace {
 
 impl PlanTrace {
     /// Before the first unit.
-    pub(crate) fn new(alloc: Global, lines: PlanLines) -> Result<PlanTrace, TraceError> {
+    pub(crate) fn new(alloc: Global, lines: PlanLines) -> io::Result<PlanTrace> {
         Ok(PlanTrace {
             planner: Planner::new(alloc, 1, true)?,
             lines,
@@ -49,28 +50,25 @@ impl PlanTrace {
     pub(crate) fn stop(&self) -> Option<Stop> {
         match &self.lines {
             PlanLines::Trees(trees) => trees.stop().or(self.stop),
+            PlanLines::Rows(rows) => rows.stop().or(self.stop),
             _ => self.stop,
         }
     }
 
     /// Plans what a framer answers, and prints the pictures that are over so. Says whether the stream goes on.
-    pub(crate) fn print_next<W: Write>(
-        &mut self,
-        next: Next,
-        out: &mut W,
-    ) -> Result<bool, TraceError> {
+    pub(crate) fn print_next<W: Write>(&mut self, next: Next, out: &mut W) -> io::Result<bool> {
         let planned = self.planner.unit(next)?;
         self.print_planned(planned, out)?;
         Ok(self.stop().is_none())
     }
 
     /// Prints the pictures that are over where the input ends.
-    pub(crate) fn print_end<W: Write>(&mut self, out: &mut W) -> Result<(), TraceError> {
+    pub(crate) fn print_end<W: Write>(&mut self, out: &mut W) -> io::Result<()> {
         let planned = self.planner.finish()?;
         self.print_planned(planned, out)
     }
 
-    fn print_planned<W: Write>(&mut self, planned: Planned, out: &mut W) -> Result<(), TraceError> {
+    fn print_planned<W: Write>(&mut self, planned: Planned, out: &mut W) -> io::Result<()> {
         let Planned {
             mut flights,
             last,
@@ -86,15 +84,15 @@ impl PlanTrace {
         flights: &mut Flights,
         last: &[u32],
         out: &mut W,
-    ) -> Result<(), TraceError> {
+    ) -> io::Result<()> {
         for _ in 0..u64::MAX {
             if !self.print_next_flight(flights, out)? {
                 break;
             }
         }
         match &mut self.lines {
-            PlanLines::Pictures | PlanLines::Slices | PlanLines::Trees(_) => Ok(()),
             PlanLines::Outputs(outputs) => outputs.print_places(last, out),
+            _ => Ok(()),
         }
     }
 
@@ -103,7 +101,7 @@ impl PlanTrace {
         &mut self,
         flights: &mut Flights,
         out: &mut W,
-    ) -> Result<bool, TraceError> {
+    ) -> io::Result<bool> {
         match flights.next() {
             Some(flight) => {
                 self.print_flight(&flight, out)?;
@@ -113,7 +111,7 @@ impl PlanTrace {
         }
     }
 
-    fn print_flight<W: Write>(&mut self, flight: &Flight, out: &mut W) -> Result<(), TraceError> {
+    fn print_flight<W: Write>(&mut self, flight: &Flight, out: &mut W) -> io::Result<()> {
         for picture in flight.as_slice() {
             print_picture(&mut self.lines, self.count, picture, out)?;
             self.count = self.count.saturating_add(1);
@@ -127,22 +125,15 @@ fn print_picture<W: Write>(
     number: u64,
     picture: &PicturePlan,
     out: &mut W,
-) -> Result<(), TraceError> {
+) -> io::Result<()> {
     match lines {
         PlanLines::Pictures => PictureLine::new(picture).print(number, out),
         PlanLines::Slices => {
             PictureLine::new(picture).print(number, out)?;
-            segments(picture, out)
+            print_slice_segments(picture, out)
         }
         PlanLines::Outputs(outputs) => outputs.print_picture(picture, out),
         PlanLines::Trees(trees) => trees.print_picture(number, picture, out),
+        PlanLines::Rows(rows) => rows.print_picture(number, picture, out),
     }
-}
-
-fn segments<W: Write>(picture: &PicturePlan, out: &mut W) -> Result<(), TraceError> {
-    let (sps, pps) = (picture.sps.fields(), picture.pps.fields());
-    for segment in picture.segments.as_slice() {
-        slice_lines(out, segment.header.fields(), sps, pps)?;
-    }
-    Ok(())
 }

@@ -1,14 +1,14 @@
 //! Why a trace stops early.
 
 use std::alloc::AllocError;
-use std::io;
+use std::io::{self, ErrorKind};
 
 /// Why the trace stops early.
 #[derive(Debug, Drop)]
 pub(crate) enum TraceError {
     Memory,
     Io,
-    /// A word on the command line isn't `units`, `fields`, `pictures`, `slices`, `outputs` or `trees`.
+    /// A word on the command line isn't `units`, `fields`, `pictures`, `slices`, `outputs`, `trees` or `rows`.
     Usage,
 }
 
@@ -19,7 +19,10 @@ impl From<AllocError> for TraceError {
 }
 
 impl From<io::Error> for TraceError {
-    fn from(_: io::Error) -> TraceError {
-        TraceError::Io
+    fn from(error: io::Error) -> TraceError {
+        match error.kind() {
+            ErrorKind::OutOfMemory => TraceError::Memory,
+            _ => TraceError::Io,
+        }
     }
 }

@@ -1,15 +1,11 @@
 //! A table of prediction weights as lines (7.3.6.3).
 
 use crate::lines::{number, signed};
-use crate::trace_error::TraceError;
 use header_types::{ChromaWeight, LumaWeight, PredWeightTable, RefWeights};
-use std::io::Write;
+use std::io::{self, Write};
 
 /// The fields in the order of the grammar; those of list 1 where the list has entries.
-pub(crate) fn weight_lines<W: Write>(
-    out: &mut W,
-    table: &PredWeightTable,
-) -> Result<(), TraceError> {
+pub(crate) fn weight_lines<W: Write>(out: &mut W, table: &PredWeightTable) -> io::Result<()> {
     number(out, "luma_log2_weight_denom", table.luma_log2_weight_denom)?;
     signed(
         out,
@@ -21,11 +17,7 @@ pub(crate) fn weight_lines<W: Write>(
 }
 
 /// The flags and the weights of a list's entries.
-fn list_weights<W: Write>(
-    out: &mut W,
-    list: u32,
-    weights: &[RefWeights],
-) -> Result<(), TraceError> {
+fn list_weights<W: Write>(out: &mut W, list: u32, weights: &[RefWeights]) -> io::Result<()> {
     for (i, entry) in weights.iter().enumerate() {
         let is_coded = u32::from(entry.luma.is_some());
         writeln!(out, "luma_weight_l{list}_flag[{i}]={is_coded}")?;
@@ -45,7 +37,7 @@ fn entry_weights<W: Write>(
     list: u32,
     index: usize,
     entry: RefWeights,
-) -> Result<(), TraceError> {
+) -> io::Result<()> {
     if let Some(luma) = entry.luma {
         luma_weight(out, list, index, luma)?;
     }
@@ -56,16 +48,10 @@ fn entry_weights<W: Write>(
     Ok(())
 }
 
-fn luma_weight<W: Write>(
-    out: &mut W,
-    list: u32,
-    index: usize,
-    luma: LumaWeight,
-) -> Result<(), TraceError> {
+fn luma_weight<W: Write>(out: &mut W, list: u32, index: usize, luma: LumaWeight) -> io::Result<()> {
     let (weight, offset) = (luma.delta_luma_weight, luma.luma_offset);
     writeln!(out, "delta_luma_weight_l{list}[{index}]={weight}")?;
-    writeln!(out, "luma_offset_l{list}[{index}]={offset}")?;
-    Ok(())
+    writeln!(out, "luma_offset_l{list}[{index}]={offset}")
 }
 
 fn chroma_weight<W: Write>(
@@ -74,7 +60,7 @@ fn chroma_weight<W: Write>(
     index: usize,
     component: u32,
     chroma: ChromaWeight,
-) -> Result<(), TraceError> {
+) -> io::Result<()> {
     let (weight, offset) = (chroma.delta_chroma_weight, chroma.delta_chroma_offset);
     writeln!(
         out,
@@ -83,6 +69,5 @@ fn chroma_weight<W: Write>(
     writeln!(
         out,
         "delta_chroma_offset_l{list}[{index}][{component}]={offset}"
-    )?;
-    Ok(())
+    )
 }

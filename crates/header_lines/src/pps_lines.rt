@@ -2,12 +2,11 @@
 
 use crate::lines::{fields, flag, number, values};
 use crate::set_lists::coded_scaling_lists;
-use crate::trace_error::TraceError;
 use header_types::{DeblockingControl, PpsFields};
-use std::io::Write;
+use std::io::{self, Write};
 
-/// The fields in the order of the grammar.
-pub(crate) fn pps_lines<W: Write>(out: &mut W, pps: &PpsFields) -> Result<(), TraceError> {
+/// Prints the fields of a picture parameter set in the order of the grammar. An error is one of the writer.
+pub fn print_pps<W: Write>(pps: &PpsFields, out: &mut W) -> io::Result<()> {
     slice_defaults(out, pps)?;
     quantization(out, pps)?;
     prediction(out, pps)?;
@@ -23,7 +22,7 @@ pub(crate) fn pps_lines<W: Write>(out: &mut W, pps: &PpsFields) -> Result<(), Tr
     )
 }
 
-fn slice_defaults<W: Write>(out: &mut W, pps: &PpsFields) -> Result<(), TraceError> {
+fn slice_defaults<W: Write>(out: &mut W, pps: &PpsFields) -> io::Result<()> {
     fields(
         out,
         &values![
@@ -41,7 +40,7 @@ fn slice_defaults<W: Write>(out: &mut W, pps: &PpsFields) -> Result<(), TraceErr
     )
 }
 
-fn quantization<W: Write>(out: &mut W, pps: &PpsFields) -> Result<(), TraceError> {
+fn quantization<W: Write>(out: &mut W, pps: &PpsFields) -> io::Result<()> {
     fields(
         out,
         &values![
@@ -63,7 +62,7 @@ fn quantization<W: Write>(out: &mut W, pps: &PpsFields) -> Result<(), TraceError
     )
 }
 
-fn qp_delta_depth<W: Write>(out: &mut W, depth: Option<u32>) -> Result<(), TraceError> {
+fn qp_delta_depth<W: Write>(out: &mut W, depth: Option<u32>) -> io::Result<()> {
     flag(out, "cu_qp_delta_enabled_flag", depth.is_some())?;
     match depth {
         Some(depth) => number(out, "diff_cu_qp_delta_depth", depth),
@@ -71,7 +70,7 @@ fn qp_delta_depth<W: Write>(out: &mut W, depth: Option<u32>) -> Result<(), Trace
     }
 }
 
-fn prediction<W: Write>(out: &mut W, pps: &PpsFields) -> Result<(), TraceError> {
+fn prediction<W: Write>(out: &mut W, pps: &PpsFields) -> io::Result<()> {
     fields(
         out,
         &values![pps; weighted_pred_flag, weighted_bipred_flag, transquant_bypass_enabled_flag],
@@ -80,7 +79,7 @@ fn prediction<W: Write>(out: &mut W, pps: &PpsFields) -> Result<(), TraceError> 
     fields(out, &values![pps; entropy_coding_sync_enabled_flag])
 }
 
-fn filters<W: Write>(out: &mut W, pps: &PpsFields) -> Result<(), TraceError> {
+fn filters<W: Write>(out: &mut W, pps: &PpsFields) -> io::Result<()> {
     fields(
         out,
         &values![pps; pps_loop_filter_across_slices_enabled_flag],
@@ -93,7 +92,7 @@ fn filters<W: Write>(out: &mut W, pps: &PpsFields) -> Result<(), TraceError> {
     )
 }
 
-fn deblocking<W: Write>(out: &mut W, control: Option<DeblockingControl>) -> Result<(), TraceError> {
+fn deblocking<W: Write>(out: &mut W, control: Option<DeblockingControl>) -> io::Result<()> {
     flag(
         out,
         "deblocking_filter_control_present_flag",
@@ -105,7 +104,7 @@ fn deblocking<W: Write>(out: &mut W, control: Option<DeblockingControl>) -> Resu
     }
 }
 
-fn deblocking_control<W: Write>(out: &mut W, control: DeblockingControl) -> Result<(), TraceError> {
+fn deblocking_control<W: Write>(out: &mut W, control: DeblockingControl) -> io::Result<()> {
     fields(
         out,
         &values![

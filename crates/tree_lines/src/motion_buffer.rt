@@ -1,8 +1,7 @@
 //! The motion of the pictures of the decoded picture buffer.
 
-use crate::trace_error::TraceError;
 use picture_buffer::MotionField;
-use std::alloc::Global;
+use std::alloc::{AllocError, Global};
 
 /// The motion of the buffer's pictures, in decoding order. A picture is named by its place.
 #[derive(Drop)]
@@ -24,10 +23,10 @@ impl MotionBuffer {
     }
 
     /// The motion of a picture, which then stands behind the last.
-    pub(crate) fn push(&mut self, field: MotionField) -> Result<(), TraceError> {
+    pub(crate) fn push(&mut self, field: MotionField) -> Result<(), AllocError> {
         match self.fields.push(field) {
             Ok(()) => Ok(()),
-            Err(_) => Err(TraceError::Memory),
+            Err(_) => Err(AllocError),
         }
     }
 

@@ -3,21 +3,21 @@
 use crate::inter_lines::inter_lines;
 use crate::lines::{flag, item, number, signed};
 use crate::reference_lines::reference_lines;
-use crate::trace_error::TraceError;
 use header_types::{
     PpsFields, SegmentFields, SliceDeblocking, SliceFields, SliceHeaderFields, SliceType, SpsFields,
 };
-use ref_picture_sets::is_idr;
-use std::io::Write;
+use hv_base::{IDR_N_LP, IDR_W_RADL};
+use std::io::{self, Write};
 
-/// The number of the segment's unit, and its fields in the order of the grammar: those of its slice where it isn't a
-/// dependent one. slice_reserved_flag and offset_len_minus1 aren't among them.
-pub(crate) fn slice_lines<W: Write>(
-    out: &mut W,
+/// Prints the number of a slice segment's unit, and the fields of its header in the order of the grammar: those of its
+/// slice where it isn't a dependent one. slice_reserved_flag and offset_len_minus1 aren't among them. An error is one
+/// of the writer.
+pub fn print_slice_segment<W: Write>(
     header: &SliceHeaderFields,
     sps: &SpsFields,
     pps: &PpsFields,
-) -> Result<(), TraceError> {
+    out: &mut W,
+) -> io::Result<()> {
     let nal = header.nal;
     writeln!(out, "slice segment {nal}")?;
     segment_start(out, header.segment, pps)?;
@@ -37,11 +37,12 @@ pub(crate) fn slice_lines<W: Write>(
     }
 }
 
-fn segment_start<W: Write>(
-    out: &mut W,
-    segment: SegmentFields,
-    pps: &PpsFields,
-) -> Result<(), TraceError> {
+/// Whether slices of this nal_unit_type are of an instantaneous decoding refresh picture (7.4.2.2).
+fn is_idr(nal_type: u8) -> bool {
+    nal_type == IDR_W_RADL || nal_type == IDR_N_LP
+}
+
+fn segment_start<W: Write>(out: &mut W, segment: SegmentFields, pps: &PpsFields) -> io::Result<()> {
     let is_first = segment.first_slice_segment_in_pic_flag;
     flag(out, "first_slice_segment_in_pic_flag", is_first)?;
     if let Some(value) = segment.no_output_of_prior_pics_flag {
@@ -65,11 +66,7 @@ fn segment_start<W: Write>(
     number(out, "slice_segment_address", segment.slice_segment_address)
 }
 
-fn slice_start<W: Write>(
-    out: &mut W,
-    slice: &SliceFields,
-    pps: &PpsFields,
-) -> Result<(), TraceError> {
+fn slice_start<W: Write>(out: &mut W, slice: &SliceFields, pps: &PpsFields) -> io::Result<()> {
     let slice_type = match slice.slice_type {
         SliceType::B => 0,
         SliceType::P => 1,
@@ -82,11 +79,7 @@ fn slice_start<W: Write>(
     Ok(())
 }
 
-fn references<W: Write>(
-    out: &mut W,
-    slice: &SliceFields,
-    sps: &SpsFields,
-) -> Result<(), TraceError> {
+fn references<W: Write>(out: &mut W, slice: &SliceFields, sps: &SpsFields) -> io::Result<()> {
     reference_lines(out, &slice.references, sps)?;
     if sps.sps_temporal_mvp_enabled_flag {
         flag(
@@ -103,7 +96,7 @@ fn slice_rest<W: Write>(
     slice: &SliceFields,
     sps: &SpsFields,
     pps: &PpsFields,
-) -> Result<(), TraceError> {
+) -> io::Result<()> {
     if sps.sample_adaptive_offset_enabled_flag {
         flag(out, "slice_sao_luma_flag", slice.slice_sao_luma_flag)?;
         flag(out, "slice_sao_chroma_flag", slice.slice_sao_chroma_flag)?;
@@ -130,11 +123,7 @@ fn is_filtered(slice: &SliceFields) -> bool {
         || !slice.deblocking.slice_deblocking_filter_disabled_flag
 }
 
-fn quantization<W: Write>(
-    out: &mut W,
-    slice: &SliceFields,
-    pps: &PpsFields,
-) -> Result<(), TraceError> {
+fn quantization<W: Write>(out: &mut W, slice: &SliceFields, pps: &PpsFields) -> io::Result<()> {
     signed(out, "slice_qp_delta", slice.slice_qp_delta)?;
     if pps.pps_slice_chroma_qp_offsets_present_flag {
         signed(out, "slice_cb_qp_offset", slice.slice_cb_qp_offset)?;
@@ -147,7 +136,7 @@ fn deblocking<W: Write>(
     out: &mut W,
     deblocking: SliceDeblocking,
     pps: &PpsFields,
-) -> Result<(), TraceError> {
+) -> io::Result<()> {
     let Some(control) = pps.deblocking_control else {
         return Ok(());
     };
@@ -162,10 +151,7 @@ fn deblocking<W: Write>(
     Ok(())
 }
 
-fn overridden_deblocking<W: Write>(
-    out: &mut W,
-    deblocking: SliceDeblocking,
-) -> Result<(), TraceError> {
+fn overridden_deblocking<W: Write>(out: &mut W, deblocking: SliceDeblocking) -> io::Result<()> {
     let is_disabled = deblocking.slice_deblocking_filter_disabled_flag;
     flag(out, "slice_deblocking_filter_disabled_flag", is_disabled)?;
     if !is_disabled {
@@ -179,7 +165,7 @@ fn overridden_deblocking<W: Write>(
     Ok(())
 }
 
-fn entry_points<W: Write>(out: &mut W, offsets: &[u64]) -> Result<(), TraceError> {
+fn entry_points<W: Write>(out: &mut W, offsets: &[u64]) -> io::Result<()> {
     let count = offsets.len();
     writeln!(out, "num_entry_point_offsets={count}")?;
     for (i, offset) in offsets.iter().enumerate() {
@@ -189,7 +175,7 @@ fn entry_points<W: Write>(out: &mut W, offsets: &[u64]) -> Result<(), TraceError
     Ok(())
 }
 
-fn extension<W: Write>(out: &mut W, bytes: &[u8]) -> Result<(), TraceError> {
+fn extension<W: Write>(out: &mut W, bytes: &[u8]) -> io::Result<()> {
     let count = bytes.len();
     writeln!(out, "slice_segment_header_extension_length={count}")?;
     for (i, byte) in bytes.iter().enumerate() {

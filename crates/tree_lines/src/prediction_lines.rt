@@ -2,22 +2,21 @@
 
 ghost use Rattle.std.specs.Prelude.{◌≡◌, ◌^◌, ◌≤◌};
 
-use crate::trace_error::TraceError;
-use crate::tree_lines::UnitOrigin;
+use crate::unit_lines::UnitOrigin;
 use ctu_records::{MotionSyntax, PartMode, PredictionUnit, Rectangle};
 use picture_motion::PictureMotion;
 use spec_motion::{Motion, Vector};
-use std::io::Write;
+use std::io::{self, Write};
 
-/// A prediction unit: its first luma sample, its sides, its candidate where its coding unit is skipped, else the parts of that
-/// unit, and its motion.
+/// A prediction unit: its first luma sample, its sides, its candidate where its coding unit is skipped, else the parts
+/// of that unit, and its motion.
 pub(crate) fn prediction_unit<W: Write>(
     out: &mut W,
     origin: UnitOrigin,
     motion: &PictureMotion<'_>,
     skipped: bool,
     unit: PredictionUnit,
-) -> Result<(), TraceError> {
+) -> io::Result<()> {
     let Some(block) = block_of(&unit) else {
         return Ok(());
     };
@@ -44,17 +43,16 @@ const NO_MOTION: Motion = Motion {
 };
 
 /// The vectors of both lists, which end the line.
-fn motion_text<W: Write>(out: &mut W, motion: Motion) -> Result<(), TraceError> {
+fn motion_text<W: Write>(out: &mut W, motion: Motion) -> io::Result<()> {
     write!(out, " l0 ")?;
     vector_text(out, motion.list_0)?;
     write!(out, " l1 ")?;
     vector_text(out, motion.list_1)?;
-    writeln!(out)?;
-    Ok(())
+    writeln!(out)
 }
 
 /// A vector and its reference index, or a dash where there is none.
-fn vector_text<W: Write>(out: &mut W, vector: Option<Vector>) -> Result<(), TraceError> {
+fn vector_text<W: Write>(out: &mut W, vector: Option<Vector>) -> io::Result<()> {
     match vector {
         Some(vector) => {
             let (index, x, y) = (vector.ref_idx, vector.mv.x, vector.mv.y);

@@ -1,10 +1,9 @@
 //! The coding tree units of slices as lines, each as it is read (7.3.8.2 to 7.3.8.8).
 
 use crate::prediction_lines::prediction_unit;
-use crate::trace_error::TraceError;
 use ctu_records::{CodingUnit, Item, QpDelta, Square, TransformUnit};
 use picture_motion::PictureMotion;
-use std::io::Write;
+use std::io::{self, Write};
 
 /// Where a coding tree unit stands, and on what scale its parameters of quantization are.
 #[derive(Clone, Copy)]
@@ -31,13 +30,8 @@ const NO_MODES: LumaModes = LumaModes {
 };
 
 /// A coding tree unit's line: its address, and the number of its slice segment in the picture.
-pub(crate) fn unit_start<W: Write>(
-    out: &mut W,
-    address: u32,
-    segment: usize,
-) -> Result<(), TraceError> {
-    writeln!(out, "ctu {address} segment {segment}")?;
-    Ok(())
+pub(crate) fn unit_start<W: Write>(out: &mut W, address: u32, segment: usize) -> io::Result<()> {
+    writeln!(out, "ctu {address} segment {segment}")
 }
 
 /// The lines of what was read of it, in reading order.
@@ -46,7 +40,7 @@ pub(crate) fn unit_items<W: Write>(
     origin: UnitOrigin,
     motion: &PictureMotion<'_>,
     items: &[Item],
-) -> Result<(), TraceError> {
+) -> io::Result<()> {
     let mut modes = NO_MODES;
     let mut skipped = false;
     for item in items {
@@ -98,7 +92,7 @@ fn item_line<W: Write>(
     origin: UnitOrigin,
     modes: LumaModes,
     item: Item,
-) -> Result<(), TraceError> {
+) -> io::Result<()> {
     match item {
         Item::Unit(unit) => coding_unit(out, origin, unit),
         Item::Chroma(mode) => intra_modes(out, modes, mode),
@@ -109,11 +103,7 @@ fn item_line<W: Write>(
 }
 
 /// A coding unit: its first luma sample, its side, its flags, and qPY_PRED.
-fn coding_unit<W: Write>(
-    out: &mut W,
-    origin: UnitOrigin,
-    unit: CodingUnit,
-) -> Result<(), TraceError> {
+fn coding_unit<W: Write>(out: &mut W, origin: UnitOrigin, unit: CodingUnit) -> io::Result<()> {
     let (x, y) = first_sample(origin, unit.square);
     let side = side(unit.square.log2_size);
     let coded = if unit.skipped { "skip" } else { "coded" };
@@ -122,27 +112,24 @@ fn coding_unit<W: Write>(
     writeln!(
         out,
         "unit {x} {y} size {side} {coded} transquant_bypass {bypass} qp_pred {qp}"
-    )?;
-    Ok(())
+    )
 }
 
 /// The modes of an intra coding unit.
-fn intra_modes<W: Write>(out: &mut W, modes: LumaModes, chroma: u8) -> Result<(), TraceError> {
+fn intra_modes<W: Write>(out: &mut W, modes: LumaModes, chroma: u8) -> io::Result<()> {
     let partition = if modes.count > 1 { "NxN" } else { "Full" };
     let [first, second, third, fourth] = modes.quarters;
     writeln!(
         out,
         "intra {partition} luma modes [{first}, {second}, {third}, {fourth}] chroma mode {chroma}"
-    )?;
-    Ok(())
+    )
 }
 
 /// CuQpDeltaVal, and the QpY that it makes.
-fn qp_delta<W: Write>(out: &mut W, origin: UnitOrigin, delta: QpDelta) -> Result<(), TraceError> {
+fn qp_delta<W: Write>(out: &mut W, origin: UnitOrigin, delta: QpDelta) -> io::Result<()> {
     let value = delta.delta;
     let qp = luma_qp(delta.qp, origin.qp_offset);
-    writeln!(out, "qp_delta {value} qp_y {qp}")?;
-    Ok(())
+    writeln!(out, "qp_delta {value} qp_y {qp}")
 }
 
 /// A transform unit: its first luma sample, its side, its depth in the tree, and its coded block flags.
@@ -150,7 +137,7 @@ fn transform_unit<W: Write>(
     out: &mut W,
     origin: UnitOrigin,
     unit: TransformUnit,
-) -> Result<(), TraceError> {
+) -> io::Result<()> {
     let (x, y) = first_sample(origin, unit.square);
     let side = side(unit.square.log2_size);
     let depth = unit.depth;
@@ -162,8 +149,7 @@ fn transform_unit<W: Write>(
     writeln!(
         out,
         "transform {x} {y} size {side} depth {depth} cbf {luma} {cb} {cr}"
-    )?;
-    Ok(())
+    )
 }
 
 /// The first luma sample of a square in the picture.

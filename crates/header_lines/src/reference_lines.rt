@@ -2,16 +2,15 @@
 
 use crate::lines::{flag, item, number};
 use crate::set_lists::short_term_set;
-use crate::trace_error::TraceError;
 use header_types::{LongTermCandidate, LongTermRef, LongTermRefs, ReferenceFields, SpsFields};
-use std::io::Write;
+use std::io::{self, Write};
 
 /// The fields in the order of the grammar, a short-term set that stands in the header as it is derived.
 pub(crate) fn reference_lines<W: Write>(
     out: &mut W,
     references: &ReferenceFields,
     sps: &SpsFields,
-) -> Result<(), TraceError> {
+) -> io::Result<()> {
     number(
         out,
         "slice_pic_order_cnt_lsb",
@@ -33,7 +32,7 @@ fn short_term<W: Write>(
     out: &mut W,
     references: &ReferenceFields,
     sps: &SpsFields,
-) -> Result<(), TraceError> {
+) -> io::Result<()> {
     if !references.short_term_ref_pic_set_sps_flag {
         write!(out, "short_term_ref_pic_set=")?;
         return short_term_set(out, &references.short_term_ref_pic_set);
@@ -52,7 +51,7 @@ fn long_term<W: Write>(
     out: &mut W,
     refs: &LongTermRefs,
     candidates: &[LongTermCandidate],
-) -> Result<(), TraceError> {
+) -> io::Result<()> {
     if candidates.len() > 0 {
         number(out, "num_long_term_sps", refs.num_long_term_sps)?;
     }
@@ -74,7 +73,7 @@ fn long_term_name<W: Write>(
     index: usize,
     entry: LongTermRef,
     has_choice: bool,
-) -> Result<(), TraceError> {
+) -> io::Result<()> {
     match entry.lt_idx_sps {
         Some(candidate) if has_choice => item(out, "lt_idx_sps", index, candidate),
         Some(_) => Ok(()),
@@ -86,7 +85,7 @@ fn long_term_name<W: Write>(
     }
 }
 
-fn msb_cycle<W: Write>(out: &mut W, index: usize, cycle: Option<u32>) -> Result<(), TraceError> {
+fn msb_cycle<W: Write>(out: &mut W, index: usize, cycle: Option<u32>) -> io::Result<()> {
     let is_present = u32::from(cycle.is_some());
     item(out, "delta_poc_msb_present_flag", index, is_present)?;
     match cycle {

@@ -1,10 +1,9 @@
 //! The fields of P and B slices as lines (7.3.6.1, 7.3.6.2).
 
 use crate::lines::{flag, item, number};
-use crate::trace_error::TraceError;
 use crate::weight_lines::weight_lines;
 use header_types::{Collocated, FieldList, InterFields, PpsFields, ReferenceFields, ShortTermRef};
-use std::io::Write;
+use std::io::{self, Write};
 
 /// The fields in the order of the grammar.
 pub(crate) fn inter_lines<W: Write>(
@@ -12,7 +11,7 @@ pub(crate) fn inter_lines<W: Write>(
     inter: &InterFields,
     references: &ReferenceFields,
     pps: &PpsFields,
-) -> Result<(), TraceError> {
+) -> io::Result<()> {
     active_entries(out, inter)?;
     if pps.lists_modification_present_flag && current_pictures(references) > 1 {
         modifications(out, inter)?;
@@ -36,7 +35,7 @@ pub(crate) fn inter_lines<W: Write>(
     )
 }
 
-fn active_entries<W: Write>(out: &mut W, inter: &InterFields) -> Result<(), TraceError> {
+fn active_entries<W: Write>(out: &mut W, inter: &InterFields) -> io::Result<()> {
     let is_overridden = inter.num_ref_idx_active_override_flag;
     flag(out, "num_ref_idx_active_override_flag", is_overridden)?;
     if !is_overridden {
@@ -76,7 +75,7 @@ fn used_count(entries: &[ShortTermRef]) -> usize {
     count
 }
 
-fn modifications<W: Write>(out: &mut W, inter: &InterFields) -> Result<(), TraceError> {
+fn modifications<W: Write>(out: &mut W, inter: &InterFields) -> io::Result<()> {
     flag(
         out,
         "ref_pic_list_modification_flag_l0",
@@ -98,7 +97,7 @@ fn list_entries<W: Write>(
     out: &mut W,
     name: &str,
     entries: &Option<FieldList<u32>>,
-) -> Result<(), TraceError> {
+) -> io::Result<()> {
     let Some(entries) = entries else {
         return Ok(());
     };
@@ -113,7 +112,7 @@ fn collocated<W: Write>(
     out: &mut W,
     inter: &InterFields,
     collocated: Collocated,
-) -> Result<(), TraceError> {
+) -> io::Result<()> {
     let from_l0 = collocated.collocated_from_l0_flag;
     let l1_minus1 = inter.num_ref_idx_l1_active_minus1;
     if l1_minus1.is_some() {

@@ -2,15 +2,14 @@
 
 use crate::lines::{fields, flag, item, number, values};
 use crate::set_lists::{coded_scaling_lists, short_term_sets};
-use crate::trace_error::TraceError;
 use header_types::{
     BlockSizes, ConformanceWindow, FieldList, LongTermCandidate, PcmFormat, PictureFormat, Profile,
     ProfileTierLevel, SpsFields, StRps, SubLayerOrdering, SubLayerProfile,
 };
-use std::io::Write;
+use std::io::{self, Write};
 
-/// The fields in the order of the grammar.
-pub(crate) fn sps_lines<W: Write>(out: &mut W, sps: &SpsFields) -> Result<(), TraceError> {
+/// Prints the fields of a sequence parameter set in the order of the grammar. An error is one of the writer.
+pub fn print_sps<W: Write>(sps: &SpsFields, out: &mut W) -> io::Result<()> {
     set_start(out, sps)?;
     format(out, &sps.format)?;
     sub_layer_orderings(out, sps)?;
@@ -19,7 +18,7 @@ pub(crate) fn sps_lines<W: Write>(out: &mut W, sps: &SpsFields) -> Result<(), Tr
     references(out, sps)
 }
 
-fn set_start<W: Write>(out: &mut W, sps: &SpsFields) -> Result<(), TraceError> {
+fn set_start<W: Write>(out: &mut W, sps: &SpsFields) -> io::Result<()> {
     fields(
         out,
         &values![
@@ -33,7 +32,7 @@ fn set_start<W: Write>(out: &mut W, sps: &SpsFields) -> Result<(), TraceError> {
     fields(out, &values![sps; sps_seq_parameter_set_id])
 }
 
-fn profile_tier_level<W: Write>(out: &mut W, levels: &ProfileTierLevel) -> Result<(), TraceError> {
+fn profile_tier_level<W: Write>(out: &mut W, levels: &ProfileTierLevel) -> io::Result<()> {
     writeln!(out, "general:")?;
     profile(out, levels.general)?;
     number(out, "level_idc", u32::from(levels.general_level_idc))?;
@@ -44,7 +43,7 @@ fn profile_tier_level<W: Write>(out: &mut W, levels: &ProfileTierLevel) -> Resul
     Ok(())
 }
 
-fn sub_layer_profile<W: Write>(out: &mut W, sub_layer: SubLayerProfile) -> Result<(), TraceError> {
+fn sub_layer_profile<W: Write>(out: &mut W, sub_layer: SubLayerProfile) -> io::Result<()> {
     writeln!(out, "sub_layer:")?;
     flag(out, "profile_present_flag", sub_layer.profile.is_some())?;
     flag(out, "level_present_flag", sub_layer.level_idc.is_some())?;
@@ -57,7 +56,7 @@ fn sub_layer_profile<W: Write>(out: &mut W, sub_layer: SubLayerProfile) -> Resul
     }
 }
 
-fn profile<W: Write>(out: &mut W, profile: Profile) -> Result<(), TraceError> {
+fn profile<W: Write>(out: &mut W, profile: Profile) -> io::Result<()> {
     fields(
         out,
         &values![
@@ -73,11 +72,10 @@ fn profile<W: Write>(out: &mut W, profile: Profile) -> Result<(), TraceError> {
         ],
     )?;
     let reserved = profile.reserved_zero_44bits;
-    writeln!(out, "reserved_zero_44bits={reserved}")?;
-    Ok(())
+    writeln!(out, "reserved_zero_44bits={reserved}")
 }
 
-fn format<W: Write>(out: &mut W, format: &PictureFormat) -> Result<(), TraceError> {
+fn format<W: Write>(out: &mut W, format: &PictureFormat) -> io::Result<()> {
     fields(
         out,
         &values![
@@ -94,10 +92,7 @@ fn format<W: Write>(out: &mut W, format: &PictureFormat) -> Result<(), TraceErro
     )
 }
 
-fn conformance_window<W: Write>(
-    out: &mut W,
-    window: Option<ConformanceWindow>,
-) -> Result<(), TraceError> {
+fn conformance_window<W: Write>(out: &mut W, window: Option<ConformanceWindow>) -> io::Result<()> {
     flag(out, "conformance_window_flag", window.is_some())?;
     match window {
         Some(window) => window_offsets(out, window),
@@ -105,7 +100,7 @@ fn conformance_window<W: Write>(
     }
 }
 
-fn window_offsets<W: Write>(out: &mut W, window: ConformanceWindow) -> Result<(), TraceError> {
+fn window_offsets<W: Write>(out: &mut W, window: ConformanceWindow) -> io::Result<()> {
     fields(
         out,
         &values![
@@ -118,7 +113,7 @@ fn window_offsets<W: Write>(out: &mut W, window: ConformanceWindow) -> Result<()
     )
 }
 
-fn sub_layer_orderings<W: Write>(out: &mut W, sps: &SpsFields) -> Result<(), TraceError> {
+fn sub_layer_orderings<W: Write>(out: &mut W, sps: &SpsFields) -> io::Result<()> {
     fields(
         out,
         &values![
@@ -137,7 +132,7 @@ fn sub_layer_ordering<W: Write>(
     out: &mut W,
     index: usize,
     ordering: SubLayerOrdering,
-) -> Result<(), TraceError> {
+) -> io::Result<()> {
     item(
         out,
         "sps_max_dec_pic_buffering_minus1",
@@ -158,7 +153,7 @@ fn sub_layer_ordering<W: Write>(
     )
 }
 
-fn blocks<W: Write>(out: &mut W, blocks: &BlockSizes) -> Result<(), TraceError> {
+fn blocks<W: Write>(out: &mut W, blocks: &BlockSizes) -> io::Result<()> {
     fields(
         out,
         &values![
@@ -173,7 +168,7 @@ fn blocks<W: Write>(out: &mut W, blocks: &BlockSizes) -> Result<(), TraceError> 
     )
 }
 
-fn tools<W: Write>(out: &mut W, sps: &SpsFields) -> Result<(), TraceError> {
+fn tools<W: Write>(out: &mut W, sps: &SpsFields) -> io::Result<()> {
     fields(out, &values![sps; scaling_list_enabled_flag])?;
     if sps.scaling_list_enabled_flag {
         coded_scaling_lists(
@@ -189,7 +184,7 @@ fn tools<W: Write>(out: &mut W, sps: &SpsFields) -> Result<(), TraceError> {
     pcm(out, sps.pcm)
 }
 
-fn pcm<W: Write>(out: &mut W, format: Option<PcmFormat>) -> Result<(), TraceError> {
+fn pcm<W: Write>(out: &mut W, format: Option<PcmFormat>) -> io::Result<()> {
     flag(out, "pcm_enabled_flag", format.is_some())?;
     match format {
         Some(format) => pcm_format(out, format),
@@ -197,7 +192,7 @@ fn pcm<W: Write>(out: &mut W, format: Option<PcmFormat>) -> Result<(), TraceErro
     }
 }
 
-fn pcm_format<W: Write>(out: &mut W, pcm: PcmFormat) -> Result<(), TraceError> {
+fn pcm_format<W: Write>(out: &mut W, pcm: PcmFormat) -> io::Result<()> {
     fields(
         out,
         &values![
@@ -211,7 +206,7 @@ fn pcm_format<W: Write>(out: &mut W, pcm: PcmFormat) -> Result<(), TraceError> {
     )
 }
 
-fn references<W: Write>(out: &mut W, sps: &SpsFields) -> Result<(), TraceError> {
+fn references<W: Write>(out: &mut W, sps: &SpsFields) -> io::Result<()> {
     short_term(out, sps.short_term_ref_pic_sets.as_slice())?;
     long_term(out, &sps.long_term_ref_pics)?;
     fields(
@@ -225,7 +220,7 @@ fn references<W: Write>(out: &mut W, sps: &SpsFields) -> Result<(), TraceError> 
     )
 }
 
-fn short_term<W: Write>(out: &mut W, sets: &[StRps]) -> Result<(), TraceError> {
+fn short_term<W: Write>(out: &mut W, sets: &[StRps]) -> io::Result<()> {
     let count = sets.len();
     writeln!(out, "num_short_term_ref_pic_sets={count}")?;
     short_term_sets(out, sets)
@@ -234,7 +229,7 @@ fn short_term<W: Write>(out: &mut W, sets: &[StRps]) -> Result<(), TraceError> {
 fn long_term<W: Write>(
     out: &mut W,
     candidates: &Option<FieldList<LongTermCandidate>>,
-) -> Result<(), TraceError> {
+) -> io::Result<()> {
     flag(out, "long_term_ref_pics_present_flag", candidates.is_some())?;
     match candidates {
         Some(candidates) => long_term_candidates(out, candidates.as_slice()),
@@ -242,10 +237,7 @@ fn long_term<W: Write>(
     }
 }
 
-fn long_term_candidates<W: Write>(
-    out: &mut W,
-    candidates: &[LongTermCandidate],
-) -> Result<(), TraceError> {
+fn long_term_candidates<W: Write>(out: &mut W, candidates: &[LongTermCandidate]) -> io::Result<()> {
     let count = candidates.len();
     writeln!(out, "num_long_term_ref_pics_sps={count}")?;
     for (i, candidate) in candidates.iter().enumerate() {
