@@ -1,6 +1,8 @@
 //! Lists that stand in the fields of plain types, and that contracts see as lists.
 
-ghost use Rattle.std.specs.Prelude.{◌≡◌, length};
+ghost use Rattle.std.specs.Prelude.{◌≡◌, length, nat_lt};
+ghost use Rattle.std.specs.List.{count_by};
+ghost use Rattle.std.specs.List.Sorted.{IsStrictlyIncreasing};
 
 use std::marker::Model;
 
@@ -34,7 +36,7 @@ impl Bytes {
     }
 }
 
-/// Places in a list, each counted from its front.
+/// Places in a list, each counted from its front, in ascending order: each is behind the one before it.
 #[derive(Debug, Drop)]
 pub struct Places {
     items: Vec<u32>,
@@ -42,15 +44,19 @@ pub struct Places {
 
 impl Model for Places {
     ghost use Rattle.std.specs.Prelude.{ℕ, List};
+    ghost use Rattle.std.specs.List.Sorted.{IsStrictlyIncreasing};
 
     ghost Value = { List ℕ };
 
     ghost view = { λ p. p.items.items };
+
+    ghost invariant = { λ p. IsStrictlyIncreasing p.items.items };
 }
 
 impl Places {
     /// These places.
     pub fn new(items: Vec<u32>) -> Places
+        requires in_order { IsStrictlyIncreasing items.items }
         ensures { result ≡ items.items }
     {
         Places { items }
@@ -58,8 +64,18 @@ impl Places {
 
     /// The places as a slice.
     pub fn as_slice(&self) -> &[u32]
-        ensures { result.now ≡ self.now }
+        ensures value { result.now ≡ self.now }
+        ensures in_order { IsStrictlyIncreasing self.now }
     {
         self.items.as_slice()
+    }
+
+    /// How many of the places are before one: searched by halves.
+    pub fn count_before(&self, place: usize) -> usize
+        ensures { result ≡ count_by (λ r. nat_lt r place) self.now }
+    {
+        self.items
+            .as_slice()
+            .partition_point(|r| (*r as usize) < place)
     }
 }

@@ -6,7 +6,7 @@ ghost use Rattle.nal_stream.specs.Answers.{told_by};
 
 use crate::answer::Next;
 use crate::payload::{has_reserved, payload_of, removed_of};
-use hv_base::{Bytes, Fault, FaultKind, Limit, LimitKind, Nal, Places};
+use hv_base::{Bytes, Fault, FaultKind, Limit, LimitKind, Nal};
 use std::alloc::{AllocError, Global};
 
 /// The greatest size of a unit in bytes.
@@ -63,6 +63,6 @@ fn read_unit(alloc: Global, index: u32, unit: &[u8]) -> Result<Nal, AllocError>
         layer: unit[0] % 2 * 32 + unit[1] / 8,
         temporal_id: unit[1] % 8 - 1,
         rbsp: Bytes::new(payload),
-        removed: Places::new(removed),
+        removed,
     })
 }

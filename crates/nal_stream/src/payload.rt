@@ -3,6 +3,7 @@
 ghost use Rattle.std.specs.Prelude.{◌≡◌, ◌<◌, ◌≤◌, ◌^◌, length, IfOk};
 ghost use Rattle.spec_units.specs.Judged as spec;
 
+use hv_base::Places;
 use std::alloc::{AllocError, Global};
 
 /// Whether 00 00 and then this byte stand in a unit, that byte at place `i`.
@@ -42,9 +43,9 @@ pub fn payload_of(alloc: Global, unit: &[u8]) -> Result<Vec<u8>, AllocError>
 
 /// Where a unit's emulation prevention bytes stand.
 #[tactic(auto, unfolding(spec_units::specs::Judged::removed_of))]
-pub fn removed_of(alloc: Global, unit: &[u8]) -> Result<Vec<u32>, AllocError>
+pub fn removed_of(alloc: Global, unit: &[u8]) -> Result<Places, AllocError>
     requires { length unit.now ≤ 2 ^ 26 }
-    ensures { IfOk result (λ v. v.items ≡ spec.removed_of unit.now) }
+    ensures { IfOk result (λ p. p ≡ spec.removed_of unit.now) }
 {
     let mut removed = Vec::new(alloc);
     for i in 0..unit.len() {
@@ -52,5 +53,5 @@ pub fn removed_of(alloc: Global, unit: &[u8]) -> Result<Vec<u32>, AllocError>
             removed.push(i as u32)?;
         }
     }
-    Ok(removed)
+    Ok(Places::new(removed))
 }

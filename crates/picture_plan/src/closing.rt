@@ -155,7 +155,7 @@ fn entry_points_fit(width: u32, end: u32, segment: &SegmentPlan) -> bool
     let header = segment.header.fields();
     let entry_points = header.entry_points.as_slice();
     let payload = segment.payload.as_slice();
-    let size = data_size(payload, segment.removed.as_slice(), header.data_place);
+    let size = data_size(payload, &segment.removed, header.data_place);
     entry_points.len() == later_rows(width, address_of(segment), end) as usize
         && sum_is_below(entry_points, size)
 }

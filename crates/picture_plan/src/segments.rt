@@ -50,7 +50,7 @@ fn substreams_of(
     substreams(
         alloc,
         nal.rbsp.as_slice(),
-        nal.removed.as_slice(),
+        &nal.removed,
         fields.data_place,
         fields.entry_points.as_slice(),
     )

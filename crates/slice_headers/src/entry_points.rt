@@ -15,13 +15,14 @@ ghost use Rattle.spec_slice_headers.specs.Substreams.{
 ghost use Rattle.std.specs.Prelude.{◌≡◌, ◌+◌, ◌≤◌, ◌<◌, All, IfOk, length, map, min};
 
 use header_types::{FieldList, Substream};
+use hv_base::Places;
 use std::alloc::{AllocError, Global};
 
 // How many bytes of the payload stand before a place of the unit.
-fn payload_before(removed: &[u32], place: usize) -> usize
+fn payload_before(removed: &Places, place: usize) -> usize
     ensures { result ≡ payload_before removed.now place }
 {
-    let before = removed.iter().filter(|r| (**r as usize) < place).count();
+    let before = removed.count_before(place);
     place.saturating_sub(2).saturating_sub(before)
 }
 
@@ -52,20 +53,20 @@ fn unit_place(removed: &[u32], i: usize) -> usize
 }
 
 // The place in the unit behind its last byte.
-fn unit_end(payload: &[u8], removed: &[u32]) -> usize
+fn unit_end(payload: &[u8], removed: &Places) -> usize
     ensures value { result ≡ 2 + length payload.now + length removed.now }
     ensures few { result + 2 + length removed.now ≤ usize.MAX }
 {
-    2 + payload.len() + removed.len()
+    2 + payload.len() + removed.as_slice().len()
 }
 
 // The place in the unit of a byte of the payload, or `end` where that place is behind it.
 #[tactic(auto, using(crate::proofs::UnitPlaces::up_to))]
-fn place_up_to(removed: &[u32], i: usize, end: usize) -> usize
+fn place_up_to(removed: &Places, i: usize, end: usize) -> usize
     requires { end + 2 + length removed.now ≤ usize.MAX }
     ensures { result ≡ min (unit_place removed.now i) end }
 {
-    unit_place(removed, i.min(end)).min(end)
+    unit_place(removed.as_slice(), i.min(end)).min(end)
 }
 
 // The place so many bytes behind another, or `end` where that place is behind it.
@@ -77,9 +78,9 @@ fn next_place(place: usize, offset: u64, end: usize) -> usize
 
 /// How many bytes of the NAL unit, as it stands in the stream, the slice segment data have that begin at the byte
 /// `first` of its payload: the emulation prevention bytes behind that byte are among them. `removed` has the places
-/// in the unit of its emulation prevention bytes, in ascending order.
+/// in the unit of its emulation prevention bytes.
 #[tactic(auto, unfolding(spec_slice_headers::specs::Substreams::data_size))]
-pub fn data_size(payload: &[u8], removed: &[u32], first: usize) -> usize
+pub fn data_size(payload: &[u8], removed: &Places, first: usize) -> usize
     ensures { result ≡ data_size payload.now removed.now first }
 {
     let end = unit_end(payload, removed);
@@ -87,7 +88,7 @@ pub fn data_size(payload: &[u8], removed: &[u32], first: usize) -> usize
 }
 
 // The range of the payload from one place of the unit to another.
-fn range_between(payload: &[u8], removed: &[u32], from: usize, to: usize) -> Substream
+fn range_between(payload: &[u8], removed: &Places, from: usize, to: usize) -> Substream
     ensures { result ≡ range_between payload.now removed.now from to }
 {
     let end = payload_before(removed, to).min(payload.len());
@@ -98,7 +99,7 @@ fn range_between(payload: &[u8], removed: &[u32], from: usize, to: usize) -> Sub
 }
 
 // The range of the payload from a place of the unit on.
-fn range_from(payload: &[u8], removed: &[u32], from: usize) -> Substream
+fn range_from(payload: &[u8], removed: &Places, from: usize) -> Substream
     ensures { result ≡ range_from payload.now removed.now from }
 {
     Substream {
@@ -110,11 +111,11 @@ fn range_from(payload: &[u8], removed: &[u32], from: usize) -> Substream
 /// The substreams of the slice segment data that begin at the byte `first` of a payload, as ranges of the payload: for
 /// any data, since a place behind the payload's end gives its end. `offsets` says how many bytes of the NAL unit, as it
 /// stands in the stream, each substream but the last has, and `removed` has the places in the unit of its emulation
-/// prevention bytes, in ascending order.
+/// prevention bytes. They are gone over once, for the first place; each later one is searched among them by halves.
 pub fn substreams(
     alloc: Global,
     payload: &[u8],
-    removed: &[u32],
+    removed: &Places,
     first: usize,
     offsets: &[u64],
 ) -> Result<FieldList<Substream>, AllocError>

@@ -15,6 +15,5 @@ sized unit payload removed p r =
 pub invariant_of-result-clause-sized : goal.invariant_of-result-clause-sized
 invariant_of-result-clause-sized c =
     let payload : c.new.result ≡ payload_of c.args.unit.now = c.new.ensures ∙ c.in_ok-payload.ensures in
-    let removed : c.new-2.result ≡ removed_of c.args.unit.now = c.new-2.ensures ∙ c.in_ok-removed.ensures in
-    let both = sized c.args.unit.now c.new.result c.new-2.result payload removed in
+    let both = sized c.args.unit.now c.new.result _ payload c.in_ok-removed.ensures in
     omega (arith, both, c.requires.size)
