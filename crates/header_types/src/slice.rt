@@ -1,6 +1,7 @@
 //! Slice segment headers (7.3.6).
 
 ghost use Rattle.std.specs.Prelude.{◌≡◌};
+ghost use Rattle.header_types.specs.SliceHeaders.{IsSliceHeader};
 
 use crate::field_list::FieldList;
 use crate::reference_pictures::LongTermRef;
@@ -140,7 +141,7 @@ pub struct SliceHeaderFields {
     pub data_place: usize,
 }
 
-/// A slice segment header. Contracts see its fields.
+/// A slice segment header whose fields are in range. Contracts see its fields, of which `IsSliceHeader` holds.
 #[derive(Debug, PartialEq, Eq, Drop)]
 pub struct SliceHeader {
     fields: SliceHeaderFields,
@@ -148,12 +149,15 @@ pub struct SliceHeader {
 
 impl Model for SliceHeader {
     ghost use Rattle.header_types.specs.declared.slice.SliceHeaderFields.{SliceHeaderFields};
+    ghost use Rattle.header_types.specs.SliceHeaders.{IsSliceHeader};
 
     ghost Value = { SliceHeaderFields };
 
     ghost view = { λ h. h.fields };
 
     ghost inverse = { λ f. record { fields = f } };
+
+    ghost invariant = { λ h. IsSliceHeader h.fields };
 }
 
 impl Clone for SliceHeader {
@@ -167,16 +171,18 @@ impl Clone for SliceHeader {
 }
 
 impl SliceHeader {
-    /// A header of these fields.
+    /// The header of these fields.
     pub fn new(fields: SliceHeaderFields) -> SliceHeader
+        requires { IsSliceHeader fields }
         ensures { result ≡ fields }
     {
         SliceHeader { fields }
     }
 
-    /// The fields.
+    /// The fields as they were read.
     pub fn fields(&self) -> &SliceHeaderFields
-        ensures { result.now ≡ self.now }
+        ensures value { result.now ≡ self.now }
+        ensures in_range { IsSliceHeader self.now }
     {
         &self.fields
     }

@@ -8,8 +8,6 @@ use Rattle.header_types.specs.declared.sps.SpsFields.{SpsFields}
 use Rattle.header_types.specs.SequenceParameterSets.{highest_ordering}
 use Rattle.spec_reference_pictures.specs.PictureOrderCount.{begins_anew}
 use Rattle.spec_output_order.specs.OutputOrder.{is_full_of_references, size_of}
-use Rattle.header_types.specs.declared.slice.SliceHeaderFields.{SliceHeaderFields}
-use Rattle.spec_reference_pictures.specs.ReferenceLists.{HasFewActive}
 use Rattle.plan_types.specs.declared.picture_plan.PicturePlan.{PicturePlan}
 use Rattle.plan_types.specs.declared.between.Between.{Between}
 use Rattle.picture_plan.specs.declared.change.Change.{Change}
@@ -33,10 +31,6 @@ pub record IsWithinSize (p : PicturePlan) : Type 0 where
 pub record IsWithin (f : Former) : Type 0 where
   pub size : IfSome f.active (λ sps. length f.dpb ≤ size_of (highest_ordering sps.sub_layer_ordering))
   pub few : length f.dpb ≤ 16
-
--- a segment that begins a slice has few entries in its lists
-abbrev pub HasLists : SliceHeaderFields → Type 0
-HasLists header = header.segment.dependent_slice_segment_flag ≡ false → HasFewActive header.slice.inter
 
 -- what is known between two units of a stream that a planner read
 pub record IsBetween (s : Between) : Type 0 where

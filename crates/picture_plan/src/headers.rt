@@ -1,12 +1,10 @@
 //! The headers of slice segments, in the place where they are judged.
 
-ghost use Rattle.std.specs.Prelude.{◌≡◌, ◌≤◌, [], length, IfOk};
-ghost use Rattle.slice_headers.specs.Ranges.{IsInRange};
+ghost use Rattle.std.specs.Prelude.{◌≡◌, ◌<◌, ◌≤◌, [], length, IfOk};
 ghost use Rattle.spec_bits.specs.Bits.{bits};
 ghost use Rattle.spec_formats.specs.Fields.{Parses};
 ghost use Rattle.spec_units.specs.Judged.{unit_of};
 ghost use Rattle.spec_pictures.specs.Steps.{first_flag, judged_header};
-ghost use Rattle.picture_plan.specs.Bounds.{HasLists};
 
 use header_types::{Former, Sets, SliceHeader};
 use hv_base::{FaultKind, LimitKind, Nal, Refusal};
@@ -41,8 +39,7 @@ pub(crate) fn judge_header(
 ) -> Result<SliceHeader, Refusal>
     requires { length former.now.dpb ≤ 16 }
     ensures value { Parses (λ x. x) result (judged_header sets.now former.now segments.now (unit_of nal.now)) }
-    ensures in_range { segments.now ≡ [] → IfOk result IsInRange }
-    ensures active { IfOk result HasLists }
+    ensures first { segments.now ≡ [] → IfOk result (λ h. h.slice.references.slice_pic_order_cnt_lsb < h.kind.max_lsb) }
 {
     if first_flag(nal.rbsp.as_slice()).is_none() {
         return Err(Refusal::Fault(FaultKind::HeaderSyntax));

@@ -1,15 +1,15 @@
 //! The picture that a first slice segment opens (8.3).
 
-ghost use Rattle.std.specs.Prelude.{◌≡◌, ◌≤◌, ◌∷◌, [], None, Ok, true, length, IfOk};
+ghost use Rattle.std.specs.Prelude.{◌≡◌, ◌<◌, ◌≤◌, ◌∷◌, [], None, Ok, true, length, IfOk};
 ghost use Rattle.std.specs.List.{count_by};
-ghost use Rattle.slice_headers.specs.Ranges.{AreReferences, IsInRange};
+ghost use Rattle.header_types.specs.SliceHeaders.{IsReferenceFields};
 ghost use Rattle.spec_formats.specs.Fields.{Parses};
 ghost use Rattle.plan_types.specs.declared.between.Between.{Between};
 ghost use Rattle.spec_pictures.specs.Steps.{opening, picture_of, segment_of, slice_judged, with_order};
 ghost use Rattle.spec_reference_pictures.specs.PictureOrderCount.{begins_anew, pic_order_cnt_val};
 ghost use Rattle.spec_reference_pictures.specs.ReferencePictureSet.{GivesSet, is_reference, reference_picture_set};
 ghost use Rattle.spec_units.specs.Judged.{NalUnit, unit_of};
-ghost use Rattle.picture_plan.specs.Bounds.{ChangesFew, Fits, HasLists, KeepsFew};
+ghost use Rattle.picture_plan.specs.Bounds.{ChangesFew, Fits, KeepsFew};
 ghost use Rattle.picture_plan.specs.Changes.{applied, begun_by};
 
 use crate::change::{Change, stop_at};
@@ -45,7 +45,7 @@ fn reference_set(
     requires few { length former.now.dpb ≤ 16 }
     requires low { 16 ≤ kind.max_lsb }
     requires high { kind.max_lsb ≤ 65536 }
-    requires references { AreReferences kind.max_lsb references.now }
+    requires references { IsReferenceFields references.now }
     ensures value { GivesSet result (reference_picture_set kind references.now poc former.now.dpb) }
     ensures anew { IfOk result (λ rps. begins_anew kind ≡ true → count_by is_reference rps.marks ≡ 0) }
 {
@@ -61,7 +61,6 @@ fn only_segment(
     nal: Nal,
     header: SliceHeader,
 ) -> Result<FieldList<SegmentPlan>, AllocError>
-    requires { HasLists header }
     ensures { IfOk result (λ segments. segments ≡ segment_of [] dpb.now rps.now (unit_of nal) header ∷ []) }
 {
     let mut segments = FieldList::new(alloc);
@@ -115,7 +114,7 @@ fn parts_under<'a>(
     header: &SliceHeader,
 ) -> Result<Parts, Refusal>
     requires few { length former.now.dpb ≤ 16 }
-    requires in_range { IsInRange header.now }
+    requires lsb { header.now.slice.references.slice_pic_order_cnt_lsb < header.now.kind.max_lsb }
     ensures value { (u : NalUnit) → Parses (begun_by former.now.dpb u header.now) result (with_order former.now u header.now (record { pps = named.entry.pps.now; sps = named.entry.sps.now }) (pic_order_cnt_val header.now.kind header.now.slice.references.slice_pic_order_cnt_lsb former.now.prev_tid0_pic_order_cnt)) }
     ensures fits { IfOk result (λ parts. Fits header.now.kind parts.sps parts.rps.marks parts.outputs.dpb) }
 {
@@ -139,7 +138,7 @@ fn parts_of(
     header: &SliceHeader,
 ) -> Result<Parts, Refusal>
     requires few { length former.now.dpb ≤ 16 }
-    requires in_range { IsInRange header.now }
+    requires lsb { header.now.slice.references.slice_pic_order_cnt_lsb < header.now.kind.max_lsb }
     ensures value { (u : NalUnit) → Parses (begun_by former.now.dpb u header.now) result (picture_of sets.now former.now u header.now) }
     ensures fits { IfOk result (λ parts. Fits header.now.kind parts.sps parts.rps.marks parts.outputs.dpb) }
 {
@@ -184,7 +183,6 @@ fn picture_with(
     header: SliceHeader,
     parts: Parts,
 ) -> Result<PicturePlan, AllocError>
-    requires { HasLists header }
     ensures { IfOk result (λ p. p ≡ begun_by dpb.now (unit_of nal) header parts) }
 {
     let index = nal.index;
@@ -202,8 +200,7 @@ fn picture_of(
     header: SliceHeader,
 ) -> Result<PicturePlan, Refusal>
     requires few { length former.now.dpb ≤ 16 }
-    requires in_range { IsInRange header }
-    requires lists { HasLists header }
+    requires lsb { header.slice.references.slice_pic_order_cnt_lsb < header.kind.max_lsb }
     ensures value { Parses (λ x. x) result (picture_of sets.now former.now (unit_of nal) header) }
     ensures few { IfOk result KeepsFew }
 {

@@ -5,7 +5,6 @@ ghost use Rattle.spec_slice_headers.specs.Substreams.{substream_ranges};
 ghost use Rattle.spec_units.specs.Judged.{unit_of};
 ghost use Rattle.spec_slice_headers.specs.Context.{last_segment, slice_of};
 ghost use Rattle.spec_pictures.specs.Steps.{lists_of, segment_of, slice_number};
-ghost use Rattle.picture_plan.specs.Bounds.{HasLists};
 
 use header_types::{DpbPicture, FieldList, Lists, Rps, SliceHeader, Substream};
 use hv_base::Nal;
@@ -24,7 +23,6 @@ pub(crate) fn segment_of(
     nal: Nal,
     header: SliceHeader,
 ) -> Result<SegmentPlan, AllocError>
-    requires { HasLists header }
     ensures { IfOk result (λ s. s ≡ segment_of before.now dpb.now rps.now (unit_of nal) header) }
 {
     let substreams = substreams_of(alloc, &nal, &header)?;
@@ -79,7 +77,6 @@ fn last_slice(segments: &[SegmentPlan]) -> usize
 
 /// The reference picture lists of the slice that a segment begins.
 fn lists_of(dpb: &[DpbPicture], header: &SliceHeader, rps: &Rps) -> Option<Lists>
-    requires { HasLists header.now }
     ensures { result ≡ lists_of dpb.now header.now rps.now }
 {
     let fields = header.fields();

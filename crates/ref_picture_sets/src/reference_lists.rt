@@ -1,7 +1,8 @@
 //! Reference picture lists (8.3.4).
 
-ghost use Rattle.std.specs.Prelude.{◌≡◌, ◌+◌, ◌<◌, ◌≤◌, Option, List, length, map, slice_index_or};
-ghost use Rattle.spec_reference_pictures.specs.ReferenceLists.{HasFewActive, IsNoneOrAtMost, entry_taken, in_turn, list_0, list_1, list_1_of, no_reference, order_count_at, reference_list, reference_lists, temporary_entry};
+ghost use Rattle.std.specs.Prelude.{◌≡◌, ◌+◌, ◌<◌, ◌≤◌, IfSome, Option, List, length, map, slice_index_or};
+ghost use Rattle.header_types.specs.SliceHeaders.{IsInterFields};
+ghost use Rattle.spec_reference_pictures.specs.ReferenceLists.{entry_taken, in_turn, list_0, list_1, list_1_of, no_reference, order_count_at, reference_list, reference_lists, temporary_entry};
 
 use header_types::{
     DpbPicture, FieldList, InterFields, Lists, RefEntry, RefList, Rps, SliceFields,
@@ -13,7 +14,7 @@ use std::marker::Model;
 /// buffer in decoding order, before this picture.
 #[tactic(auto, unfolding(spec_reference_pictures::specs::ReferenceLists::reference_lists))]
 pub fn build_lists(slice: &SliceFields, rps: &Rps, dpb: &[DpbPicture]) -> Lists
-    requires { HasFewActive slice.now.inter }
+    requires { IfSome slice.now.inter IsInterFields }
     ensures { result ≡ reference_lists slice.now rps.now dpb.now }
 {
     match &slice.inter {
@@ -30,7 +31,7 @@ pub fn build_lists(slice: &SliceFields, rps: &Rps, dpb: &[DpbPicture]) -> Lists
 
 /// List 0 of a P or B slice.
 fn list_0(fields: &InterFields, rps: &Rps, dpb: &[DpbPicture]) -> RefList
-    requires { fields.now.num_ref_idx_l0_active_minus1 ≤ 15 }
+    requires { fields.now.num_ref_idx_l0_active_minus1 ≤ 14 }
     ensures { result ≡ reference_list (in_turn dpb.now rps.now.st_curr_before rps.now.st_curr_after rps.now.lt_curr) (fields.now.num_ref_idx_l0_active_minus1 + 1) fields.now.list_entry_l0 }
 {
     let turn = Turn {
@@ -48,7 +49,7 @@ fn list_0(fields: &InterFields, rps: &Rps, dpb: &[DpbPicture]) -> RefList
 
 /// List 1 of a P or B slice.
 fn list_1(fields: &InterFields, rps: &Rps, dpb: &[DpbPicture]) -> RefList
-    requires { IsNoneOrAtMost 15 fields.now.num_ref_idx_l1_active_minus1 }
+    requires { IfSome fields.now.num_ref_idx_l1_active_minus1 (λ minus1. minus1 ≤ 14) }
     ensures { result ≡ list_1_of fields.now.num_ref_idx_l1_active_minus1 fields.now.list_entry_l1 rps.now dpb.now }
 {
     let active_minus1 = match fields.num_ref_idx_l1_active_minus1 {

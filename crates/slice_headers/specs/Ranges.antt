@@ -1,7 +1,6 @@
 -- The ranges of what is read of a slice.
 use Rattle.std.specs.Prelude.{ℕ, ◌<◌, ◌≤◌, length}
 use Rattle.header_types.specs.declared.slice.ReferenceFields.{ReferenceFields}
-use Rattle.header_types.specs.declared.slice.SliceHeaderFields.{SliceHeaderFields}
 use Rattle.header_types.specs.ReferencePictures.{IsStRps}
 
 -- the reference fields of a slice, under MaxPicOrderCntLsb
@@ -9,9 +8,3 @@ pub record AreReferences (max_lsb : ℕ) (r : ReferenceFields) : Type 0 where
   pub lsb : r.slice_pic_order_cnt_lsb < max_lsb
   pub set : IsStRps 79 r.short_term_ref_pic_set
   pub long : length r.long_term.entries ≤ 33
-
--- a header's MaxPicOrderCntLsb, and its reference fields under it
-pub record IsInRange (h : SliceHeaderFields) : Type 0 where
-  pub low : 16 ≤ h.kind.max_lsb
-  pub high : h.kind.max_lsb ≤ 65536
-  pub references : AreReferences h.kind.max_lsb h.slice.references

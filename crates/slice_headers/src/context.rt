@@ -1,7 +1,8 @@
 //! What a slice segment header is read under.
 
-ghost use Rattle.std.specs.Prelude.{◌≡◌, ◌≤◌, IfOk, slice_get};
+ghost use Rattle.std.specs.Prelude.{◌≡◌, ◌≤◌, IfOk, IfSome, slice_get};
 ghost use Rattle.std.specs.Option.{option_copied};
+ghost use Rattle.header_types.specs.SliceHeaders.{IsSliceHeader};
 ghost use Rattle.header_fields.specs.Takes.{Takes};
 ghost use Rattle.spec_formats.specs.Fields.{flag, optional};
 ghost use Rattle.spec_slice_headers.specs.Context.{ceil_log2, first_of, flag_or, header_of, last_address, last_segment, no_rasl_output_flag, slice_header, slice_of, ue_or};
@@ -38,7 +39,8 @@ pub fn first_of<'a>(context: SegmentContext<'a>, is_first: bool) -> Option<&'a S
 
 /// The header of the segment of this number.
 fn header_at(segments: &[SegmentPlan], number: usize) -> Option<&SliceHeaderFields>
-    ensures { option_copied result ≡ header_of (slice_get segments.now number) }
+    ensures value { option_copied result ≡ header_of (slice_get segments.now number) }
+    ensures in_range { IfSome (header_of (slice_get segments.now number)) IsSliceHeader }
 {
     match segments.get(number) {
         None => None,
@@ -48,7 +50,8 @@ fn header_at(segments: &[SegmentPlan], number: usize) -> Option<&SliceHeaderFiel
 
 /// The header of the last slice of these segments.
 pub fn slice_header(segments: &[SegmentPlan]) -> Option<&SliceHeaderFields>
-    ensures { option_copied result ≡ slice_header segments.now }
+    ensures value { option_copied result ≡ slice_header segments.now }
+    ensures in_range { IfSome (slice_header segments.now) IsSliceHeader }
 {
     header_at(segments, last_slice(segments))
 }

@@ -3,7 +3,6 @@
 ghost use Rattle.std.specs.Prelude.{◌≡◌, ◌≤◌, IfOk, IfSome};
 ghost use Rattle.header_fields.specs.Takes.{Takes};
 ghost use Rattle.spec_formats.specs.Fields.{optional, repeated};
-ghost use Rattle.spec_reference_pictures.specs.ReferenceLists.{HasFewActive};
 ghost use Rattle.spec_slice_headers.specs.Context.{ue_or};
 ghost use Rattle.spec_slice_headers.specs.SliceFields.{inter_of};
 ghost use Rattle.spec_slice_headers.specs.InterFields.{is_b, entries_1, list_entry, modification, collocated_minus1, collocated, has_weights, inter_fields};
@@ -151,8 +150,7 @@ pub fn read_inter_fields<'a>(
     total: u32,
     is_temporal: bool,
 ) -> Result<Option<InterFields>, Refusal>
-    ensures value { Takes (λ x. x) result reader.old reader.new (inter_of slice_type pps.now total is_temporal) }
-    ensures active { IfOk result HasFewActive }
+    ensures { Takes (λ x. x) result reader.old reader.new (inter_of slice_type pps.now total is_temporal) }
 {
     if is_i(slice_type) {
         return Ok(None);

@@ -1,8 +1,9 @@
 //! The parameter sets that a slice names, and the rules on them (7.4.7.1).
 
-ghost use Rattle.std.specs.Prelude.{◌≡◌};
+ghost use Rattle.std.specs.Prelude.{◌≡◌, IfOk, IfSome};
 ghost use Rattle.std.specs.Option.{option_map};
 ghost use Rattle.spec_formats.specs.Fields.{Parses};
+ghost use Rattle.spec_header_ranges.specs.Ranges.{IsNamed};
 ghost use Rattle.spec_slice_headers.specs.NamedSets.{named_by, named_sets, is_active};
 ghost use Rattle.slice_headers.specs.Views.{context_of, named_of};
 
@@ -48,7 +49,8 @@ pub fn read_named_sets<'a>(
     is_first: bool,
     id: u32,
 ) -> Result<SliceSets<'a>, Refusal>
-    ensures { Parses named_of result (named_sets (context_of context.entry) is_first id) }
+    ensures value { Parses named_of result (named_sets (context_of context.entry) is_first id) }
+    ensures in_range { IfOk result (λ _. IfSome (named_by (context_of context.entry).sets id) IsNamed) }
 {
     let Some(named) = named_by(context.sets, id) else {
         return Err(Refusal::Fault(FaultKind::MissingSet));

@@ -1,15 +1,15 @@
 //! slice_segment_header (7.3.6.1), and where the slice segment data begin.
 
-ghost use Rattle.std.specs.Prelude.{◌≡◌, ◌<◌, ◌≤◌, ◌^◌, IfOk, IsErr, [], false, length};
+ghost use Rattle.std.specs.Prelude.{◌≡◌, ◌<◌, ◌≤◌, ◌^◌, IfOk, IfSome, [], true, length};
 ghost use Rattle.std.specs.Option.{option_copied};
-ghost use Rattle.header_types.specs.SequenceParameterSets.{max_lsb};
+ghost use Rattle.header_types.specs.SliceHeaders.{IsSliceFields, IsSliceHeader};
 ghost use Rattle.hv_base.specs.declared.field_rules.TheConstants.{SLICE_HEADER_RULES};
 ghost use Rattle.header_fields.specs.Takes.{Takes};
 ghost use Rattle.spec_formats.specs.Fields.{Parses, Reads, optional, repeated, u};
-ghost use Rattle.spec_reference_pictures.specs.ReferenceLists.{HasFewActive};
+ghost use Rattle.spec_header_ranges.specs.Ranges.{IsNamed};
 ghost use Rattle.spec_slice_headers.specs.Context.{first_of, slice_header};
+ghost use Rattle.spec_slice_headers.specs.NamedSets.{named_by};
 ghost use Rattle.spec_slice_headers.specs.SegmentHeader.{taken_fields, fields_of_slice, entry_point, entry_points, coded_extension, alignment, slice_segment_header, slice_header_of, unit_context};
-ghost use Rattle.slice_headers.specs.Ranges.{AreReferences, IsInRange};
 ghost use Rattle.slice_headers.specs.Views.{context_of, named_of};
 
 use crate::context::{SegmentContext, first_of, slice_header, ue_or};
@@ -32,7 +32,7 @@ fn taken_fields<'a, 'b>(
     context: SegmentContext<'b>,
 ) -> Result<SliceFields, Refusal>
     ensures value { Takes (λ x. x) result reader.old reader.new (taken_fields (slice_header (context_of context.entry).segments)) }
-    ensures none { (context_of context.entry).segments ≡ [] → IsErr result }
+    ensures in_range { IfSome (slice_header (context_of context.entry).segments) IsSliceHeader }
 {
     match slice_header(context.segments) {
         None => Err(Refusal::Fault(FaultKind::SliceOrder)),
@@ -50,8 +50,7 @@ fn read_fields_of_slice<'a, 'b, 'c>(
 ) -> Result<SliceFields, Refusal>
     requires few { length context.former.now.dpb < 2 ^ 32 }
     ensures value { Takes (λ x. x) result reader.old reader.new (fields_of_slice (context_of context.entry) (named_of named.entry) segment) }
-    ensures in_range { (context_of context.entry).segments ≡ [] → IfOk result (λ slice. AreReferences (max_lsb (named_of named.entry).sps) slice.references) }
-    ensures active { segment.dependent_slice_segment_flag ≡ false → IfOk result (λ slice. HasFewActive slice.inter) }
+    ensures taken { segment.dependent_slice_segment_flag ≡ true → IfSome (slice_header (context_of context.entry).segments) IsSliceHeader }
 {
     if segment.dependent_slice_segment_flag {
         return taken_fields(alloc, reader, context);
@@ -143,8 +142,8 @@ fn read_segment_header<'a, 'b>(
 ) -> Result<SliceHeaderFields, Refusal>
     requires few { length context.former.now.dpb < 2 ^ 32 }
     ensures value { Takes (λ x. x) result reader.old reader.new (slice_segment_header (context_of context.entry)) }
-    ensures in_range { (context_of context.entry).segments ≡ [] → IfOk result IsInRange }
-    ensures active { IfOk result (λ h. h.segment.dependent_slice_segment_flag ≡ false → HasFewActive h.slice.inter) }
+    ensures named { IfOk result (λ h. IfSome (named_by (context_of context.entry).sets h.segment.slice_pic_parameter_set_id) IsNamed) }
+    ensures taken { IfOk result (λ h. h.segment.dependent_slice_segment_flag ≡ true → IfSome (slice_header (context_of context.entry).segments) IsSliceHeader) }
 {
     let front = read_front(reader, context)?;
     let is_first = front.first_slice_segment_in_pic_flag;
@@ -183,7 +182,7 @@ fn read_alignment<'a>(bits: &mut BitReader<'a>) -> Result<bool, Refusal>
 /// and `SpsChanged` at the picture parameter set that it names, `SliceOrder` where no picture is open or its address
 /// isn't above the former one, `SliceType` at an intra random access point, `SliceMismatch` where it differs from the
 /// picture's first segment, `MissingReference` in the picture's first segment.
-#[tactic(auto, unfolding(spec_slice_headers::specs::SegmentHeader::slice_header_of))]
+#[tactic(auto, using(crate::proofs::Ranges::header_in_range, crate::proofs::Ranges::lsb_in_range), unfolding(spec_slice_headers::specs::SegmentHeader::slice_header_of))]
 pub fn read_slice_header(
     alloc: Global,
     nal: &Nal,
@@ -193,8 +192,7 @@ pub fn read_slice_header(
 ) -> Result<SliceHeader, Refusal>
     requires { length former.now.dpb < 2 ^ 32 }
     ensures value { Parses (λ x. x) result (slice_header_of (unit_context nal.now sets.now former.now segments.now) nal.now.rbsp) }
-    ensures in_range { segments.now ≡ [] → IfOk result IsInRange }
-    ensures active { IfOk result (λ h. h.segment.dependent_slice_segment_flag ≡ false → HasFewActive h.slice.inter) }
+    ensures first { segments.now ≡ [] → IfOk result (λ h. h.slice.references.slice_pic_order_cnt_lsb < h.kind.max_lsb) }
 {
     let payload = nal.rbsp.as_slice();
     let mut reader = FieldReader::new(payload, SLICE_HEADER_RULES);

@@ -1,5 +1,6 @@
 //! The front of a slice segment header: the fields that each segment has, up to slice_segment_address (7.3.6.1).
 
+ghost use Rattle.std.specs.Prelude.{◌≡◌, IfOk};
 ghost use Rattle.header_fields.specs.Takes.{Takes};
 ghost use Rattle.spec_formats.specs.Fields.{flag, optional};
 ghost use Rattle.spec_slice_headers.specs.SegmentStart.{front, place};
@@ -64,7 +65,8 @@ pub fn read_place<'a, 'b, 'c>(
     named: SliceSets<'c>,
     segment: SegmentFields,
 ) -> Result<SegmentFields, Refusal>
-    ensures { Takes (λ x. x) result reader.old reader.new (place (context_of context.entry) (named_of named.entry) segment) }
+    ensures value { Takes (λ x. x) result reader.old reader.new (place (context_of context.entry) (named_of named.entry) segment) }
+    ensures id { IfOk result (λ s. s.slice_pic_parameter_set_id ≡ segment.slice_pic_parameter_set_id) }
 {
     if segment.first_slice_segment_in_pic_flag {
         return Ok(segment);

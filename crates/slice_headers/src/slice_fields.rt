@@ -1,10 +1,9 @@
 //! The fields of a slice, from slice_reserved_flag to slice_loop_filter_across_slices_enabled_flag (7.3.6.1, 7.4.7.1).
 
-ghost use Rattle.std.specs.Prelude.{◌≡◌, ◌<◌, ◌≤◌, ◌^◌, IfOk, length};
+ghost use Rattle.std.specs.Prelude.{◌≡◌, ◌<◌, ◌≤◌, ◌^◌, length};
 ghost use Rattle.std.specs.Option.{option_copied};
 ghost use Rattle.header_types.specs.SequenceParameterSets.{max_lsb};
 ghost use Rattle.header_fields.specs.Takes.{Takes};
-ghost use Rattle.spec_reference_pictures.specs.ReferenceLists.{HasFewActive};
 ghost use Rattle.spec_slice_headers.specs.SliceFields.{kind_of, type_of, slice_type, temporal_flag, slice_qp, qp_delta, chroma_offset, control_of, pps_deblocking, own_deblocking, deblocking, across_slices, filter_fields, later_fields, slice_fields};
 ghost use Rattle.slice_headers.specs.Ranges.{AreReferences};
 ghost use Rattle.slice_headers.specs.Views.{context_of, filters_of, named_of};
@@ -239,10 +238,8 @@ fn read_later_fields<'a, 'b, 'c>(
     named: SliceSets<'c>,
     front: FrontFields,
 ) -> Result<SliceFields, Refusal>
-    requires references { AreReferences (max_lsb named.sps.now) front.references }
-    ensures value { Takes (λ x. x) result reader.old reader.new (later_fields (context_of context.entry) (option_copied former.entry) (named_of named.entry) front.slice_type front.pic_output_flag front.references) }
-    ensures in_range { IfOk result (λ slice. AreReferences (max_lsb (named_of named.entry).sps) slice.references) }
-    ensures active { IfOk result (λ slice. HasFewActive slice.inter) }
+    requires { AreReferences (max_lsb named.sps.now) front.references }
+    ensures { Takes (λ x. x) result reader.old reader.new (later_fields (context_of context.entry) (option_copied former.entry) (named_of named.entry) front.slice_type front.pic_output_flag front.references) }
 {
     let has_sao = named.sps.fields().sample_adaptive_offset_enabled_flag;
     let total = num_pic_total_curr(&front.references);
@@ -277,10 +274,8 @@ pub fn read_slice_fields<'a, 'b, 'c>(
     former: Option<&SliceHeaderFields>,
     named: SliceSets<'c>,
 ) -> Result<SliceFields, Refusal>
-    requires few { length context.former.now.dpb < 2 ^ 32 }
-    ensures value { Takes (λ x. x) result reader.old reader.new (slice_fields (context_of context.entry) (option_copied former.entry) (named_of named.entry)) }
-    ensures in_range { IfOk result (λ slice. AreReferences (max_lsb (named_of named.entry).sps) slice.references) }
-    ensures active { IfOk result (λ slice. HasFewActive slice.inter) }
+    requires { length context.former.now.dpb < 2 ^ 32 }
+    ensures { Takes (λ x. x) result reader.old reader.new (slice_fields (context_of context.entry) (option_copied former.entry) (named_of named.entry)) }
 {
     reader.u(named.pps.fields().num_extra_slice_header_bits)?;
     let slice_type = read_slice_type(reader, context)?;

@@ -1,7 +1,3 @@
-pub mod Values
-pub mod Headers
-pub mod PictureSets
-pub mod SequenceSets
 pub mod Segments
 pub mod Places
 pub mod Plans

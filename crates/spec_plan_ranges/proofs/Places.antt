@@ -21,8 +21,8 @@ use Rattle.spec_slice_headers.specs.NamedSets.{Named, named_by}
 use Rattle.spec_slice_headers.specs.SegmentHeader.{slice_header_of, slice_segment_header}
 use Rattle.spec_slice_headers.specs.SegmentStart.{front, is_above, later_place, place}
 use Rattle.spec_pictures.specs.Steps.{context_of, first_flag}
-use Rattle.spec_plan_ranges.proofs.Headers.{are_named, place_id, read_from}
-use Rattle.spec_plan_ranges.proofs.Values.{wanted_is}
+use Rattle.spec_header_ranges.proofs.Headers.{are_named, place_id, read_from}
+use Rattle.spec_header_ranges.proofs.Values.{wanted_is}
 
 abbrev R : FieldRules
 R = SLICE_HEADER_RULES

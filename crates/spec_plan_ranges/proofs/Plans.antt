@@ -32,8 +32,7 @@ use Rattle.spec_slice_headers.specs.NamedSets.{Named, named_by}
 use Rattle.spec_pictures.specs.Closing.{address_of, broken_from, broken_in}
 use Rattle.spec_pictures.specs.Steps.{context_of, lists_of, segment_of, with_segment}
 use Rattle.spec_plan_ranges.specs.Plans.{AreInOrder, AreReferences, BeginSlicesFrom, HaveRows, IsPlan}
-use Rattle.spec_plan_ranges.specs.Ranges.{HaveSlices}
-use Rattle.spec_plan_ranges.proofs.Headers.{IsNamed}
+use Rattle.spec_header_ranges.specs.Ranges.{HaveSlices, IsNamed}
 use Rattle.spec_plan_ranges.proofs.Places.{IsLater}
 use Rattle.spec_plan_ranges.proofs.Segments.{IsCut, cut_is, order_more, rows_are, slices_one_more}
 

@@ -33,12 +33,12 @@ use Rattle.spec_pictures.specs.Steps.{Stepped, begun, behind_read, close, closed
 use Rattle.spec_pictures.specs.Planned.{Planned, planned_end, planned_from, planned_next, planned_of}
 use Rattle.spec_pictures.proofs.HeaderFacts.{judged_reads}
 use Rattle.spec_plan_ranges.specs.Plans.{IsPlan}
-use Rattle.spec_plan_ranges.specs.Ranges.{AreSets}
-use Rattle.spec_plan_ranges.proofs.Headers.{header_in_range, named_is}
-use Rattle.spec_plan_ranges.proofs.PictureSets.{picture_set_in_range}
+use Rattle.spec_header_ranges.specs.Ranges.{AreSets}
+use Rattle.spec_header_ranges.proofs.Headers.{header_in_range, named_is}
+use Rattle.spec_header_ranges.proofs.PictureSets.{picture_set_in_range}
 use Rattle.spec_plan_ranges.proofs.Places.{first_is, later_is}
 use Rattle.spec_plan_ranges.proofs.Plans.{IsOpen, are_there, continued_is, opened_is, plan_is, slices_in_range}
-use Rattle.spec_plan_ranges.proofs.SequenceSets.{sequence_set_in_range}
+use Rattle.spec_header_ranges.proofs.SequenceSets.{sequence_set_in_range}
 
 -- what is known between two units
 record IsBetween (s : Between) : Type 0 where

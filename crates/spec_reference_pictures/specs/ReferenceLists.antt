@@ -1,5 +1,5 @@
 -- Reference picture lists (8.3.4).
-use Rattle.std.specs.Prelude.{◌≡◌, ℕ, ℤ, pos, ◌+◌, ◌%◌, ◌≤◌, ◌⊎◌, true, false, ◌==◌, List, [], ◌++◌, map, length, slice_index_or, Option, Some, None, if◌then◌else◌}
+use Rattle.std.specs.Prelude.{◌≡◌, ℕ, ℤ, pos, ◌+◌, ◌%◌, ◌⊎◌, true, false, ◌==◌, List, [], ◌++◌, map, length, slice_index_or, Option, Some, None, if◌then◌else◌}
 use Rattle.std.specs.Bool.{MatchBool}
 use Rattle.std.specs.List.{Contains, range_with_len}
 use Rattle.header_types.specs.declared.reference_pictures.DpbPicture.{DpbPicture}
@@ -63,15 +63,6 @@ list_1 (Some fields) rps dpb = list_1_of fields.num_ref_idx_l1_active_minus1 fie
 -- the lists of a slice of a picture before which the buffer has these pictures
 unfoldable pub reference_lists : SliceFields → Rps → List DpbPicture → Lists
 reference_lists slice rps dpb = record { l0 = list_0 slice.inter rps dpb; l1 = list_1 slice.inter rps dpb }
-
--- num_ref_idx_l0_active_minus1 and num_ref_idx_l1_active_minus1 in their range
-abbrev pub IsNoneOrAtMost : ℕ → Option ℕ → Type 0
-IsNoneOrAtMost greatest None = Unit {0}
-IsNoneOrAtMost greatest (Some n) = n ≤ greatest
-
-abbrev pub HasFewActive : Option InterFields → Type 0
-HasFewActive None = Unit {0}
-HasFewActive (Some fields) = (fields.num_ref_idx_l0_active_minus1 ≤ 15) × IsNoneOrAtMost 15 fields.num_ref_idx_l1_active_minus1
 
 -- an entry tells the order count of its picture in the buffer
 abbrev pub TellsOrderCount : List DpbPicture → RefEntry → Type 0

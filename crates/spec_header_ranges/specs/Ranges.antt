@@ -5,11 +5,17 @@ use Rattle.header_types.specs.PictureParameterSet.{IsPps}
 use Rattle.header_types.specs.SequenceParameterSets.{IsSps}
 use Rattle.header_types.specs.SliceHeaders.{IsSliceFields}
 use Rattle.plan_types.specs.declared.segment_plan.SegmentPlan.{SegmentPlan}
+use Rattle.spec_slice_headers.specs.NamedSets.{Named}
 
 -- accepted parameter sets that are in range
 pub record AreSets (s : Sets) : Type 0 where
   pub sps : All (λ set. IfSome set IsSps) s.sps
   pub pps : All (λ set. IfSome set IsPps) s.pps
+
+-- parameter sets that a slice names, which are in range
+pub record IsNamed (n : Named) : Type 0 where
+  pub sps : IsSps n.sps
+  pub pps : IsPps n.pps
 
 -- segments whose slices are in range
 abbrev pub HaveSlices : List SegmentPlan → Type 0

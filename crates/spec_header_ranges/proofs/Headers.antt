@@ -1,8 +1,8 @@
 -- The ranges of slice segment headers that are read.
-use Rattle.std.proofs.Common.{◌≡◌, ◌∙◌, ℕ, ◌+◌, ◌-◌, ◌^◌, ◌/◌, inl, inr, ◌<◌, ◌≤◌, ℤ, pos, negsuc, ◌+ℤ◌, ◌≤ℤ◌, Bool, true, false, ◌==◌, ◌&&◌, ◌||◌, List, length, slice_index_or, Option, Some, None, is_some, IfSome, All, Result, Ok, Err, if◌then◌else◌, refl, sym, ap, subst, arith}
+use Rattle.std.proofs.Common.{◌≡◌, ◌∙◌, ℕ, ◌+◌, ◌-◌, ◌^◌, ◌/◌, inl, inr, ◌<◌, ◌≤◌, ℤ, pos, negsuc, ◌+ℤ◌, ◌≤ℤ◌, Bool, true, false, ◌==◌, ◌&&◌, ◌||◌, List, [], ◌∷◌, length, slice_index_or, Option, Some, None, is_some, IfSome, All, Result, Ok, Err, if◌then◌else◌, refl, sym, ap, subst, arith}
 use Rattle.std.specs.Prelude.{int_le, nat_lt, slice_get}
 use Rattle.std.specs.List.{range_with_len}
-use Rattle.std.proofs.Math.Nat.{pow-le-pow_right}
+use Rattle.std.proofs.Math.Nat.{one-le-pow, pow-le-pow_right}
 use Rattle.std.proofs.lemmas.Int.{ints}
 use Rattle.std.proofs.lemmas.Bool.{and_parts, cases_lt, ltb-true, leb-true}
 use Rattle.std.proofs.lemmas.List.{get_or_past}
@@ -33,7 +33,7 @@ use Rattle.header_types.specs.declared.weights.PredWeightTable.{PredWeightTable}
 use Rattle.header_types.specs.declared.weights.RefWeights.{RefWeights}
 use Rattle.header_types.specs.PictureParameterSet.{IsDeblockingControl, IsPps, IsWithin}
 use Rattle.header_types.specs.ReferencePictures.{IsStRps}
-use Rattle.header_types.specs.SequenceParameterSets.{IsSps, IsSubLayerOrdering, highest_ordering, no_ordering}
+use Rattle.header_types.specs.SequenceParameterSets.{IsSps, IsSubLayerOrdering, highest_ordering, max_lsb, no_ordering}
 use Rattle.header_types.specs.SliceHeaders.{HasFieldsOf, IsChromaWeight, IsCollocated, IsInterFields, IsLumaWeight, IsPredWeightTable, IsReferenceFields, IsRefWeights, IsSliceDeblocking, IsSliceFields, IsSliceHeader, active_1}
 use Rattle.header_types.proofs.ReferencePictures.{IsStRps-weaker}
 use Rattle.plan_types.specs.declared.segment_plan.SegmentPlan.{SegmentPlan}
@@ -52,8 +52,8 @@ use Rattle.spec_slice_headers.specs.SegmentHeader.{aligned, alignment, taken_fie
 use Rattle.spec_slice_headers.specs.SegmentStart.{front, later_place, place}
 use Rattle.spec_slice_headers.specs.SliceFields.{Filters, chroma_offset, control_of, deblocking, filter_fields, inter_of, later_fields, own_deblocking, pps_deblocking, qp_delta, slice_fields, slice_qp}
 use Rattle.spec_slice_headers.specs.Weights.{chroma_weight, chroma_weights, entry_weights, list_weights, luma_weight, pred_weight_table, weights_at}
-use Rattle.spec_plan_ranges.specs.Ranges.{AreSets, HaveSlices}
-use Rattle.spec_plan_ranges.proofs.Values.{each_is, got_is, judged_is, no_offset, optional_is, repeated_is, ue_or_is, within}
+use Rattle.spec_header_ranges.specs.Ranges.{AreSets, HaveSlices, IsNamed}
+use Rattle.spec_header_ranges.proofs.Values.{each_is, got_is, judged_is, no_offset, optional_is, repeated_is, ue_or_is, within}
 
 -- ---- weights
 
@@ -318,10 +318,6 @@ references_are nal_type sps r is can = references_either (is_idr nal_type) sps r
 
 -- ---- the fields of a slice
 
-pub record IsNamed (n : Named) : Type 0 where
-  pub sps : IsSps n.sps
-  pub pps : IsPps n.pps
-
 slice_is : (c : Context) (former : Option SliceHeaderFields) (n : Named) (s : SliceFields) → IsNamed n → CanBe (slice_fields c former n) s → IsSliceFields s
 unfolding slice_fields later_fields
 slice_is c former n s is (
@@ -365,10 +361,14 @@ header_of_is : (segments : List SegmentPlan) (i : ℕ) (o : Option SegmentPlan) 
 header_of_is segments i None e have = tt
 header_of_is segments i (Some s) e have = got_is (λ (s : SegmentPlan). IsSliceFields s.header.slice) segments i s have e
 
-fields_either : (c : Context) (n : Named) (segment : SegmentFields) (dependent : Bool) (s : SliceFields) → IsNamed n → HaveSlices c.segments
+-- the header of the last slice of segments whose slices are in range
+slice_header_is : (segments : List SegmentPlan) → HaveSlices segments → IfSome (slice_header segments) (λ h. IsSliceFields h.slice)
+slice_header_is segments have = header_of_is segments (slice_of (last_segment segments)) (slice_get segments (slice_of (last_segment segments))) refl have
+
+fields_either : (c : Context) (n : Named) (segment : SegmentFields) (dependent : Bool) (s : SliceFields) → IsNamed n
+    → (dependent ≡ true → IfSome (slice_header c.segments) (λ h. IsSliceFields h.slice))
     → CanBe (when dependent then taken_fields (slice_header c.segments) else slice_fields c (first_of c segment.first_slice_segment_in_pic_flag) n) s → IsSliceFields s
-fields_either c n segment true s is have can =
-    taken_is c.segments (slice_header c.segments) s (header_of_is c.segments (slice_of (last_segment c.segments)) (slice_get c.segments (slice_of (last_segment c.segments))) refl have) can
+fields_either c n segment true s is have can = taken_is c.segments (slice_header c.segments) s (have refl) can
 fields_either c n segment false s is have can = slice_is c (first_of c segment.first_slice_segment_in_pic_flag) n s is can
 
 -- ---- parameter sets that are named
@@ -392,6 +392,10 @@ with_pps_is sets (Some pps) n are is e =
 pub named_is : (sets : Sets) (id : ℕ) (n : Named) → AreSets sets → named_by sets id ≡ Some n → IsNamed n
 named_is sets id n are e = with_pps_is sets (slice_index_or sets.pps id None) n are (index_or_is IsPps sets.pps id are.pps) e
 
+named_by_is : (sets : Sets) (id : ℕ) (o : Option Named) → AreSets sets → named_by sets id ≡ o → IfSome o IsNamed
+named_by_is sets id None are e = tt
+named_by_is sets id (Some n) are e = named_is sets id n are e
+
 kept_same : (m n : Named) (a b d : Bool) (e f g : Breach) → (kept a e >>= λ x. kept b f >>= λ y. kept d g >>= λ z. Ok m) ≡ Ok n → (m ≡ n) × (d ≡ true)
 kept_same m n true true true e f g is = (cc, refl)
 kept_same m n false b d e f g is = absurd cc
@@ -414,10 +418,6 @@ are_named_by c first id n (Some m) is e =
 
 pub are_named : (c : Context) (first : Bool) (id : ℕ) (n : Named) → CanBe (judged (named_sets c first id)) n → AreNamed c first id n
 are_named c first id n is = are_named_by c first id n (named_by c.sets id) refl (judged_is (named_sets c first id) n is)
-
-pub sets_named : (c : Context) (first : Bool) (id : ℕ) (n : Named) → AreSets c.sets → CanBe (judged (named_sets c first id)) n → IsNamed n
-sets_named c first id n are is =
-    named_is c.sets id n are (are_named c first id n is).sets
 
 -- ---- headers
 
@@ -458,20 +458,54 @@ lsb_within log2 le =
     let most : 2 ^ (log2 + 4) ≤ 2 ^ 16 = pow-le-pow_right (omega arith) few in
     (omega arith, omega arith)
 
-header_is : (c : Context) (h : SliceHeaderFields) → AreSets c.sets → HaveSlices c.segments → CanBe (slice_segment_header c) h → IsSliceHeader h
+-- a header that is read is in range, where the sets that it names are, and the slice that a dependent segment takes
+pub header_is : (c : Context) (h : SliceHeaderFields) → IfSome (named_by c.sets h.segment.slice_pic_parameter_set_id) IsNamed
+    → (h.segment.dependent_slice_segment_flag ≡ true → IfSome (slice_header c.segments) (λ s. IsSliceFields s.slice)) → CanBe (slice_segment_header c) h → IsSliceHeader h
 unfolding slice_segment_header
-header_is c h are have (f, f-is, (n, n-is, (segment, segment-is, (s, s-is, (points, points-is, (extension, extension-is, e)))))) =
-    let named = sets_named c f.first_slice_segment_in_pic_flag f.slice_pic_parameter_set_id n are n-is in
+header_is c h is have (f, f-is, (n, n-is, (segment, segment-is, (s, s-is, (points, points-is, (extension, extension-is, e)))))) =
+    let same = place_id c n f segment segment-is in
+    let sets = (are_named c f.first_slice_segment_in_pic_flag f.slice_pic_parameter_set_id n n-is).sets in
+    let is' : IfSome (named_by c.sets segment.slice_pic_parameter_set_id) IsNamed = rw (← e) at is in
+    let named : IsNamed n = rw (same, sets) at is' in
     let lsb = lsb_within n.sps.log2_max_pic_order_cnt_lsb_minus4 named.sps.lsb in
     let each = points_are n points points-is in
+    let have' : segment.dependent_slice_segment_flag ≡ true → IfSome (slice_header c.segments) (λ s. IsSliceFields s.slice) = rw (← e) at have in
     rw (← e) (record {
       least_max_lsb = lsb.0;
       greatest_max_lsb = lsb.1;
-      pps_id = rw (place_id c n f segment segment-is) (front_id c f f-is);
-      slice = fields_either c n segment segment.dependent_slice_segment_flag s named have s-is;
+      pps_id = rw same (front_id c f f-is);
+      slice = fields_either c n segment segment.dependent_slice_segment_flag s named have' s-is;
       some_bytes = All-weaker (λ k. (1 ≤ k) × (k ≤ 2 ^ 32)) (λ k. 1 ≤ k) (λ k h. h.0) points each;
       few_bytes = All-weaker (λ k. (1 ≤ k) × (k ≤ 2 ^ 32)) (λ k. k ≤ 2 ^ 32) (λ k h. h.1) points each;
     })
+
+-- the order count of a picture's first header
+
+lsb_either : (idr : Bool) (sps : SpsFields) (r : ReferenceFields) → CanBe (when idr then give no_references else coded_references sps) r → r.slice_pic_order_cnt_lsb < max_lsb sps
+unfolding coded_references
+lsb_either true sps r e = rw (← e) (one-le-pow (sps.log2_max_pic_order_cnt_lsb_minus4 + 4) 2 (omega arith))
+lsb_either false sps r (lsb, lsb-is, (short, short-is, (long, long-ok, e))) = rw (← e) lsb-is
+
+references_lsb : (nal_type : ℕ) (sps : SpsFields) (r : ReferenceFields) → CanBe (reference_fields nal_type sps) r → r.slice_pic_order_cnt_lsb < max_lsb sps
+unfolding reference_fields
+references_lsb nal_type sps r can = lsb_either (is_idr nal_type) sps r can
+
+slice_lsb : (c : Context) (former : Option SliceHeaderFields) (n : Named) (s : SliceFields) → CanBe (slice_fields c former n) s → s.references.slice_pic_order_cnt_lsb < max_lsb n.sps
+unfolding slice_fields later_fields
+slice_lsb c former n s (reserved, a, (type, b, (output, d, (references, references-is, (rules, g, (temporal, h, (luma, i, (chroma, j, (inter, k, (filters, l, e)))))))))) =
+    rw (← e) (references_lsb c.nal_type n.sps references references-is)
+
+own_lsb : (c : Context) (n : Named) (former : Option SliceHeaderFields) (segments : List SegmentPlan) (dependent : Bool) (s : SliceFields) → segments ≡ []
+    → CanBe (when dependent then taken_fields (slice_header segments) else slice_fields c former n) s → s.references.slice_pic_order_cnt_lsb < max_lsb n.sps
+own_lsb c n former [] true s none can = absurd can
+own_lsb c n former (first ∷ later) true s none can = absurd cc
+own_lsb c n former segments false s none can = slice_lsb c former n s can
+
+-- slice_pic_order_cnt_lsb is below MaxPicOrderCntLsb, where no segment came before
+pub first_lsb : (c : Context) (h : SliceHeaderFields) → c.segments ≡ [] → CanBe (slice_segment_header c) h → h.slice.references.slice_pic_order_cnt_lsb < h.kind.max_lsb
+unfolding slice_segment_header
+first_lsb c h none (f, f-is, (n, n-is, (segment, segment-is, (s, s-is, (points, points-is, (extension, extension-is, e)))))) =
+    rw (← e) (own_lsb c n (first_of c segment.first_slice_segment_in_pic_flag) c.segments segment.dependent_slice_segment_flag s none s-is)
 
 -- a header but for the place of its data
 pub record IsPlaced (h g : SliceHeaderFields) : Type 0 where
@@ -493,15 +527,26 @@ pub read_from : (c : Context) (payload : List ℕ) (h : SliceHeaderFields) → s
 unfolding slice_header_of
 read_from c payload h e = aligned_from payload (read SLICE_HEADER_RULES (slice_segment_header c) (bits payload)) h e
 
+-- the place of the data has no range of its own
+pub placed_is : (h : SliceHeaderFields) (at : ℕ) → IsSliceHeader h → IsSliceHeader (record (h) { data_place = at })
+placed_is h at is = record {
+  least_max_lsb = is.least_max_lsb;
+  greatest_max_lsb = is.greatest_max_lsb;
+  pps_id = is.pps_id;
+  slice = is.slice;
+  some_bytes = is.some_bytes;
+  few_bytes = is.few_bytes;
+}
+
 pub header_in_range : (c : Context) (payload : List ℕ) (h : SliceHeaderFields) → AreSets c.sets → HaveSlices c.segments → slice_header_of c payload ≡ Ok h → IsSliceHeader h
 header_in_range c payload h are have e =
     let from = read_from c payload h e in
-    let is = header_is c from.0 are have (can_be SLICE_HEADER_RULES (slice_segment_header c) (bits payload) from.1 from.0 from.2) in
-    subst IsSliceHeader from.3.is (record {
-      least_max_lsb = is.least_max_lsb;
-      greatest_max_lsb = is.greatest_max_lsb;
-      pps_id = is.pps_id;
-      slice = is.slice;
-      some_bytes = is.some_bytes;
-      few_bytes = is.few_bytes;
-    })
+    let can = can_be SLICE_HEADER_RULES (slice_segment_header c) (bits payload) from.1 from.0 from.2 in
+    let is = header_is c from.0 (named_by_is c.sets from.0.segment.slice_pic_parameter_set_id _ are refl) (λ _. slice_header_is c.segments have) can in
+    subst IsSliceHeader from.3.is (placed_is from.0 from.3.at is)
+
+pub first_lsb_in_range : (c : Context) (payload : List ℕ) (h : SliceHeaderFields) → c.segments ≡ [] → slice_header_of c payload ≡ Ok h → h.slice.references.slice_pic_order_cnt_lsb < h.kind.max_lsb
+first_lsb_in_range c payload h none e =
+    let from = read_from c payload h e in
+    let small = first_lsb c from.0 none (can_be SLICE_HEADER_RULES (slice_segment_header c) (bits payload) from.1 from.0 from.2) in
+    subst (λ (g : SliceHeaderFields). g.slice.references.slice_pic_order_cnt_lsb < g.kind.max_lsb) from.3.is small

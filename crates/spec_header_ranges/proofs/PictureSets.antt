@@ -10,7 +10,7 @@ use Rattle.spec_formats.proofs.Values.{CanBe}
 use Rattle.spec_parameter_sets.specs.PictureParameterSet.{deblocking_control, deblocking_offset, picture_parameter_set, picture_parameter_set_of}
 use Rattle.spec_parameter_sets.specs.Scaling.{scaling_list_data}
 use Rattle.spec_parameter_sets.proofs.Ranges.{data_can_be}
-use Rattle.spec_plan_ranges.proofs.Values.{no_offset, optional_is, parsed_is, within}
+use Rattle.spec_header_ranges.proofs.Values.{no_offset, optional_is, parsed_is, within}
 
 offset_is : (disabled : Bool) (z : ℤ) → CanBe (deblocking_offset disabled) z → IsWithin 6 6 z
 unfolding deblocking_offset

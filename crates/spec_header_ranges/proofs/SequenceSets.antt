@@ -23,7 +23,7 @@ use Rattle.spec_parameter_sets.specs.Scaling.{scaling_list_data}
 use Rattle.spec_parameter_sets.specs.SequenceParameterSet.{block_sizes, conformance_window, long_term_candidate, long_term_candidates, main_only, ordered_sub_layers, pcm_bit_depth, pcm_format, picture_format, present_scaling_lists, scaling_lists, sequence_parameter_set, sequence_parameter_set_of, sets_behind, short_term_ref_pic_sets, side, sub_layer_ordering, sub_layers}
 use Rattle.spec_parameter_sets.proofs.Ranges.{data_can_be}
 use Rattle.spec_reference_pictures.proofs.Sets.{can_be_near}
-use Rattle.spec_plan_ranges.proofs.Values.{optional_is, parsed_is, repeated_is, wanted_is}
+use Rattle.spec_header_ranges.proofs.Values.{optional_is, parsed_is, repeated_is, wanted_is}
 
 -- ---- the format of pictures
 

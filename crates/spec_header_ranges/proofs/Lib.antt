@@ -1,0 +1,4 @@
+pub mod Values
+pub mod Headers
+pub mod PictureSets
+pub mod SequenceSets
