@@ -2,7 +2,8 @@
 
 use crate::lines::{flag, item, number};
 use crate::weight_lines::weight_lines;
-use header_types::{Collocated, FieldList, InterFields, PpsFields, ReferenceFields, ShortTermRef};
+use header_types::{FieldList, PpsFields, ShortTermRef};
+use slice_types::{Collocated, InterFields, ReferenceFields};
 use std::io::{self, Write};
 
 /// The fields in the order of the grammar.

@@ -2,7 +2,8 @@
 
 use crate::lines::{flag, item, number};
 use crate::set_lists::short_term_set;
-use header_types::{LongTermCandidate, LongTermRef, LongTermRefs, ReferenceFields, SpsFields};
+use header_types::{LongTermCandidate, LongTermRef, SpsFields};
+use slice_types::{LongTermRefs, ReferenceFields};
 use std::io::{self, Write};
 
 /// The fields in the order of the grammar, a short-term set that stands in the header as it is derived.

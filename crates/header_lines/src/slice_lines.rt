@@ -3,10 +3,9 @@
 use crate::inter_lines::inter_lines;
 use crate::lines::{flag, item, number, signed};
 use crate::reference_lines::reference_lines;
-use header_types::{
-    PpsFields, SegmentFields, SliceDeblocking, SliceFields, SliceHeaderFields, SliceType, SpsFields,
-};
+use header_types::{PpsFields, SpsFields};
 use hv_base::{IDR_N_LP, IDR_W_RADL};
+use slice_types::{SegmentFields, SliceDeblocking, SliceFields, SliceHeaderFields, SliceType};
 use std::io::{self, Write};
 
 /// Prints the number of a slice segment's unit, and the fields of its header in the order of the grammar: those of its

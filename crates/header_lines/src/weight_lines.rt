@@ -1,7 +1,7 @@
 //! A table of prediction weights as lines (7.3.6.3).
 
 use crate::lines::{number, signed};
-use header_types::{ChromaWeight, LumaWeight, PredWeightTable, RefWeights};
+use slice_types::{ChromaWeight, LumaWeight, PredWeightTable, RefWeights};
 use std::io::{self, Write};
 
 /// The fields in the order of the grammar; those of list 1 where the list has entries.

@@ -22,23 +22,21 @@ use Rattle.header_types.specs.contracts.short_term_set.StRpsPartialEq.TheImpl as
 use Rattle.header_types.specs.contracts.sps.LongTermCandidatePartialEq.TheImpl as candidate
 use Rattle.header_types.specs.contracts.sps.SpsFieldsPartialEq.TheImpl as sps
 use Rattle.header_types.specs.contracts.reference_pictures.LongTermRefPartialEq.TheImpl as long_term
-use Rattle.header_types.specs.contracts.slice.LongTermRefsPartialEq.TheImpl as entries
-use Rattle.header_types.specs.contracts.slice.ReferenceFieldsPartialEq.TheImpl as references
 
 -- the test says exactly where values are equal
 abbrev pub IsExact : {X : Type 0} → (X → X → Bool) → Type 0
 IsExact test = (a b : _) → Decides (test a b) (a ≡ b)
 
-lists : {X : Type 0} {test : X → X → Bool} → IsExact test → IsExact (pointwise test)
+pub lists : {X : Type 0} {test : X → X → Bool} → IsExact test → IsExact (pointwise test)
 lists exact a b = slice_eq-Decides exact a b _ refl
 
-options : {X : Type 0} {test : X → X → Bool} → IsExact test → IsExact (option_eq test)
+pub options : {X : Type 0} {test : X → X → Bool} → IsExact test → IsExact (option_eq test)
 options exact None None = search rules
 options exact None (Some y) = search rules
 options exact (Some x) None = search rules
 options exact (Some x) (Some y) = let p = exact x y in search rules
 
-both : {P Q : Type 0} {x y : Bool} → Decides x P → Decides y Q → Decides (x && y) (P × Q)
+pub both : {P Q : Type 0} {x y : Bool} → Decides x P → Decides y Q → Decides (x && y) (P × Q)
 both p q = Decides-and _ _ p q
 
 profile_exact : IsExact profile.eq-value.it
@@ -100,7 +98,7 @@ pcm_exact a b = search rules
 short_term_exact : IsExact short_term.eq-value.it
 short_term_exact a b = search rules
 
-set_exact : IsExact set.eq-value.it
+pub set_exact : IsExact set.eq-value.it
 set_exact a b =
     let negative = lists short_term_exact a.negative b.negative in
     let positive = lists short_term_exact a.positive b.positive in
@@ -134,23 +132,8 @@ sps_exact a b =
     booleans_Decides a.vui_parameters_present_flag b.vui_parameters_present_flag))))))))))))))))))) in
     Decides-like _ (λ h. search rules) (λ e. search rules) parts
 
-long_term_exact : IsExact long_term.eq-value.it
+pub long_term_exact : IsExact long_term.eq-value.it
 long_term_exact a b =
     let places = options Decides-eqb a.lt_idx_sps b.lt_idx_sps in
     let cycles = options Decides-eqb a.delta_poc_msb_cycle_lt b.delta_poc_msb_cycle_lt in
     search rules
-
-entries_exact : IsExact entries.eq-value.it
-entries_exact a b =
-    let each = lists long_term_exact a.entries b.entries in
-    search rules
-
-pub references_exact : IsExact references.eq-value.it
-references_exact a b =
-    let parts =
-    both (Decides-eqb a.slice_pic_order_cnt_lsb b.slice_pic_order_cnt_lsb) (
-    both (booleans_Decides a.short_term_ref_pic_set_sps_flag b.short_term_ref_pic_set_sps_flag) (
-    both (Decides-eqb a.short_term_ref_pic_set_idx b.short_term_ref_pic_set_idx) (
-    both (set_exact a.short_term_ref_pic_set b.short_term_ref_pic_set) (
-    entries_exact a.long_term b.long_term)))) in
-    Decides-like _ (λ h. search rules) (λ e. search rules) parts

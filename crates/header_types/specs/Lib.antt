@@ -3,4 +3,3 @@ pub mod SequenceParameterSets
 pub mod Content
 pub mod Scaling
 pub mod PictureParameterSet
-pub mod SliceHeaders

@@ -8,9 +8,7 @@ use crate::profile::SubLayerProfile;
 use crate::reference_pictures::{DpbPicture, LongTermRef};
 use crate::scaling::ScalingList;
 use crate::short_term_set::{ShortTermRef, StRps};
-use crate::slice::SliceFields;
 use crate::sps::{LongTermCandidate, SpsFields, SubLayerOrdering};
-use crate::weights::RefWeights;
 
 /// A value whose clones are equal to it.
 pub trait ExactClone: Clone {
@@ -45,19 +43,11 @@ impl ExactClone for PpsFields {
     ghost exact = { Prim.search rules };
 }
 
-impl ExactClone for RefWeights {
-    ghost exact = { Prim.search rules };
-}
-
 impl ExactClone for ScalingList {
     ghost exact = { Prim.search rules };
 }
 
 impl ExactClone for ShortTermRef {
-    ghost exact = { Prim.search rules };
-}
-
-impl ExactClone for SliceFields {
     ghost exact = { Prim.search rules };
 }
 

@@ -1,5 +1,4 @@
-//! Plain types of parameter sets, slice segment headers and reference pictures (H.265 7.3, 8.3), with a field for each
-//! field of the grammar.
+//! Plain types of parameter sets and reference pictures (H.265 7.3, 8.3), with a field for each field of the grammar.
 #![tactic(auto)]
 
 mod exact_clone;
@@ -13,16 +12,13 @@ mod reference_pictures;
 mod scaling;
 mod shared;
 mod short_term_set;
-mod slice;
 mod sps;
 mod sps_ranges;
-mod substream;
-mod weights;
 
 pub use exact_clone::ExactClone;
 pub use field_list::FieldList;
 pub use former::{Former, Sets};
-pub use laws::{same_content_is_equality, same_references_are_equality};
+pub use laws::same_content_is_equality;
 pub use pps::{DeblockingControl, Pps, PpsFields};
 pub use profile::{Profile, ProfileTierLevel, SubLayerProfile};
 pub use ref_list::RefList;
@@ -32,14 +28,8 @@ pub use reference_pictures::{
 pub use scaling::{ScalingList, ScalingLists};
 pub use shared::Shared;
 pub use short_term_set::{ShortTermRef, StRps};
-pub use slice::{
-    Collocated, InterFields, LongTermRefs, PictureKind, ReferenceFields, SegmentFields,
-    SliceDeblocking, SliceFields, SliceHeader, SliceHeaderFields, SliceType,
-};
 pub use sps::{
     BlockSizes, ConformanceWindow, LongTermCandidate, PcmFormat, PictureFormat, SpsFields,
     SubLayerOrdering,
 };
 pub use sps_ranges::Sps;
-pub use substream::Substream;
-pub use weights::{ChromaWeight, LumaWeight, PredWeightTable, RefWeights};

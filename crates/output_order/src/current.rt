@@ -3,9 +3,10 @@
 ghost use Rattle.std.specs.Prelude.{◌≡◌, ◌≤◌};
 ghost use Rattle.spec_output_order.specs.CurrentPictures.{current_picture, no_output_of_prior_pics_flag};
 
-use header_types::{SliceHeaderFields, Sps};
+use header_types::Sps;
 use hv_base::CRA_NUT;
 use ref_picture_sets::begins_anew;
+use slice_types::SliceHeaderFields;
 use spec_output_order::CurrentPicture;
 
 /// What of a picture of this header, sequence parameter set and order count decides its outputs. Skipped leading pictures

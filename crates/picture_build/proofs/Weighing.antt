@@ -1,7 +1,7 @@
 -- A list of 16 weights.
 use Rattle.std.proofs.Common.{◌≡◌, ℕ, ◌<◌, List, length, get_or}
 use Rattle.std.proofs.lemmas.List.FromFn.{fill_by_all}
-use Rattle.header_types.specs.declared.weights.RefWeights.{RefWeights}
+use Rattle.slice_types.specs.declared.weights.RefWeights.{RefWeights}
 use Rattle.spec_inter_prediction.specs.declared.tables.ReferenceWeights.{ReferenceWeights}
 use Rattle.spec_inter_prediction.specs.Tables.{no_weights}
 use Rattle.spec_picture_samples.specs.Weights.{weights_at, weights_in}

@@ -1,7 +1,7 @@
 -- What the samples of the coding tree units of a picture's slices depend on (7.4.7.1).
 use Rattle.std.specs.Prelude.{◌≡◌, ◌+ℤ◌}
 use Rattle.header_types.specs.declared.pps.PpsFields.{PpsFields}
-use Rattle.header_types.specs.declared.slice.SliceFields.{SliceFields}
+use Rattle.slice_types.specs.declared.slice.SliceFields.{SliceFields}
 use Rattle.header_types.specs.declared.sps.SpsFields.{SpsFields}
 use Rattle.spec_picture_samples.specs.Format.{unit_format}
 use Rattle.spec_reconstruction.specs.declared.format.UnitFormat.{UnitFormat}

@@ -8,8 +8,9 @@ ghost use Rattle.spec_reconstruction.specs.Factors.{scaling_factors};
 ghost use Rattle.spec_reconstruction.specs.Sound.{IsFormat};
 
 use crate::factors::picture_factors;
-use header_types::{Pps, SliceFields, Sps};
+use header_types::{Pps, Sps};
 use plan_types::PicturePlan;
+use slice_types::SliceFields;
 use spec_reconstruction::{ScalingFactors, UnitFormat};
 use std::alloc::{AllocError, Global};
 

@@ -7,7 +7,7 @@ ghost use Rattle.spec_inter_prediction.specs.Weighting.{IsWeight};
 ghost use Rattle.spec_picture_samples.specs.Weights.{cb_weight, chroma_denominator, chroma_offset, chroma_weight, cr_weight, luma_denominator, luma_weight, reference_weights, slice_weighting, weight_by, weight_table, weights_at, weights_in};
 ghost use Rattle.std.specs.List.{All};
 
-use header_types::{ChromaWeight, InterFields, LumaWeight, PredWeightTable, RefWeights};
+use slice_types::{ChromaWeight, InterFields, LumaWeight, PredWeightTable, RefWeights};
 use spec_inter_prediction::{ReferenceWeights, SliceWeighting, Weight, WeightTable};
 
 /// What stands behind the last entry of a list.

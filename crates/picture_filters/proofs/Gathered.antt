@@ -6,7 +6,7 @@ use Rattle.filter_field.specs.declared.filter_place.FilterPlace.{FilterPlace}
 use Rattle.filter_field.specs.Places.{first_place}
 use Rattle.filter_field.specs.Units.{first_unit}
 use Rattle.ctu_records.specs.Tree.{Ctu}
-use Rattle.header_types.specs.declared.slice.SliceDeblocking.{SliceDeblocking}
+use Rattle.slice_types.specs.declared.slice.SliceDeblocking.{SliceDeblocking}
 use Rattle.plan_types.specs.declared.segment_plan.SegmentPlan.{SegmentPlan}
 use Rattle.plan_types.specs.declared.picture_plan.PicturePlan.{PicturePlan}
 use Rattle.spec_boundary_strengths.specs.declared.place.UnitPlace.{UnitPlace}

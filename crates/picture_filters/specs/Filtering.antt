@@ -4,7 +4,7 @@ use Rattle.ctu_records.specs.Places.{by_place}
 use Rattle.filter_field.specs.declared.filter_place.FilterPlace.{FilterPlace}
 use Rattle.filter_field.specs.Places.{FieldPlaces, places_of}
 use Rattle.filter_field.specs.Units.{FieldUnits, units_of}
-use Rattle.header_types.specs.declared.slice.SliceDeblocking.{SliceDeblocking}
+use Rattle.slice_types.specs.declared.slice.SliceDeblocking.{SliceDeblocking}
 use Rattle.plan_types.specs.declared.segment_plan.SegmentPlan.{SegmentPlan}
 use Rattle.plan_types.specs.declared.picture_plan.PicturePlan.{PicturePlan}
 use Rattle.spec_boundary_strengths.specs.declared.place.UnitPlace.{UnitPlace}

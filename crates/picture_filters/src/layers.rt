@@ -8,7 +8,7 @@ ghost use Rattle.spec_picture_filters.specs.Units.{held_offset, place_of};
 
 use crate::unit::Unit;
 use filter_field::{FilterPlace, PlaceField};
-use header_types::SliceDeblocking;
+use slice_types::SliceDeblocking;
 use spec_boundary_strengths::UnitPlace;
 use spec_deblocking::Place;
 

@@ -1,8 +1,8 @@
 //! The slices and the slice segment headers of a picture.
 
 use header_lines::print_slice_segment;
-use header_types::SliceType;
 use plan_types::{PicturePlan, SegmentPlan};
+use slice_types::SliceType;
 use std::io::{self, Write};
 
 /// Prints the fields of the picture's slice segment headers, in decoding order. An error is one of the writer.

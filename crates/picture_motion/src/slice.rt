@@ -5,9 +5,10 @@ ghost use Rattle.spec_picture_data.specs.Shapes.{picture_shape, slice_start};
 ghost use Rattle.spec_picture_motion.specs.Slices.{collocated_entry, collocation, entries_0, entries_1, is_bi_predictive, is_from_list_0, is_there, log2_parallel, max_candidates, motion_of_slice, order_of, reference_at, references, slice_motion};
 
 use crate::unit::Unit;
-use header_types::{Collocated, InterFields, Lists, Pps, RefEntry, SliceFields, SliceType};
+use header_types::{Lists, Pps, RefEntry};
 use picture_layout::slice_of;
 use plan_types::{PicturePlan, SegmentPlan};
+use slice_types::{Collocated, InterFields, SliceFields, SliceType};
 use spec_motion::{Reference, SliceMotion};
 
 /// What stands behind the last entry of a list.

@@ -5,9 +5,9 @@ use Rattle.hv_base.specs.declared.refusal.Refusal.{Refusal}
 use Rattle.header_types.specs.declared.reference_pictures.DpbPicture.{DpbPicture}
 use Rattle.header_types.specs.declared.reference_pictures.Mark.{Mark}
 use Rattle.header_types.specs.declared.reference_pictures.Rps.{Rps}
-use Rattle.header_types.specs.declared.slice.PictureKind.{PictureKind}
-use Rattle.header_types.specs.declared.slice.ReferenceFields.{ReferenceFields}
-use Rattle.header_types.specs.declared.slice.SliceHeaderFields.{SliceHeaderFields}
+use Rattle.slice_types.specs.declared.slice.PictureKind.{PictureKind}
+use Rattle.slice_types.specs.declared.slice.ReferenceFields.{ReferenceFields}
+use Rattle.slice_types.specs.declared.slice.SliceHeaderFields.{SliceHeaderFields}
 use Rattle.header_types.specs.declared.sps.SpsFields.{SpsFields}
 use Rattle.spec_reference_pictures.specs.PictureOrderCount.{begins_anew}
 use Rattle.spec_reference_pictures.specs.ReferencePictureSet.{GivesSet, is_reference, reference_picture_set}

@@ -3,7 +3,7 @@ use Rattle.std.specs.Prelude.{◌≤◌, false, List, length, ◌≡◌, IfSome}
 use Rattle.header_types.specs.declared.former.Former.{Former}
 use Rattle.header_types.specs.declared.reference_pictures.DpbPicture.{DpbPicture}
 use Rattle.header_types.specs.declared.reference_pictures.Mark.{Mark}
-use Rattle.header_types.specs.declared.slice.PictureKind.{PictureKind}
+use Rattle.slice_types.specs.declared.slice.PictureKind.{PictureKind}
 use Rattle.header_types.specs.declared.sps.SpsFields.{SpsFields}
 use Rattle.header_types.specs.SequenceParameterSets.{highest_ordering}
 use Rattle.spec_reference_pictures.specs.PictureOrderCount.{begins_anew}

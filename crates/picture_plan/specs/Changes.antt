@@ -12,7 +12,7 @@ use Rattle.plan_types.specs.declared.segment_plan.SegmentPlan.{SegmentPlan}
 use Rattle.plan_types.specs.declared.between.Between.{Between}
 use Rattle.spec_formats.specs.Fields.{Parses}
 use Rattle.spec_units.specs.Judged.{NalUnit}
-use Rattle.header_types.specs.declared.slice.SliceHeaderFields.{SliceHeaderFields}
+use Rattle.slice_types.specs.declared.slice.SliceHeaderFields.{SliceHeaderFields}
 use Rattle.spec_pictures.specs.Steps.{Stepped, begun, close, continuing, put_pps, put_sps, segment_of, sequence_end, stop_at}
 use Rattle.picture_plan.specs.Bounds.{IsWithin}
 use Rattle.picture_plan.specs.declared.change.Change.{Change}

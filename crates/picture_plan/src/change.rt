@@ -5,10 +5,11 @@ ghost use Rattle.spec_pictures.specs.Steps.{begun, drops_after};
 ghost use Rattle.picture_plan.specs.Bounds.{ChangesFew, IsBetween};
 ghost use Rattle.picture_plan.specs.Changes.{Stops, applied, next_of};
 
-use header_types::{Former, PictureKind, Pps, Shared, Sps};
+use header_types::{Former, Pps, Shared, Sps};
 use hv_base::{Fault, Limit, Refusal, Stop};
 use plan_types::{Between, PicturePlan};
 use ref_picture_sets::is_irap;
+use slice_types::PictureKind;
 use std::alloc::AllocError;
 
 /// How a unit closes the open picture.

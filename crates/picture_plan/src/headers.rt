@@ -6,11 +6,12 @@ ghost use Rattle.spec_formats.specs.Fields.{Parses};
 ghost use Rattle.spec_units.specs.Judged.{unit_of};
 ghost use Rattle.spec_pictures.specs.Steps.{first_flag, judged_header};
 
-use header_types::{Former, Sets, SliceHeader};
+use header_types::{Former, Sets};
 use hv_base::{FaultKind, LimitKind, Nal, Refusal};
 use plan_types::SegmentPlan;
 use ref_picture_sets::is_irap;
 use slice_headers::read_slice_header;
+use slice_types::SliceHeader;
 use std::alloc::Global;
 
 /// How many slice segments a picture has at most.

@@ -2,7 +2,7 @@
 
 ghost use Rattle.std.specs.Prelude.{◌≡◌, ◌<◌, ◌≤◌, ◌∷◌, [], None, Ok, true, length, IfOk};
 ghost use Rattle.std.specs.List.{count_by};
-ghost use Rattle.header_types.specs.SliceHeaders.{IsReferenceFields};
+ghost use Rattle.slice_types.specs.SliceHeaders.{IsReferenceFields};
 ghost use Rattle.spec_formats.specs.Fields.{Parses};
 ghost use Rattle.plan_types.specs.declared.between.Between.{Between};
 ghost use Rattle.spec_pictures.specs.Steps.{opening, picture_of, segment_of, slice_judged, with_order};
@@ -17,13 +17,11 @@ use crate::headers::judge_header;
 use crate::outputs::outputs_at;
 use crate::segments::segment_of;
 use crate::state::State;
-use header_types::{
-    DpbPicture, FieldList, Former, PictureKind, Pps, ReferenceFields, Rps, Sets, Shared,
-    SliceHeader, Sps,
-};
+use header_types::{DpbPicture, FieldList, Former, Pps, Rps, Sets, Shared, Sps};
 use hv_base::{FaultKind, Nal, Refusal};
 use plan_types::{Outputs, PicturePlan, SegmentPlan};
 use ref_picture_sets::{derive_rps, poc_of};
+use slice_types::{PictureKind, ReferenceFields, SliceHeader};
 use std::alloc::{AllocError, Global};
 
 /// The parameter sets that a slice names.

@@ -8,9 +8,10 @@ ghost use Rattle.spec_reference_pictures.specs.PictureOrderCount.{begins_anew};
 ghost use Rattle.spec_reference_pictures.specs.ReferencePictureSet.{is_reference};
 ghost use Rattle.picture_plan.specs.Bounds.{Fits};
 
-use header_types::{Former, Rps, SliceHeader, Sps};
+use header_types::{Former, Rps, Sps};
 use output_order::{current_picture, outputs_of};
 use plan_types::Outputs;
+use slice_types::SliceHeader;
 use std::alloc::{AllocError, Global};
 
 /// What a picture of this header and order count puts out, and what it leaves in the buffer: no more than the buffer may

@@ -6,11 +6,12 @@ ghost use Rattle.spec_units.specs.Judged.{unit_of};
 ghost use Rattle.spec_slice_headers.specs.Context.{last_segment, slice_of};
 ghost use Rattle.spec_pictures.specs.Steps.{lists_of, segment_of, slice_number};
 
-use header_types::{DpbPicture, FieldList, Lists, Rps, SliceHeader, Substream};
+use header_types::{DpbPicture, FieldList, Lists, Rps};
 use hv_base::Nal;
 use plan_types::SegmentPlan;
 use ref_picture_sets::build_lists;
 use slice_headers::substreams;
+use slice_types::{SliceHeader, Substream};
 use std::alloc::{AllocError, Global};
 
 /// A slice segment behind these of its picture, before which the buffer has these pictures, and whose reference picture

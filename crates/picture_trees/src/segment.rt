@@ -8,8 +8,9 @@ ghost use Rattle.spec_picture_data.specs.Shapes.{address_of, first_qp, qp_bd_off
 
 use crate::slice_syntax::init_type;
 use cabac_contexts::Contexts;
-use header_types::{Pps, Substream};
+use header_types::Pps;
 use plan_types::{PicturePlan, SegmentPlan};
+use slice_types::Substream;
 use std::marker::Model;
 
 /// The most bytes that a NAL unit has.

@@ -6,8 +6,9 @@ ghost use Rattle.spec_slice_data.specs.Syntax.{IsSyntax};
 ghost use Rattle.spec_picture_data.specs.Shapes.{active, in_places, init_type, init_type_of, inter_syntax, pcm_syntax, segment_syntax};
 ghost use Rattle.spec_slice_headers.specs.InterFields.{is_b};
 
-use header_types::{InterFields, PcmFormat, SliceFields, SliceType, Sps};
+use header_types::{PcmFormat, Sps};
 use plan_types::{PicturePlan, SegmentPlan};
+use slice_types::{InterFields, SliceFields, SliceType};
 use spec_slice_data::{CtuSyntax, InterSyntax, PcmSyntax};
 
 /// What the elements of all units of a segment depend on.

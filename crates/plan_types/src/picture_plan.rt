@@ -2,7 +2,8 @@
 
 use crate::outputs::Outputs;
 use crate::segment_plan::SegmentPlan;
-use header_types::{FieldList, PictureKind, Pps, Rps, Shared, Sps};
+use header_types::{FieldList, Pps, Rps, Shared, Sps};
+use slice_types::PictureKind;
 
 /// A picture whose headers are read.
 #[derive(Debug, Drop)]

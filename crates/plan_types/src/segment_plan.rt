@@ -1,7 +1,8 @@
 //! A slice segment whose header is read.
 
-use header_types::{FieldList, Lists, SliceHeader, Substream};
+use header_types::{FieldList, Lists};
 use hv_base::{Bytes, Places};
+use slice_types::{SliceHeader, Substream};
 
 /// A slice segment: its header, and its NAL unit.
 #[derive(Debug, Drop)]

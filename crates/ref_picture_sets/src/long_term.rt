@@ -7,7 +7,8 @@ ghost use Rattle.spec_reference_pictures.specs.ReferencePictureSet.{IsName, is_f
 
 use crate::picture_order_count::lsb_of;
 use crate::search::place_of;
-use header_types::{DpbPicture, FieldList, LongTermRef, LongTermRefs, PictureKind, PictureName};
+use header_types::{DpbPicture, FieldList, LongTermRef, PictureName};
+use slice_types::{LongTermRefs, PictureKind};
 use std::alloc::{AllocError, Global};
 
 /// The picture whose reference picture set is derived.

@@ -3,8 +3,8 @@
 ghost use Rattle.std.specs.Prelude.{◌≡◌, ◌<◌, ◌≤◌, pos, negsuc, ◌≤ℤ◌, ◌<ℤ◌};
 ghost use Rattle.spec_reference_pictures.specs.PictureOrderCount.{begins_anew, in_range, is_idr, is_irap, lsb_of, pic_order_cnt_msb, pic_order_cnt_val};
 
-use header_types::{PictureKind, ReferenceFields};
 use hv_base::{BLA_W_LP, CRA_NUT, FaultKind, IDR_N_LP, IDR_W_RADL};
+use slice_types::{PictureKind, ReferenceFields};
 
 /// Whether slices of this nal_unit_type are of an intra random access point (7.4.2.2).
 pub fn is_irap(nal_type: u8) -> bool

@@ -1,12 +1,11 @@
 //! Reference picture lists (8.3.4).
 
 ghost use Rattle.std.specs.Prelude.{◌≡◌, ◌+◌, ◌<◌, ◌≤◌, IfSome, Option, List, length, map, slice_index_or};
-ghost use Rattle.header_types.specs.SliceHeaders.{IsInterFields};
+ghost use Rattle.slice_types.specs.SliceHeaders.{IsInterFields};
 ghost use Rattle.spec_reference_pictures.specs.ReferenceLists.{entry_taken, in_turn, list_0, list_1, list_1_of, no_reference, order_count_at, reference_list, reference_lists, temporary_entry};
 
-use header_types::{
-    DpbPicture, FieldList, InterFields, Lists, RefEntry, RefList, Rps, SliceFields,
-};
+use header_types::{DpbPicture, FieldList, Lists, RefEntry, RefList, Rps};
+use slice_types::{InterFields, SliceFields};
 use std::marker::Model;
 
 /// The reference picture lists of a slice (8.3.4). A slice without fields of P and B slices has none, one without

@@ -10,11 +10,9 @@ use crate::long_term::{CurrentPicture, long_term_places, long_term_set};
 use crate::picture_order_count::is_irap;
 use crate::search::is_among;
 use crate::short_term_places::{reference_pocs, short_term_pocs, short_term_set};
-use header_types::{
-    DpbPicture, FieldList, LongTermRef, Mark, NamedSets, PictureKind, ReferenceFields, Rps,
-    ShortTermRef,
-};
+use header_types::{DpbPicture, FieldList, LongTermRef, Mark, NamedSets, Rps, ShortTermRef};
 use hv_base::{FaultKind, Refusal};
+use slice_types::{PictureKind, ReferenceFields};
 use std::alloc::{AllocError, Global};
 
 /// The reference picture set of a picture with these fields and this order count, where `dpb` are the pictures of the

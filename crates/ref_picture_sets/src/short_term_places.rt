@@ -8,7 +8,8 @@ ghost use Rattle.header_types.specs.declared.reference_pictures.PictureName.TheV
 use crate::long_term::{CurrentPicture, is_for};
 use crate::picture_order_count::begins_anew;
 use crate::search::{is_among, place_of};
-use header_types::{DpbPicture, FieldList, Mark, PictureKind, PictureName, ShortTermRef};
+use header_types::{DpbPicture, FieldList, Mark, PictureName, ShortTermRef};
+use slice_types::PictureKind;
 use std::alloc::{AllocError, Global};
 
 /// The order counts of the pictures that are marked as reference when the set is derived.

@@ -1,13 +1,13 @@
 //! Pictures of I slices, decoded and printed.
 
 use crate::plane_rows::print_rows;
-use header_types::SliceType;
 use hv_base::Stop;
 use picture_buffer::Bases;
 use picture_build::build_picture;
 use picture_lines::{print_coded_picture, stop_at};
 use picture_trees::ReadError;
 use plan_types::{PicturePlan, SegmentPlan};
+use slice_types::SliceType;
 use std::alloc::{AllocError, Global};
 use std::io::{self, Write};
 

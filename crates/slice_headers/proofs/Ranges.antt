@@ -1,7 +1,7 @@
 -- Slice segment headers that are read are in range.
 use Rattle.std.proofs.Common.{◌≡◌, ◌<◌, ℕ, true, [], Option, Some, None, IfSome, Ok}
-use Rattle.header_types.specs.declared.slice.SliceHeaderFields.{SliceHeaderFields}
-use Rattle.header_types.specs.SliceHeaders.{IsSliceFields, IsSliceHeader}
+use Rattle.slice_types.specs.declared.slice.SliceHeaderFields.{SliceHeaderFields}
+use Rattle.slice_types.specs.SliceHeaders.{IsSliceFields, IsSliceHeader}
 use Rattle.header_fields.specs.declared.field_reader.FieldReader.{FieldReader}
 use Rattle.header_fields.specs.Takes.{Takes}
 use Rattle.spec_formats.specs.Fields.{Header}

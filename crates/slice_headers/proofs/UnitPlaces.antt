@@ -4,7 +4,7 @@ use Rattle.std.specs.Prelude.{fold, min, nat_le, nat_lt, if◌then◌else◌}
 use Rattle.std.proofs.Math.Nat.{min-eq_left}
 use Rattle.std.proofs.lemmas.List.{at_drop_all, at_drop_more}
 use Rattle.std.proofs.lemmas.List.Sums.{count_by-le-length}
-use Rattle.header_types.specs.declared.substream.Substream.{Substream}
+use Rattle.slice_types.specs.declared.substream.Substream.{Substream}
 use Rattle.spec_slice_headers.specs.Substreams.{payload_before, put_back, range_between, range_from, ranges_from, unit_place}
 
 one_more : (place removed : ℕ) → place ≤ put_back place removed

@@ -1,6 +1,6 @@
 -- The ranges of what is read of a slice.
 use Rattle.std.specs.Prelude.{ℕ, ◌<◌, ◌≤◌, length}
-use Rattle.header_types.specs.declared.slice.ReferenceFields.{ReferenceFields}
+use Rattle.slice_types.specs.declared.slice.ReferenceFields.{ReferenceFields}
 use Rattle.header_types.specs.ReferencePictures.{IsStRps}
 
 -- the reference fields of a slice, under MaxPicOrderCntLsb

@@ -2,16 +2,17 @@
 
 ghost use Rattle.std.specs.Prelude.{◌≡◌, ◌≤◌, IfOk, IfSome, slice_get};
 ghost use Rattle.std.specs.Option.{option_copied};
-ghost use Rattle.header_types.specs.SliceHeaders.{IsSliceHeader};
+ghost use Rattle.slice_types.specs.SliceHeaders.{IsSliceHeader};
 ghost use Rattle.header_fields.specs.Takes.{Takes};
 ghost use Rattle.spec_formats.specs.Fields.{flag, optional};
 ghost use Rattle.spec_slice_headers.specs.Context.{ceil_log2, first_of, flag_or, header_of, last_address, last_segment, no_rasl_output_flag, slice_header, slice_of, ue_or};
 ghost use Rattle.slice_headers.specs.Views.{context_of};
 
 use header_fields::FieldReader;
-use header_types::{Former, Sets, SliceHeaderFields};
+use header_types::{Former, Sets};
 use hv_base::{BLA_W_LP, CRA_NUT, IDR_N_LP, Refusal};
 use plan_types::SegmentPlan;
+use slice_types::SliceHeaderFields;
 
 /// A slice segment's NAL unit, what the pictures before left to its picture, and the segments of its picture before it.
 #[derive(Clone, Copy)]

@@ -14,8 +14,9 @@ ghost use Rattle.spec_slice_headers.specs.Substreams.{
 };
 ghost use Rattle.std.specs.Prelude.{◌≡◌, ◌+◌, ◌≤◌, ◌<◌, All, IfOk, length, map, min};
 
-use header_types::{FieldList, Substream};
+use header_types::FieldList;
 use hv_base::Places;
+use slice_types::Substream;
 use std::alloc::{AllocError, Global};
 
 // How many bytes of the payload stand before a place of the unit.

@@ -11,8 +11,9 @@ use crate::context::{ceil_log2, flag_or, ue_or};
 use crate::reference_rules::is_i;
 use crate::weights::read_weights;
 use header_fields::FieldReader;
-use header_types::{Collocated, FieldList, InterFields, Pps, SliceType};
+use header_types::{FieldList, Pps};
 use hv_base::Refusal;
+use slice_types::{Collocated, InterFields, SliceType};
 use std::alloc::Global;
 
 /// Whether a slice is a B slice.

@@ -8,9 +8,9 @@ ghost use Rattle.slice_headers.specs.Ranges.{AreReferences};
 ghost use Rattle.slice_headers.specs.Views.{context_of};
 
 use crate::context::SegmentContext;
-use header_types::{PictureKind, ReferenceFields, SliceHeaderFields, SliceType};
 use hv_base::{FaultKind, Refusal};
 use ref_picture_sets::{derive_rps, num_pic_total_curr, poc_of};
+use slice_types::{PictureKind, ReferenceFields, SliceHeaderFields, SliceType};
 use std::alloc::Global;
 
 /// What is read of a slice up to its reference fields.

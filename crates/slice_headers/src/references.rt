@@ -12,11 +12,10 @@ ghost use Rattle.slice_headers.specs.Views.{short_term_of};
 
 use crate::context::{ceil_log2, ue_or};
 use header_fields::FieldReader;
-use header_types::{
-    FieldList, LongTermCandidate, LongTermRef, LongTermRefs, ReferenceFields, Sps, StRps,
-};
+use header_types::{FieldList, LongTermCandidate, LongTermRef, Sps, StRps};
 use hv_base::Refusal;
 use ref_picture_sets::{is_idr, read_st_rps};
+use slice_types::{LongTermRefs, ReferenceFields};
 use std::alloc::Global;
 
 /// Which short-term set a slice has.

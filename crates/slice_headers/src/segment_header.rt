@@ -2,7 +2,7 @@
 
 ghost use Rattle.std.specs.Prelude.{◌≡◌, ◌<◌, ◌≤◌, ◌^◌, IfOk, IfSome, [], true, length};
 ghost use Rattle.std.specs.Option.{option_copied};
-ghost use Rattle.header_types.specs.SliceHeaders.{IsSliceFields, IsSliceHeader};
+ghost use Rattle.slice_types.specs.SliceHeaders.{IsSliceFields, IsSliceHeader};
 ghost use Rattle.hv_base.specs.declared.field_rules.TheConstants.{SLICE_HEADER_RULES};
 ghost use Rattle.header_fields.specs.Takes.{Takes};
 ghost use Rattle.spec_formats.specs.Fields.{Parses, Reads, optional, repeated, u};
@@ -17,12 +17,11 @@ use crate::named_sets::{SliceSets, read_named_sets};
 use crate::segment_start::{read_front, read_place};
 use crate::slice_fields::{kind_of, read_slice_fields};
 use header_fields::FieldReader;
-use header_types::{
-    FieldList, Former, SegmentFields, Sets, SliceFields, SliceHeader, SliceHeaderFields, Sps,
-};
+use header_types::{FieldList, Former, Sets, Sps};
 use hv_base::{FaultKind, Nal, Refusal, SLICE_HEADER_RULES};
 use hv_bits::BitReader;
 use plan_types::SegmentPlan;
+use slice_types::{SegmentFields, SliceFields, SliceHeader, SliceHeaderFields};
 use std::alloc::Global;
 
 /// The fields that a dependent slice segment takes from its slice.

@@ -9,9 +9,9 @@ ghost use Rattle.slice_headers.specs.Views.{context_of, named_of};
 use crate::context::{SegmentContext, ceil_log2, first_of, flag_or, last_address};
 use crate::named_sets::SliceSets;
 use header_fields::FieldReader;
-use header_types::SegmentFields;
 use hv_base::{FaultKind, Refusal};
 use ref_picture_sets::is_irap;
+use slice_types::SegmentFields;
 
 /// A flag, where it is coded.
 fn read_optional_flag<'a>(

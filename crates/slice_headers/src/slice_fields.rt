@@ -14,12 +14,10 @@ use crate::named_sets::SliceSets;
 use crate::reference_rules::{FrontFields, judge_references};
 use crate::references::read_references;
 use header_fields::FieldReader;
-use header_types::{
-    DeblockingControl, PictureKind, Pps, SliceDeblocking, SliceFields, SliceHeaderFields,
-    SliceType, Sps,
-};
+use header_types::{DeblockingControl, Pps, Sps};
 use hv_base::{FaultKind, Refusal};
 use ref_picture_sets::{is_idr, is_irap, num_pic_total_curr};
+use slice_types::{PictureKind, SliceDeblocking, SliceFields, SliceHeaderFields, SliceType};
 use std::alloc::Global;
 
 /// What is known of the picture before its slices are read.

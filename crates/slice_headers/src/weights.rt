@@ -7,8 +7,9 @@ ghost use Rattle.spec_formats.specs.Fields.{each, flag, optional, repeated};
 ghost use Rattle.spec_slice_headers.specs.Weights.{luma_weight, chroma_weight, chroma_weights, entry_weights, weights_at, list_weights, pred_weight_table};
 
 use header_fields::FieldReader;
-use header_types::{ChromaWeight, FieldList, LumaWeight, PredWeightTable, RefWeights};
+use header_types::FieldList;
 use hv_base::Refusal;
+use slice_types::{ChromaWeight, LumaWeight, PredWeightTable, RefWeights};
 use std::alloc::Global;
 
 /// The luma weight of an entry, where its luma_weight_flag is 1.

@@ -17,24 +17,24 @@ use Rattle.header_types.specs.declared.pps.PpsFields.{PpsFields}
 use Rattle.header_types.specs.declared.sps.LongTermCandidate.{LongTermCandidate}
 use Rattle.header_types.specs.declared.sps.SpsFields.{SpsFields}
 use Rattle.header_types.specs.declared.short_term_set.StRps.{StRps}
-use Rattle.header_types.specs.declared.slice.Collocated.{Collocated}
-use Rattle.header_types.specs.declared.slice.InterFields.{InterFields}
-use Rattle.header_types.specs.declared.slice.LongTermRefs.{LongTermRefs}
-use Rattle.header_types.specs.declared.slice.ReferenceFields.{ReferenceFields}
-use Rattle.header_types.specs.declared.slice.SegmentFields.{SegmentFields}
-use Rattle.header_types.specs.declared.slice.SliceDeblocking.{SliceDeblocking}
-use Rattle.header_types.specs.declared.slice.SliceFields.{SliceFields}
-use Rattle.header_types.specs.declared.slice.SliceHeaderFields.{SliceHeaderFields}
-use Rattle.header_types.specs.declared.slice.SliceType.{SliceType}
-use Rattle.header_types.specs.declared.slice.SliceType.TheVariants as slice
-use Rattle.header_types.specs.declared.weights.ChromaWeight.{ChromaWeight}
-use Rattle.header_types.specs.declared.weights.LumaWeight.{LumaWeight}
-use Rattle.header_types.specs.declared.weights.PredWeightTable.{PredWeightTable}
-use Rattle.header_types.specs.declared.weights.RefWeights.{RefWeights}
+use Rattle.slice_types.specs.declared.slice.Collocated.{Collocated}
+use Rattle.slice_types.specs.declared.slice.InterFields.{InterFields}
+use Rattle.slice_types.specs.declared.slice.LongTermRefs.{LongTermRefs}
+use Rattle.slice_types.specs.declared.slice.ReferenceFields.{ReferenceFields}
+use Rattle.slice_types.specs.declared.slice.SegmentFields.{SegmentFields}
+use Rattle.slice_types.specs.declared.slice.SliceDeblocking.{SliceDeblocking}
+use Rattle.slice_types.specs.declared.slice.SliceFields.{SliceFields}
+use Rattle.slice_types.specs.declared.slice.SliceHeaderFields.{SliceHeaderFields}
+use Rattle.slice_types.specs.declared.slice.SliceType.{SliceType}
+use Rattle.slice_types.specs.declared.slice.SliceType.TheVariants as slice
+use Rattle.slice_types.specs.declared.weights.ChromaWeight.{ChromaWeight}
+use Rattle.slice_types.specs.declared.weights.LumaWeight.{LumaWeight}
+use Rattle.slice_types.specs.declared.weights.PredWeightTable.{PredWeightTable}
+use Rattle.slice_types.specs.declared.weights.RefWeights.{RefWeights}
 use Rattle.header_types.specs.PictureParameterSet.{IsDeblockingControl, IsPps, IsWithin}
 use Rattle.header_types.specs.ReferencePictures.{IsStRps}
 use Rattle.header_types.specs.SequenceParameterSets.{IsSps, IsSubLayerOrdering, highest_ordering, max_lsb, no_ordering}
-use Rattle.header_types.specs.SliceHeaders.{HasFieldsOf, IsChromaWeight, IsCollocated, IsInterFields, IsLumaWeight, IsPredWeightTable, IsReferenceFields, IsRefWeights, IsSliceDeblocking, IsSliceFields, IsSliceHeader, active_1}
+use Rattle.slice_types.specs.SliceHeaders.{HasFieldsOf, IsChromaWeight, IsCollocated, IsInterFields, IsLumaWeight, IsPredWeightTable, IsReferenceFields, IsRefWeights, IsSliceDeblocking, IsSliceFields, IsSliceHeader, active_1}
 use Rattle.header_types.proofs.ReferencePictures.{IsStRps-weaker}
 use Rattle.plan_types.specs.declared.segment_plan.SegmentPlan.{SegmentPlan}
 use Rattle.spec_bits.specs.Bits.{bits}

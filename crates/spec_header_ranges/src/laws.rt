@@ -2,11 +2,11 @@
 
 ghost use Rattle.std.specs.Prelude.{◌≡◌, ◌<◌, ℕ, List, [], Ok};
 ghost use Rattle.header_types.specs.declared.pps.PpsFields.{PpsFields};
-ghost use Rattle.header_types.specs.declared.slice.SliceHeaderFields.{SliceHeaderFields};
+ghost use Rattle.slice_types.specs.declared.slice.SliceHeaderFields.{SliceHeaderFields};
 ghost use Rattle.header_types.specs.declared.sps.SpsFields.{SpsFields};
 ghost use Rattle.header_types.specs.PictureParameterSet.{IsPps};
 ghost use Rattle.header_types.specs.SequenceParameterSets.{IsSps};
-ghost use Rattle.header_types.specs.SliceHeaders.{IsSliceHeader};
+ghost use Rattle.slice_types.specs.SliceHeaders.{IsSliceHeader};
 ghost use Rattle.spec_parameter_sets.specs.PictureParameterSet.{picture_parameter_set_of};
 ghost use Rattle.spec_parameter_sets.specs.SequenceParameterSet.{sequence_parameter_set_of};
 ghost use Rattle.spec_slice_headers.specs.Context.{Context};

@@ -12,9 +12,9 @@ use Rattle.header_types.specs.declared.reference_pictures.PictureName.{PictureNa
 use Rattle.header_types.specs.declared.reference_pictures.PictureName.TheVariants.{OrderCount}
 use Rattle.header_types.specs.declared.reference_pictures.Rps.{Rps}
 use Rattle.header_types.specs.declared.short_term_set.ShortTermRef.{ShortTermRef}
-use Rattle.header_types.specs.declared.slice.LongTermRefs.{LongTermRefs}
-use Rattle.header_types.specs.declared.slice.PictureKind.{PictureKind}
-use Rattle.header_types.specs.declared.slice.ReferenceFields.{ReferenceFields}
+use Rattle.slice_types.specs.declared.slice.LongTermRefs.{LongTermRefs}
+use Rattle.slice_types.specs.declared.slice.PictureKind.{PictureKind}
+use Rattle.slice_types.specs.declared.slice.ReferenceFields.{ReferenceFields}
 use Rattle.spec_reference_pictures.specs.PictureOrderCount.{begins_anew, is_irap}
 use Rattle.spec_reference_pictures.specs.ReferencePictureSet.{found_set, greatest_below, is_among, is_place, is_reference, is_sought, lacks_current, long_term_name, long_term_places, long_term_set, mark_after, named_sets, no_entry, no_picture, place_of, reference_picture_set, reference_poc, reference_pocs, short_term_poc, short_term_pocs, short_term_set}
 use Rattle.spec_output_order.proofs.Counts.{count-cons}

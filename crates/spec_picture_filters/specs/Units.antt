@@ -5,7 +5,7 @@ use Rattle.ctu_records.specs.declared.item.Item.{Item}
 use Rattle.ctu_records.specs.declared.offset.ComponentOffset.{ComponentOffset}
 use Rattle.ctu_records.specs.declared.offset.Sao.{Sao}
 use Rattle.ctu_records.specs.Tree.{Ctu}
-use Rattle.header_types.specs.declared.slice.SliceDeblocking.{SliceDeblocking}
+use Rattle.slice_types.specs.declared.slice.SliceDeblocking.{SliceDeblocking}
 use Rattle.header_types.specs.declared.sps.PcmFormat.{PcmFormat}
 use Rattle.header_types.specs.SequenceParameterSets.{height_in_ctbs}
 use Rattle.plan_types.specs.declared.segment_plan.SegmentPlan.{SegmentPlan}

@@ -4,11 +4,11 @@ use Rattle.std.specs.List.{range_with_len}
 use Rattle.header_types.specs.declared.pps.PpsFields.{PpsFields}
 use Rattle.header_types.specs.declared.reference_pictures.Lists.{Lists}
 use Rattle.header_types.specs.declared.reference_pictures.RefEntry.{RefEntry}
-use Rattle.header_types.specs.declared.slice.Collocated.{Collocated}
-use Rattle.header_types.specs.declared.slice.InterFields.{InterFields}
-use Rattle.header_types.specs.declared.slice.SliceFields.{SliceFields}
-use Rattle.header_types.specs.declared.slice.SliceType.{SliceType}
-use Rattle.header_types.specs.declared.slice.SliceType.TheVariants as slice_type
+use Rattle.slice_types.specs.declared.slice.Collocated.{Collocated}
+use Rattle.slice_types.specs.declared.slice.InterFields.{InterFields}
+use Rattle.slice_types.specs.declared.slice.SliceFields.{SliceFields}
+use Rattle.slice_types.specs.declared.slice.SliceType.{SliceType}
+use Rattle.slice_types.specs.declared.slice.SliceType.TheVariants as slice_type
 use Rattle.plan_types.specs.declared.segment_plan.SegmentPlan.{SegmentPlan}
 use Rattle.plan_types.specs.declared.picture_plan.PicturePlan.{PicturePlan}
 use Rattle.spec_motion.specs.declared.slice_motion.SliceMotion.{SliceMotion}

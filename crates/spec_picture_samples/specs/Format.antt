@@ -2,7 +2,7 @@
 use Rattle.std.specs.Prelude.{◌+◌, ◌+ℤ◌, true, false}
 use Rattle.header_types.specs.declared.sps.SpsFields.{SpsFields}
 use Rattle.header_types.specs.declared.pps.PpsFields.{PpsFields}
-use Rattle.header_types.specs.declared.slice.SliceFields.{SliceFields}
+use Rattle.slice_types.specs.declared.slice.SliceFields.{SliceFields}
 use Rattle.spec_parameter_sets.specs.PictureScaling.{picture_scaling_lists}
 use Rattle.spec_picture_data.specs.Shapes.{pcm_syntax}
 use Rattle.spec_reconstruction.specs.declared.format.UnitFormat.{UnitFormat}

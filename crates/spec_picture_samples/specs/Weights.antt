@@ -3,11 +3,11 @@ use Rattle.std.specs.Prelude.{ℕ, ◌^◌, ℤ, pos, negsuc, ◌+ℤ◌, ◌-�
 use Rattle.std.specs.Int.{int_max, int_min, int_shr}
 use Rattle.std.specs.Int.RustNames.{unsigned_abs}
 use Rattle.std.specs.List.{range_with_len}
-use Rattle.header_types.specs.declared.slice.InterFields.{InterFields}
-use Rattle.header_types.specs.declared.weights.ChromaWeight.{ChromaWeight}
-use Rattle.header_types.specs.declared.weights.LumaWeight.{LumaWeight}
-use Rattle.header_types.specs.declared.weights.PredWeightTable.{PredWeightTable}
-use Rattle.header_types.specs.declared.weights.RefWeights.{RefWeights}
+use Rattle.slice_types.specs.declared.slice.InterFields.{InterFields}
+use Rattle.slice_types.specs.declared.weights.ChromaWeight.{ChromaWeight}
+use Rattle.slice_types.specs.declared.weights.LumaWeight.{LumaWeight}
+use Rattle.slice_types.specs.declared.weights.PredWeightTable.{PredWeightTable}
+use Rattle.slice_types.specs.declared.weights.RefWeights.{RefWeights}
 use Rattle.spec_inter_prediction.specs.declared.tables.ReferenceWeights.{ReferenceWeights}
 use Rattle.spec_inter_prediction.specs.declared.tables.SliceWeighting.{SliceWeighting}
 use Rattle.spec_inter_prediction.specs.declared.tables.SliceWeighting.TheVariants.{Default, Explicit}

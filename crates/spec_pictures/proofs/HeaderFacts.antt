@@ -9,11 +9,11 @@ use Rattle.hv_base.specs.declared.field_rules.TheConstants.{SLICE_HEADER_RULES}
 use Rattle.header_types.specs.declared.former.Sets.{Sets}
 use Rattle.header_types.specs.declared.former.Former.{Former}
 use Rattle.header_types.specs.declared.reference_pictures.Rps.{Rps}
-use Rattle.header_types.specs.declared.slice.PictureKind.{PictureKind}
-use Rattle.header_types.specs.declared.slice.ReferenceFields.{ReferenceFields}
-use Rattle.header_types.specs.declared.slice.SegmentFields.{SegmentFields}
-use Rattle.header_types.specs.declared.slice.SliceHeaderFields.{SliceHeaderFields}
-use Rattle.header_types.specs.declared.slice.SliceType.{SliceType}
+use Rattle.slice_types.specs.declared.slice.PictureKind.{PictureKind}
+use Rattle.slice_types.specs.declared.slice.ReferenceFields.{ReferenceFields}
+use Rattle.slice_types.specs.declared.slice.SegmentFields.{SegmentFields}
+use Rattle.slice_types.specs.declared.slice.SliceHeaderFields.{SliceHeaderFields}
+use Rattle.slice_types.specs.declared.slice.SliceType.{SliceType}
 use Rattle.plan_types.specs.declared.segment_plan.SegmentPlan.{SegmentPlan}
 use Rattle.plan_types.specs.declared.picture_plan.PicturePlan.{PicturePlan}
 use Rattle.spec_bits.specs.Bits.{bits, flag_at}

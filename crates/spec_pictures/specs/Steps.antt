@@ -11,8 +11,8 @@ use Rattle.hv_base.specs.declared.refusal.Stop.{Stop}
 use Rattle.hv_base.specs.declared.refusal.Stop.TheVariants as stop
 use Rattle.header_types.specs.declared.sps.SpsFields.{SpsFields}
 use Rattle.header_types.specs.declared.pps.PpsFields.{PpsFields}
-use Rattle.header_types.specs.declared.slice.PictureKind.{PictureKind}
-use Rattle.header_types.specs.declared.slice.SliceHeaderFields.{SliceHeaderFields}
+use Rattle.slice_types.specs.declared.slice.PictureKind.{PictureKind}
+use Rattle.slice_types.specs.declared.slice.SliceHeaderFields.{SliceHeaderFields}
 use Rattle.header_types.specs.declared.reference_pictures.DpbPicture.{DpbPicture}
 use Rattle.header_types.specs.declared.reference_pictures.Lists.{Lists}
 use Rattle.header_types.specs.declared.reference_pictures.Rps.{Rps}

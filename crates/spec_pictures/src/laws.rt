@@ -3,7 +3,7 @@
 ghost use Rattle.std.specs.Prelude.{◌≡◌, ℕ, Bool, true, false, List, [], ◌++◌, Some, Ok};
 ghost use Rattle.header_types.specs.declared.former.Former.{Former};
 ghost use Rattle.header_types.specs.declared.former.Sets.{Sets};
-ghost use Rattle.header_types.specs.declared.slice.SliceHeaderFields.{SliceHeaderFields};
+ghost use Rattle.slice_types.specs.declared.slice.SliceHeaderFields.{SliceHeaderFields};
 ghost use Rattle.plan_types.specs.declared.picture_plan.PicturePlan.{PicturePlan};
 ghost use Rattle.spec_bits.specs.Bits.{bits};
 ghost use Rattle.spec_units.specs.Judged.{NalUnit, Told};

@@ -7,8 +7,8 @@ use Rattle.hv_base.specs.declared.field_rules.FieldRules.{FieldRules}
 use Rattle.hv_base.specs.declared.field_rules.TheConstants.{SLICE_HEADER_RULES}
 use Rattle.header_types.specs.declared.former.Sets.{Sets}
 use Rattle.header_types.specs.declared.former.Former.{Former}
-use Rattle.header_types.specs.declared.slice.SegmentFields.{SegmentFields}
-use Rattle.header_types.specs.declared.slice.SliceHeaderFields.{SliceHeaderFields}
+use Rattle.slice_types.specs.declared.slice.SegmentFields.{SegmentFields}
+use Rattle.slice_types.specs.declared.slice.SliceHeaderFields.{SliceHeaderFields}
 use Rattle.header_types.specs.SequenceParameterSets.{size_in_ctbs}
 use Rattle.spec_bits.specs.Bits.{bits, flag_at}
 use Rattle.spec_units.specs.Judged.{NalUnit}

@@ -13,13 +13,13 @@ use Rattle.header_types.specs.declared.reference_pictures.DpbPicture.{DpbPicture
 use Rattle.header_types.specs.declared.reference_pictures.Mark.TheVariants as mark
 use Rattle.header_types.specs.declared.reference_pictures.RefEntry.{RefEntry}
 use Rattle.header_types.specs.declared.reference_pictures.Rps.{Rps}
-use Rattle.header_types.specs.declared.slice.PictureKind.{PictureKind}
-use Rattle.header_types.specs.declared.slice.ReferenceFields.{ReferenceFields}
-use Rattle.header_types.specs.declared.slice.SliceHeaderFields.{SliceHeaderFields}
+use Rattle.slice_types.specs.declared.slice.PictureKind.{PictureKind}
+use Rattle.slice_types.specs.declared.slice.ReferenceFields.{ReferenceFields}
+use Rattle.slice_types.specs.declared.slice.SliceHeaderFields.{SliceHeaderFields}
 use Rattle.header_types.specs.declared.sps.SpsFields.{SpsFields}
 use Rattle.header_types.specs.PictureParameterSet.{IsPps}
 use Rattle.header_types.specs.SequenceParameterSets.{IsSps, blocks_across, ctb_size, height_in_ctbs, size_in_ctbs, width_in_ctbs}
-use Rattle.header_types.specs.SliceHeaders.{IsSliceFields, IsSliceHeader}
+use Rattle.slice_types.specs.SliceHeaders.{IsSliceFields, IsSliceHeader}
 use Rattle.plan_types.specs.declared.picture_plan.PicturePlan.{PicturePlan}
 use Rattle.plan_types.specs.declared.segment_plan.SegmentPlan.{SegmentPlan}
 use Rattle.spec_units.specs.Judged.{NalUnit}

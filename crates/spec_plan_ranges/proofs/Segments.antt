@@ -5,7 +5,7 @@ use Rattle.std.proofs.lemmas.Bool.{and_parts, eqb-true}
 use Rattle.std.proofs.lemmas.List.Elements.{All-head, All-tail}
 use Rattle.hv_base.specs.declared.fault.Fault.{Fault}
 use Rattle.hv_base.specs.declared.fault.FaultKind.TheVariants as rule
-use Rattle.header_types.specs.declared.slice.SliceHeaderFields.{SliceHeaderFields}
+use Rattle.slice_types.specs.declared.slice.SliceHeaderFields.{SliceHeaderFields}
 use Rattle.plan_types.specs.declared.segment_plan.SegmentPlan.{SegmentPlan}
 use Rattle.spec_slice_headers.specs.Context.{address_of as address_in, header_of, last_address, last_segment, slice_of}
 use Rattle.spec_slice_headers.specs.Substreams.{data_size, ranges_from, substream_ranges, unit_place}

@@ -7,7 +7,7 @@ use Rattle.std.proofs.lemmas.List.Elements.{All-append, All-contains_itself, All
 use Rattle.header_types.specs.declared.reference_pictures.DpbPicture.{DpbPicture}
 use Rattle.header_types.specs.declared.reference_pictures.RefEntry.{RefEntry}
 use Rattle.header_types.specs.declared.reference_pictures.Rps.{Rps}
-use Rattle.header_types.specs.declared.slice.InterFields.{InterFields}
+use Rattle.slice_types.specs.declared.slice.InterFields.{InterFields}
 use Rattle.spec_reference_pictures.specs.ReferenceLists.{IsCurrent, TellsOrderCount, entry_taken, in_turn, list_0, list_1, list_1_of, long_entry, no_reference, reference_list, short_entry, temporary_entry}
 
 -- all that stands in turn has what the entries of each part have

@@ -12,8 +12,8 @@ use Rattle.header_types.specs.declared.reference_pictures.LongTermRef.{LongTermR
 use Rattle.header_types.specs.declared.reference_pictures.NamedSets.{NamedSets}
 use Rattle.header_types.specs.declared.reference_pictures.Rps.{Rps}
 use Rattle.header_types.specs.declared.short_term_set.ShortTermRef.{ShortTermRef}
-use Rattle.header_types.specs.declared.slice.PictureKind.{PictureKind}
-use Rattle.header_types.specs.declared.slice.ReferenceFields.{ReferenceFields}
+use Rattle.slice_types.specs.declared.slice.PictureKind.{PictureKind}
+use Rattle.slice_types.specs.declared.slice.ReferenceFields.{ReferenceFields}
 use Rattle.spec_reference_pictures.specs.PictureOrderCount.{is_irap}
 use Rattle.spec_reference_pictures.specs.ReferencePictureSet.{found, found_set, lacks_current, long_term_places, long_term_set, named_sets, no_entry, num_pic_total_curr, reference_picture_set, short_term_pocs, short_term_set}
 

@@ -4,7 +4,7 @@ use Rattle.std.specs.Int.{int_rem_euclid}
 use Rattle.hv_base.specs.declared.fault.FaultKind.{FaultKind}
 use Rattle.hv_base.specs.declared.fault.FaultKind.TheVariants.{HeaderRange}
 use Rattle.hv_base.specs.declared.nal_types.TheConstants.{BLA_W_LP, CRA_NUT, IDR_N_LP, IDR_W_RADL}
-use Rattle.header_types.specs.declared.slice.PictureKind.{PictureKind}
+use Rattle.slice_types.specs.declared.slice.PictureKind.{PictureKind}
 
 -- whether a NAL unit of a slice is of an intra random access point: its type is from BLA_W_LP to CRA_NUT, the reserved
 -- types behind that apart (7.4.2.2)

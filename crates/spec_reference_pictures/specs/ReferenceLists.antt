@@ -6,8 +6,8 @@ use Rattle.header_types.specs.declared.reference_pictures.DpbPicture.{DpbPicture
 use Rattle.header_types.specs.declared.reference_pictures.Lists.{Lists}
 use Rattle.header_types.specs.declared.reference_pictures.RefEntry.{RefEntry}
 use Rattle.header_types.specs.declared.reference_pictures.Rps.{Rps}
-use Rattle.header_types.specs.declared.slice.InterFields.{InterFields}
-use Rattle.header_types.specs.declared.slice.SliceFields.{SliceFields}
+use Rattle.slice_types.specs.declared.slice.InterFields.{InterFields}
+use Rattle.slice_types.specs.declared.slice.SliceFields.{SliceFields}
 use Rattle.spec_reference_pictures.specs.ReferencePictureSet.{no_picture}
 
 -- PicOrderCntVal of the picture at a place of the buffer: 0 where there is none

@@ -16,9 +16,9 @@ use Rattle.header_types.specs.declared.reference_pictures.PictureName.{PictureNa
 use Rattle.header_types.specs.declared.reference_pictures.PictureName.TheVariants.{Lsb, OrderCount}
 use Rattle.header_types.specs.declared.reference_pictures.Rps.{Rps}
 use Rattle.header_types.specs.declared.short_term_set.StRps.{StRps}
-use Rattle.header_types.specs.declared.slice.LongTermRefs.{LongTermRefs}
-use Rattle.header_types.specs.declared.slice.PictureKind.{PictureKind}
-use Rattle.header_types.specs.declared.slice.ReferenceFields.{ReferenceFields}
+use Rattle.slice_types.specs.declared.slice.LongTermRefs.{LongTermRefs}
+use Rattle.slice_types.specs.declared.slice.PictureKind.{PictureKind}
+use Rattle.slice_types.specs.declared.slice.ReferenceFields.{ReferenceFields}
 use Rattle.spec_reference_pictures.specs.PictureOrderCount.{begins_anew, is_irap, lsb_of}
 
 -- NumPicTotalCurr (7-43)

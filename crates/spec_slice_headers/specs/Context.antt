@@ -5,7 +5,7 @@ use Rattle.hv_base.specs.declared.breach.Breach.{Breach}
 use Rattle.hv_base.specs.declared.breach.Breach.TheVariants as breach
 use Rattle.hv_base.specs.declared.fault.FaultKind.{FaultKind}
 use Rattle.hv_base.specs.declared.nal_types.TheConstants.{BLA_W_LP, CRA_NUT, IDR_N_LP}
-use Rattle.header_types.specs.declared.slice.SliceHeaderFields.{SliceHeaderFields}
+use Rattle.slice_types.specs.declared.slice.SliceHeaderFields.{SliceHeaderFields}
 use Rattle.header_types.specs.declared.former.Sets.{Sets}
 use Rattle.header_types.specs.declared.former.Former.{Former}
 use Rattle.plan_types.specs.declared.segment_plan.SegmentPlan.{SegmentPlan}

@@ -3,13 +3,13 @@ use Rattle.std.specs.Prelude.{ℤ, Bool, true, false, ◌||◌, Option, Result, 
 use Rattle.hv_base.specs.declared.breach.Breach.{Breach}
 use Rattle.hv_base.specs.declared.fault.FaultKind.{FaultKind}
 use Rattle.hv_base.specs.declared.fault.FaultKind.TheVariants as rule
-use Rattle.header_types.specs.declared.slice.SliceType.{SliceType}
-use Rattle.header_types.specs.declared.slice.SliceType.TheVariants as slice
-use Rattle.header_types.specs.declared.slice.PictureKind.{PictureKind}
-use Rattle.header_types.specs.declared.slice.ReferenceFields.{ReferenceFields}
-use Rattle.header_types.specs.declared.slice.SliceHeaderFields.{SliceHeaderFields}
+use Rattle.slice_types.specs.declared.slice.SliceType.{SliceType}
+use Rattle.slice_types.specs.declared.slice.SliceType.TheVariants as slice
+use Rattle.slice_types.specs.declared.slice.PictureKind.{PictureKind}
+use Rattle.slice_types.specs.declared.slice.ReferenceFields.{ReferenceFields}
+use Rattle.slice_types.specs.declared.slice.SliceHeaderFields.{SliceHeaderFields}
 use Rattle.std.specs.Bool.{beq}
-use Rattle.header_types.specs.Content.{same_references}
+use Rattle.slice_types.specs.Content.{same_references}
 use Rattle.spec_reference_pictures.specs.PictureOrderCount.{pic_order_cnt_val}
 use Rattle.spec_reference_pictures.specs.ReferencePictureSet.{reference_picture_set, num_pic_total_curr}
 use Rattle.spec_slice_headers.specs.Context.{Context, fault, ◌>>=◌, kept, agrees}

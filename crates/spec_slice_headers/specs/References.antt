@@ -4,8 +4,8 @@ use Rattle.std.specs.List.{range_with_len}
 use Rattle.header_types.specs.declared.sps.SpsFields.{SpsFields}
 use Rattle.header_types.specs.declared.sps.LongTermCandidate.{LongTermCandidate}
 use Rattle.header_types.specs.declared.short_term_set.StRps.{StRps}
-use Rattle.header_types.specs.declared.slice.LongTermRefs.{LongTermRefs}
-use Rattle.header_types.specs.declared.slice.ReferenceFields.{ReferenceFields}
+use Rattle.slice_types.specs.declared.slice.LongTermRefs.{LongTermRefs}
+use Rattle.slice_types.specs.declared.slice.ReferenceFields.{ReferenceFields}
 use Rattle.header_types.specs.declared.reference_pictures.LongTermRef.{LongTermRef}
 use Rattle.header_types.specs.SequenceParameterSets.{highest_ordering}
 use Rattle.spec_formats.specs.Format.{when◌then◌else◌}

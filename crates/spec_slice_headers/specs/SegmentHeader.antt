@@ -7,9 +7,9 @@ use Rattle.hv_base.specs.declared.nal.Nal.{Nal}
 use Rattle.header_types.specs.declared.former.Sets.{Sets}
 use Rattle.header_types.specs.declared.former.Former.{Former}
 use Rattle.plan_types.specs.declared.segment_plan.SegmentPlan.{SegmentPlan}
-use Rattle.header_types.specs.declared.slice.SegmentFields.{SegmentFields}
-use Rattle.header_types.specs.declared.slice.SliceFields.{SliceFields}
-use Rattle.header_types.specs.declared.slice.SliceHeaderFields.{SliceHeaderFields}
+use Rattle.slice_types.specs.declared.slice.SegmentFields.{SegmentFields}
+use Rattle.slice_types.specs.declared.slice.SliceFields.{SliceFields}
+use Rattle.slice_types.specs.declared.slice.SliceHeaderFields.{SliceHeaderFields}
 use Rattle.header_types.specs.SequenceParameterSets.{height_in_ctbs}
 use Rattle.spec_bits.specs.Bits.{bits}
 use Rattle.spec_bits.specs.Alignment.{aligned_at}

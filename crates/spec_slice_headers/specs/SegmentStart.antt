@@ -3,7 +3,7 @@ use Rattle.std.specs.Prelude.{ℕ, Bool, true, false, ◌||◌, ◌&&◌, Option
 use Rattle.std.specs.Bool.{beq}
 use Rattle.std.specs.Option.{option_eq}
 use Rattle.hv_base.specs.declared.fault.FaultKind.TheVariants as rule
-use Rattle.header_types.specs.declared.slice.SegmentFields.{SegmentFields}
+use Rattle.slice_types.specs.declared.slice.SegmentFields.{SegmentFields}
 use Rattle.header_types.specs.SequenceParameterSets.{size_in_ctbs}
 use Rattle.spec_formats.specs.Format.{wanted, when◌then◌else◌}
 use Rattle.spec_formats.specs.Fields.{Header, ◌>>=◌, give, ranged, u, flag, ue_to, optional}

@@ -5,14 +5,14 @@ use Rattle.hv_base.specs.declared.fault.FaultKind.TheVariants as rule
 use Rattle.header_types.specs.declared.sps.SpsFields.{SpsFields}
 use Rattle.header_types.specs.declared.pps.PpsFields.{PpsFields}
 use Rattle.header_types.specs.declared.pps.DeblockingControl.{DeblockingControl}
-use Rattle.header_types.specs.declared.slice.SliceType.{SliceType}
-use Rattle.header_types.specs.declared.slice.SliceType.TheVariants as slice
-use Rattle.header_types.specs.declared.slice.PictureKind.{PictureKind}
-use Rattle.header_types.specs.declared.slice.ReferenceFields.{ReferenceFields}
-use Rattle.header_types.specs.declared.slice.InterFields.{InterFields}
-use Rattle.header_types.specs.declared.slice.SliceDeblocking.{SliceDeblocking}
-use Rattle.header_types.specs.declared.slice.SliceFields.{SliceFields}
-use Rattle.header_types.specs.declared.slice.SliceHeaderFields.{SliceHeaderFields}
+use Rattle.slice_types.specs.declared.slice.SliceType.{SliceType}
+use Rattle.slice_types.specs.declared.slice.SliceType.TheVariants as slice
+use Rattle.slice_types.specs.declared.slice.PictureKind.{PictureKind}
+use Rattle.slice_types.specs.declared.slice.ReferenceFields.{ReferenceFields}
+use Rattle.slice_types.specs.declared.slice.InterFields.{InterFields}
+use Rattle.slice_types.specs.declared.slice.SliceDeblocking.{SliceDeblocking}
+use Rattle.slice_types.specs.declared.slice.SliceFields.{SliceFields}
+use Rattle.slice_types.specs.declared.slice.SliceHeaderFields.{SliceHeaderFields}
 use Rattle.header_types.specs.SequenceParameterSets.{max_lsb}
 use Rattle.spec_formats.specs.Format.{wanted, when◌then◌else◌}
 use Rattle.spec_formats.specs.Fields.{Header, ◌>>=◌, give, ranged, is_within, u, flag, ue_to, se, se_within, optional}

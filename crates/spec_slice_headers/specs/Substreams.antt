@@ -2,7 +2,7 @@
 -- emulation prevention bytes among them (7.4.7.1).
 use Rattle.std.specs.Prelude.{◌≡◌, ℕ, ◌+◌, ◌-◌, ◌≤◌, List, [], ◌∷◌, All, length, take, drop, map, min, fold, nat_lt, nat_le, if◌then◌else◌}
 use Rattle.std.specs.List.{count_by}
-use Rattle.header_types.specs.declared.substream.Substream.{Substream}
+use Rattle.slice_types.specs.declared.substream.Substream.{Substream}
 
 -- how many bytes of the payload stand before a place of the unit, where emulation prevention bytes stood at these places
 abbrev pub payload_before : List ℕ → ℕ → ℕ

@@ -1,10 +1,10 @@
 -- pred_weight_table (7.3.6.3, 7.4.7.3).
 use Rattle.std.specs.Prelude.{ℕ, pos, ◌+ℤ◌, Bool, false, ◌&&◌, List, int_le, slice_index_or}
 use Rattle.std.specs.List.{range_with_len}
-use Rattle.header_types.specs.declared.weights.LumaWeight.{LumaWeight}
-use Rattle.header_types.specs.declared.weights.ChromaWeight.{ChromaWeight}
-use Rattle.header_types.specs.declared.weights.RefWeights.{RefWeights}
-use Rattle.header_types.specs.declared.weights.PredWeightTable.{PredWeightTable}
+use Rattle.slice_types.specs.declared.weights.LumaWeight.{LumaWeight}
+use Rattle.slice_types.specs.declared.weights.ChromaWeight.{ChromaWeight}
+use Rattle.slice_types.specs.declared.weights.RefWeights.{RefWeights}
+use Rattle.slice_types.specs.declared.weights.PredWeightTable.{PredWeightTable}
 use Rattle.spec_formats.specs.Fields.{Header, ◌>>=◌, give, ranged, flag, ue_to, se, se_within, optional, repeated, each}
 
 unfoldable pub luma_weight : Header LumaWeight

@@ -7,8 +7,8 @@ use Rattle.std.proofs.lemmas.Bool.{ltb-false}
 use Rattle.std.proofs.lemmas.List.Elements.{All-nil, All-cons, All-append}
 use Rattle.hv_base.specs.declared.breach.Breach.{Breach}
 use Rattle.header_types.specs.declared.sps.BlockSizes.{BlockSizes}
-use Rattle.header_types.specs.declared.slice.InterFields.{InterFields}
-use Rattle.header_types.specs.declared.slice.SliceType.{SliceType}
+use Rattle.slice_types.specs.declared.slice.InterFields.{InterFields}
+use Rattle.slice_types.specs.declared.slice.SliceType.{SliceType}
 use Rattle.header_types.specs.declared.sps.PcmFormat.{PcmFormat}
 use Rattle.header_types.specs.declared.sps.SpsFields.{SpsFields}
 use Rattle.header_types.specs.SequenceParameterSets.{IsSps, IsPcmFormat, ctb_log2, max_tb_log2, max_pcm_log2, size_in_ctbs}

@@ -1,5 +1,5 @@
 use Rattle.std.proofs.Common.{rules}
-use Rattle.header_types.proofs.Copies.{slice_copied}
+use Rattle.slice_types.proofs.Copies.{slice_copied}
 use Rattle.slice_headers.proofs.segment_header.taken_fields.Goals as goal
 
 pub returns-in_ok-clone-in-Some-clause-value : goal.returns-in_ok-clone-in-Some-clause-value

@@ -2,7 +2,7 @@ use Rattle.std.proofs.Common.{rules, ◌≡◌, ◌∙◌, subst, sym}
 use Rattle.ctu_records.specs.declared.offset.Sao.{Sao}
 use Rattle.filter_field.specs.Places.{places_of}
 use Rattle.filter_field.specs.Units.{units_of}
-use Rattle.header_types.specs.declared.slice.SliceDeblocking.{SliceDeblocking}
+use Rattle.slice_types.specs.declared.slice.SliceDeblocking.{SliceDeblocking}
 use Rattle.picture_buffer.specs.Motion.{motions_of}
 use Rattle.spec_picture_filters.specs.Units.{read_added, units_laid}
 use Rattle.picture_filters.specs.Filtering.{Filtering, IsUnit, coded_part, data_of, filter_places_laid, gathered, read_place}

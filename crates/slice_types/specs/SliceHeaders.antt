@@ -1,17 +1,17 @@
 -- The ranges of a slice segment header's fields (7.4.7).
 use Rattle.std.specs.Prelude.{◌≡◌, ℕ, ◌+◌, ◌^◌, ◌<◌, ◌≤◌, pos, ◌+ℤ◌, List, true, Option, Some, None, is_some, All, IfSome, length, if◌then◌else◌}
-use Rattle.header_types.specs.declared.slice.Collocated.{Collocated}
-use Rattle.header_types.specs.declared.slice.InterFields.{InterFields}
-use Rattle.header_types.specs.declared.slice.ReferenceFields.{ReferenceFields}
-use Rattle.header_types.specs.declared.slice.SliceDeblocking.{SliceDeblocking}
-use Rattle.header_types.specs.declared.slice.SliceFields.{SliceFields}
-use Rattle.header_types.specs.declared.slice.SliceHeaderFields.{SliceHeaderFields}
-use Rattle.header_types.specs.declared.slice.SliceType.{SliceType}
-use Rattle.header_types.specs.declared.slice.SliceType.TheVariants as slice
-use Rattle.header_types.specs.declared.weights.ChromaWeight.{ChromaWeight}
-use Rattle.header_types.specs.declared.weights.LumaWeight.{LumaWeight}
-use Rattle.header_types.specs.declared.weights.PredWeightTable.{PredWeightTable}
-use Rattle.header_types.specs.declared.weights.RefWeights.{RefWeights}
+use Rattle.slice_types.specs.declared.slice.Collocated.{Collocated}
+use Rattle.slice_types.specs.declared.slice.InterFields.{InterFields}
+use Rattle.slice_types.specs.declared.slice.ReferenceFields.{ReferenceFields}
+use Rattle.slice_types.specs.declared.slice.SliceDeblocking.{SliceDeblocking}
+use Rattle.slice_types.specs.declared.slice.SliceFields.{SliceFields}
+use Rattle.slice_types.specs.declared.slice.SliceHeaderFields.{SliceHeaderFields}
+use Rattle.slice_types.specs.declared.slice.SliceType.{SliceType}
+use Rattle.slice_types.specs.declared.slice.SliceType.TheVariants as slice
+use Rattle.slice_types.specs.declared.weights.ChromaWeight.{ChromaWeight}
+use Rattle.slice_types.specs.declared.weights.LumaWeight.{LumaWeight}
+use Rattle.slice_types.specs.declared.weights.PredWeightTable.{PredWeightTable}
+use Rattle.slice_types.specs.declared.weights.RefWeights.{RefWeights}
 use Rattle.header_types.specs.PictureParameterSet.{IsWithin}
 use Rattle.header_types.specs.ReferencePictures.{IsStRps}
 

@@ -1,12 +1,10 @@
 //! Slice segment headers (7.3.6).
 
 ghost use Rattle.std.specs.Prelude.{◌≡◌};
-ghost use Rattle.header_types.specs.SliceHeaders.{IsSliceHeader};
+ghost use Rattle.slice_types.specs.SliceHeaders.{IsSliceHeader};
 
-use crate::field_list::FieldList;
-use crate::reference_pictures::LongTermRef;
-use crate::short_term_set::StRps;
 use crate::weights::PredWeightTable;
+use header_types::{FieldList, LongTermRef, StRps};
 use std::alloc::AllocError;
 use std::marker::Model;
 
@@ -148,8 +146,8 @@ pub struct SliceHeader {
 }
 
 impl Model for SliceHeader {
-    ghost use Rattle.header_types.specs.declared.slice.SliceHeaderFields.{SliceHeaderFields};
-    ghost use Rattle.header_types.specs.SliceHeaders.{IsSliceHeader};
+    ghost use Rattle.slice_types.specs.declared.slice.SliceHeaderFields.{SliceHeaderFields};
+    ghost use Rattle.slice_types.specs.SliceHeaders.{IsSliceHeader};
 
     ghost Value = { SliceHeaderFields };
 

@@ -1,9 +1,9 @@
 -- A clone of slice fields is equal to them.
 use Rattle.std.proofs.Common.{rules, ◌≡◌}
-use Rattle.header_types.specs.declared.slice.SliceFields.{SliceFields}
-use Rattle.header_types.specs.declared.slice.SliceHeaderFields.{SliceHeaderFields}
-use Rattle.header_types.specs.contracts.slice.SliceFieldsClone.TheImpl as slice
-use Rattle.header_types.specs.contracts.slice.SliceHeaderFieldsClone.TheImpl as header
+use Rattle.slice_types.specs.declared.slice.SliceFields.{SliceFields}
+use Rattle.slice_types.specs.declared.slice.SliceHeaderFields.{SliceHeaderFields}
+use Rattle.slice_types.specs.contracts.slice.SliceFieldsClone.TheImpl as slice
+use Rattle.slice_types.specs.contracts.slice.SliceHeaderFieldsClone.TheImpl as header
 
 pub slice_copied : (a b : SliceFields) → slice.is_clone-value.it a b → b ≡ a
 slice_copied a b h = search rules
