@@ -6,12 +6,13 @@ use Rattle.std.proofs.Math.Seq.{take-nil}
 use Rattle.std.proofs.lemmas.List.{append-nil}
 use Rattle.hv_base.specs.declared.outcome.Outcome.{Outcome}
 use Rattle.hv_base.specs.declared.outcome.Outcome.TheVariants as outcome
+use Rattle.hv_base.specs.declared.refusal.Stop.{Stop}
+use Rattle.hv_base.specs.declared.refusal.Stop.TheVariants as stop
 use Rattle.hv_io.specs.Streams.{IsSpent, Takes, Gains, GainsPrefix}
 use Rattle.hv_io.proofs.StreamLemmas.{GainsPrefix-front}
-use Rattle.spec_decoder.specs.Decoder.{Decoded, Continues, IsDecided, decoded, bytes_of}
+use Rattle.spec_decoder.specs.Decoder.{Decoded, Continues, decoded, bytes_of}
 use Rattle.spec_decoder.proofs.Continuing.{of_continues}
-use Rattle.spec_decoder.proofs.Deciding.{of_decided}
-use Rattle.decoder.specs.Headline.{Change, Failed, IsQuiet, GainsAll, GainsWhole, GainsCut, IsResult, IsDecoded, Headline, IsComplete}
+use Rattle.decoder.specs.Headline.{Change, Failed, IsQuiet, GainsAll, GainsWhole, GainsCut, outcome_of, IsResult, IsDecoded, Headline, IsComplete}
 use Rattle.decoder.specs.Writing.{IsAnswered}
 
 if_some : (o : Option (List ℕ)) (P Q : List ℕ → Type 0) → IfSome o P → ((b : List ℕ) → P b → Q b) → IfSome o Q
@@ -22,8 +23,16 @@ always : (o : Option (List ℕ)) (P : List ℕ → Type 0) → ((b : List ℕ) �
 always None P f = tt
 always (Some b) P f = f b
 
-undecided : (o : Outcome) (ended : Bool) (read : List ℕ) → o ≡ (decoded ended read).outcome → ¬ IsDecided o → ⊥
-undecided o ended read e n = n (subst IsDecided (sym e) (of_decided ended read))
+no_read_fault : (end : Option Stop) → outcome.ReadFault ≡ outcome_of end → ⊥
+no_read_fault None e = absurd cc
+no_read_fault (Some (stop.Fault f)) e = absurd cc
+no_read_fault (Some (stop.Limit l)) e = absurd cc
+
+-- success is that nothing stops
+not_stopped : (end : Option Stop) → outcome.Ok ≡ outcome_of end → end ≡ None
+not_stopped None e = refl
+not_stopped (Some (stop.Fault f)) e = absurd cc
+not_stopped (Some (stop.Limit l)) e = absurd cc
 
 -- of the whole input: what holds of what was read to its end
 of_ended : (before after : Option (List ℕ)) (read : List ℕ) (P : Decoded → Type 0) → Takes before after read → IsSpent after
@@ -47,7 +56,7 @@ headline_ended src out read outcome.Ok takes spent quiet a = (of_ended src.befor
 headline_ended src out read (outcome.Fault f) takes spent quiet a = (of_ended src.before src.after read (IsResult out (outcome.Fault f)) takes spent a.0, a.1)
 headline_ended src out read (outcome.Limit l) takes spent quiet a = (of_ended src.before src.after read (IsResult out (outcome.Limit l)) takes spent a.0, a.1)
 headline_ended src out read outcome.Memory takes spent quiet a = (of_ended src.before src.after read (GainsWhole out) takes spent a.0, a.1)
-headline_ended src out read outcome.ReadFault takes spent quiet a = absurd (undecided outcome.ReadFault true read a.0.0 (λ d. d))
+headline_ended src out read outcome.ReadFault takes spent quiet a = absurd (no_read_fault (decoded true read).stop a.0.0)
 headline_ended src out read outcome.WriteFault takes spent quiet a = (a.0, of_ended src.before src.after read (GainsCut out) takes spent a.1)
 
 -- the first pictures of a front are the first pictures of the whole
@@ -68,7 +77,7 @@ cut_front out short long c g = subst (GainsPrefix out.before out.after) (sym c.b
 
 -- what stopped the front is what stops the whole
 stopped_front : (out : Change) (o : Outcome) (short long : Decoded) → Continues short long → ¬ (o ≡ outcome.Ok) → IsResult out o short → IsResult out o long
-stopped_front out o short long c n g = subst (IsResult out o) (sym (c.stopped (λ e. n (g.0 ∙ e)))) g
+stopped_front out o short long c n g = subst (IsResult out o) (sym (c.stopped (λ e. n (g.0 ∙ ap outcome_of e)))) g
 
 decoded_front : (src out : Change) (read : List ℕ) (o : Outcome) → Takes src.before src.after read → ¬ (o ≡ outcome.Ok) → IsResult out o (decoded false read) → IsDecoded src out o
 decoded_front src out read o takes n g = of_front src.before src.after read (IsResult out o) takes (λ long c. stopped_front out o (decoded false read) long c n g)
@@ -80,28 +89,28 @@ headline_stopped src out read (outcome.Fault f) takes n a = (decoded_front src o
 headline_stopped src out read (outcome.Limit l) takes n a = (decoded_front src out read (outcome.Limit l) takes n a.0, a.1)
 headline_stopped src out read outcome.Memory takes n a =
     (of_front src.before src.after read (GainsWhole out) takes (λ long c. whole_front out (decoded false read) long c a.0), a.1)
-headline_stopped src out read outcome.ReadFault takes n a = absurd (undecided outcome.ReadFault false read a.0.0 (λ d. d))
+headline_stopped src out read outcome.ReadFault takes n a = absurd (no_read_fault (decoded false read).stop a.0.0)
 headline_stopped src out read outcome.WriteFault takes n a =
     (a.0, of_front src.before src.after read (GainsCut out) takes (λ long c. cut_front out (decoded false read) long c a.1))
 
 open_read : (before after : Option (List ℕ)) (out : Change) (read : List ℕ) → Takes before after read → IsResult out outcome.Ok (decoded false read)
-    → IfSome before (λ b. (r : List ℕ) × Takes before after r × GainsAll out (decoded false r) × ((decoded false r).outcome ≡ outcome.Ok))
+    → IfSome before (λ b. (r : List ℕ) × Takes before after r × GainsAll out (decoded false r) × ((decoded false r).stop ≡ None))
 open_read None after out read takes r = tt
-open_read (Some b) after out read takes r = (read, takes, r.1, sym r.0)
+open_read (Some b) after out read takes r = (read, takes, r.1, not_stopped (decoded false read).stop r.0)
 
 -- a read failed, and nothing had stopped decoding before
 pub headline_open : (src out : Change) (read : List ℕ) → Takes src.before src.after read → Failed src → IsAnswered (decoded false read) out outcome.Ok → Headline src out outcome.ReadFault
 headline_open src out read takes failed a = (failed, open_read src.before src.after out read takes a.0, a.1)
 
-decoded_or : (src out : Change) (o : Outcome) → IsDecoded src out o → IfSome src.before (λ b. (o ≡ (decoded true b).outcome) ⊎ (o ≡ outcome.Memory))
+decoded_or : (src out : Change) (o : Outcome) → IsDecoded src out o → IfSome src.before (λ b. (o ≡ outcome_of (decoded true b).stop) ⊎ (o ≡ outcome.Memory))
 decoded_or src out o d =
-    if_some src.before (λ b. IsResult out o (decoded true b)) (λ b. (o ≡ (decoded true b).outcome) ⊎ (o ≡ outcome.Memory)) d (λ b e. inl e.0)
+    if_some src.before (λ b. IsResult out o (decoded true b)) (λ b. (o ≡ outcome_of (decoded true b).stop) ⊎ (o ≡ outcome.Memory)) d (λ b e. inl e.0)
 
 -- where nothing failed, the outcome is that of sequential decoding, or there was no memory
 pub headline_complete : (src out : Change) (o : Outcome) → Headline src out o → IsComplete src out o
 headline_complete src out outcome.Ok h = λ read written. decoded_or src out outcome.Ok h.0
 headline_complete src out (outcome.Fault f) h = λ read written. decoded_or src out (outcome.Fault f) h.0
 headline_complete src out (outcome.Limit l) h = λ read written. decoded_or src out (outcome.Limit l) h.0
-headline_complete src out outcome.Memory h = λ read written. always src.before (λ b. (outcome.Memory ≡ (decoded true b).outcome) ⊎ (outcome.Memory ≡ outcome.Memory)) (λ b. inr refl)
+headline_complete src out outcome.Memory h = λ read written. always src.before (λ b. (outcome.Memory ≡ outcome_of (decoded true b).stop) ⊎ (outcome.Memory ≡ outcome.Memory)) (λ b. inr refl)
 headline_complete src out outcome.ReadFault h = λ read written. absurd (read h.0)
 headline_complete src out outcome.WriteFault h = λ read written. absurd (written h.0)

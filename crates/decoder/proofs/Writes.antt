@@ -1,6 +1,6 @@
 -- What several writes of pictures do, one after the other.
-use Rattle.std.proofs.Common.{◌≡◌, ◌⊎◌, inl, inr, ℕ, suc, ◌+◌, ◌<◌, ◌≤◌, get_or, drop, drop-cons, add-one, List, [], ◌∷◌, ◌++◌, length, take, Option, Some, None, Result, Err, refl, sym, ap, subst, ◌∙◌, append_assoc, append-nil}
-use Rattle.std.specs.Prelude.{IsErrAnd, IfErr, slice_get}
+use Rattle.std.proofs.Common.{◌≡◌, inl, inr, ℕ, suc, ◌+◌, ◌<◌, ◌≤◌, get_or, drop, drop-cons, add-one, List, [], ◌∷◌, ◌++◌, length, take, Option, Some, None, Result, Ok, Err, refl, sym, ap, subst, ◌∙◌, append_assoc, append-nil}
+use Rattle.std.specs.Prelude.{IsErrAnd, slice_get}
 use Rattle.std.proofs.lemmas.Result.{err_from_is_err_and}
 use Rattle.std.specs.List.{concat}
 use Rattle.std.proofs.lemmas.List.Folds.{concat-append}
@@ -9,19 +9,19 @@ use Rattle.std.proofs.lemmas.List.{drop_all}
 use Rattle.hv_base.specs.declared.outcome.Outcome.{Outcome}
 use Rattle.hv_base.specs.declared.outcome.Outcome.TheVariants as outcome
 use Rattle.hv_base.specs.declared.refusal.Stop.{Stop}
+use Rattle.hv_base.specs.declared.refusal.Stop.TheVariants as stop
 use Rattle.hv_io.specs.Streams.{Gains, GainsPrefix, Rose}
 use Rattle.hv_io.proofs.StreamLemmas.{Gains-nil, Gains-append, GainsPrefix-append, GainsPrefix-front}
 use Rattle.plan_types.specs.declared.picture_plan.PicturePlan.{PicturePlan}
 use Rattle.picture_plan.specs.Flights.{pictures_of}
 use Rattle.spec_picture_samples.specs.References.{DecodedPicture}
-use Rattle.spec_decoder.specs.Decoder.{Decoded, IsDecided, decoded_picture, next_out, out_at, kept_from, put_out, ended, ending, entered, behind_picture, with_picture, decoded_from, finished, bytes_of}
-use Rattle.spec_decoder.proofs.Deciding.{ending_decided, picture_decided}
-use Rattle.decoder.specs.Headline.{Change, IsQuiet, change_of}
-use Rattle.decoder.specs.Pictures.{EntersBuffer}
+use Rattle.spec_decoder.specs.Decoder.{Decoded, decoded_picture, next_out, out_at, kept_from, put_out, ended, entered, behind_picture, with_picture, decoded_from, finished, bytes_of}
+use Rattle.decoder.specs.Headline.{Change, IsQuiet, change_of, outcome_of}
+use Rattle.decoder.specs.Pictures.{EntersBuffer, IsRefused}
 use Rattle.decoder.specs.Writing.{Wrote, IsAnswered, Leaves, Passes, Ends}
 
 wrote-both : (d : Decoded) (ps qs : List (List ℕ)) → put_out ps (put_out qs d) ≡ put_out (ps ++ qs) d
-wrote-both d ps qs = ap (λ (rs : List (List ℕ)). let e : Decoded = record { pictures = rs; outcome = d.outcome } in e) (sym (append_assoc ps qs d.pictures))
+wrote-both d ps qs = ap (λ (rs : List (List ℕ)). let e : Decoded = record { pictures = rs; stop = d.stop } in e) (sym (append_assoc ps qs d.pictures))
 
 gains-behind : (a b c : Option (List ℕ)) (ps qs : List (List ℕ)) → Gains a b (concat ps) → Gains b c (concat qs) → Gains a c (concat (ps ++ qs))
 gains-behind a b c ps qs p q = subst (Gains a c) (sym (concat-append ps qs)) (Gains-append a b c (concat ps) (concat qs) p q)
@@ -38,9 +38,6 @@ drop-next items i x d lt is =
     drop-cons items i d lt
     ∙ ap (λ y. y ∷ drop (suc i) items) (sym is)
     ∙ ap (λ (n : ℕ). x ∷ drop n items) (sym (add-one i))
-
-refused_decided : (old : List DecodedPicture) (p : PicturePlan) (o : Outcome) → decoded_picture old p ≡ Err o → IsDecided o
-refused_decided old p o e = subst (λ (r : Result DecodedPicture Outcome). IfErr r IsDecided) e (picture_decided old p)
 
 -- the exit of a call that answers how decoding ended
 pub exit-is : (r : Result (Unit {0}) Outcome) (o : Outcome) → IsErrAnd r (λ y. y ≡ o) → r ≡ Err o
@@ -97,13 +94,10 @@ module _ {X : Type 0} (bytes : X → Option (List ℕ)) (faults : X → ℕ) whe
       subst (λ (x : Decoded). IsAnswered x (by a c) o) (sym p.owed) (answered-behind a b c p.pictures e o p.gained p.quiet q)
 
   -- nothing is owed but this end
-  nothing_owed : (a : X) (o : Outcome) → IsDecided o → IsAnswered (ended o) (by a a) o
-  nothing_owed a outcome.Ok decided = ((refl, Gains-nil (bytes a)), refl)
-  nothing_owed a (outcome.Fault f) decided = ((refl, Gains-nil (bytes a)), refl)
-  nothing_owed a (outcome.Limit l) decided = ((refl, Gains-nil (bytes a)), refl)
-  nothing_owed a outcome.Memory decided = absurd decided
-  nothing_owed a outcome.ReadFault decided = absurd decided
-  nothing_owed a outcome.WriteFault decided = absurd decided
+  nothing_owed : (a : X) (end : Option Stop) → IsAnswered (ended end) (by a a) (outcome_of end)
+  nothing_owed a None = ((refl, Gains-nil (bytes a)), refl)
+  nothing_owed a (Some (stop.Fault f)) = ((refl, Gains-nil (bytes a)), refl)
+  nothing_owed a (Some (stop.Limit l)) = ((refl, Gains-nil (bytes a)), refl)
 
   -- want of memory before anything is written
   no_memory : (a : X) (d : Decoded) → IsAnswered d (by a a) outcome.Memory
@@ -202,17 +196,18 @@ module _ {X : Type 0} (bytes : X → Option (List ℕ)) (faults : X → ℕ) whe
       → ((later : Decoded) → IsAnswered (put_out (out_at old places) later) (by a b) o) → (next : List DecodedPicture → Decoded) → IsAnswered (with_picture p next old) (by a b) o
   picture-before a b p old places o is w next = over-at a b old places p.outputs.before o is w (entered p next old (decoded_picture old p))
 
-  refused : (b : X) (p : PicturePlan) (old : List DecodedPicture) (o : Outcome) (next : List DecodedPicture → Decoded) → (o ≡ outcome.Memory) ⊎ (decoded_picture old p ≡ Err o)
-      → IsAnswered (entered p next old (decoded_picture old p)) (by b b) o
-  refused b p old o next (inl is) = subst (IsAnswered (entered p next old (decoded_picture old p)) (by b b)) (sym is) (no_memory b (entered p next old (decoded_picture old p)))
-  refused b p old o next (inr e) =
-      subst (λ (r : Result DecodedPicture Outcome). IsAnswered (entered p next old r) (by b b) o) (sym e) (nothing_owed b o (refused_decided old p o e))
+  refused : (b : X) (p : PicturePlan) (old : List DecodedPicture) (r : Result DecodedPicture Stop) (o : Outcome)
+      (next : List DecodedPicture → Decoded) → IsRefused r o → IsAnswered (entered p next old r) (by b b) o
+  refused b p old r o next (inl is) =
+      subst (IsAnswered (entered p next old r) (by b b)) (sym is) (no_memory b (entered p next old r))
+  refused b p old (Ok picture) o next (inr e) = absurd e
+  refused b p old (Err s) o next (inr e) = subst (IsAnswered (ended (Some s)) (by b b)) (sym e) (nothing_owed b (Some s))
 
   -- something is broken or met in it, or there was no memory
-  pub picture-refused : (a b : X) (p : PicturePlan) (old : List DecodedPicture) (o : Outcome) → Before a b p old → (o ≡ outcome.Memory) ⊎ (decoded_picture old p ≡ Err o)
+  pub picture-refused : (a b : X) (p : PicturePlan) (old : List DecodedPicture) (o : Outcome) → Before a b p old → IsRefused (decoded_picture old p) o
       → (next : List DecodedPicture → Decoded) → IsAnswered (with_picture p next old) (by a b) o
   picture-refused a b p old o before e next =
-      answered-then a b b (with_picture p next old) (entered p next old (decoded_picture old p)) o (before (entered p next old (decoded_picture old p))) (refused b p old o next e)
+      answered-then a b b (with_picture p next old) (entered p next old (decoded_picture old p)) o (before (entered p next old (decoded_picture old p))) (refused b p old (decoded_picture old p) o next e)
 
   -- decoding ended in what goes out behind it
   pub picture-behind : (a b c : X) (p : PicturePlan) (old mid : List DecodedPicture) (behind : List ℕ) (o : Outcome) → Before a b p old → EntersBuffer old mid (decoded_picture old p)
@@ -285,16 +280,16 @@ module _ {X : Type 0} (bytes : X → Option (List ℕ)) (faults : X → ℕ) whe
 
   -- the pictures that go out at the input's end are written
   pub end-written : (a b : X) (buffer : List DecodedPicture) (last : List ℕ) (end : Option Stop)
-      → ((later : Decoded) → Wrote (by a b) (put_out (out_at buffer last) later) later) → IsAnswered (finished last end buffer) (by a b) (ending end)
+      → ((later : Decoded) → Wrote (by a b) (put_out (out_at buffer last) later) later) → IsAnswered (finished last end buffer) (by a b) (outcome_of end)
   end-written a b buffer last end w =
-      let later : Decoded = ended (ending end) in
-      subst (λ (ps : List (List ℕ)). IsAnswered (record { pictures = ps; outcome = ending end }) (by a b) (ending end)) (append-nil (out_at buffer last))
-      (answered-then a b b (put_out (out_at buffer last) later) later (ending end) (w later) (nothing_owed b (ending end) (ending_decided end)))
+      let later : Decoded = ended end in
+      subst (λ (ps : List (List ℕ)). IsAnswered (record { pictures = ps; stop = end }) (by a b) (outcome_of end)) (append-nil (out_at buffer last))
+      (answered-then a b b (put_out (out_at buffer last) later) later (outcome_of end) (w later) (nothing_owed b end))
 
   pub end-over : (a b : X) (buffer : List DecodedPicture) (last : List ℕ) (end : Option Stop) (o : Outcome)
       → ((later : Decoded) → IsAnswered (put_out (out_at buffer last) later) (by a b) o) → IsAnswered (finished last end buffer) (by a b) o
   end-over a b buffer last end o w =
-      subst (λ (ps : List (List ℕ)). IsAnswered (record { pictures = ps; outcome = ending end }) (by a b) o) (append-nil (out_at buffer last)) (w (ended (ending end)))
+      subst (λ (ps : List (List ℕ)). IsAnswered (record { pictures = ps; stop = end }) (by a b) o) (append-nil (out_at buffer last)) (w (ended end))
 
   -- the last pictures are decoded
   pub last-written : (a b c : X) (pictures : List PicturePlan) (old new : List DecodedPicture) (end : List DecodedPicture → Decoded) (o : Outcome)

@@ -1,11 +1,19 @@
 -- What a run owes: the pictures of sequential decoding up to the first broken rule or stated limit, and that rule or
 -- limit; less only for want of memory or a counted read or write fault.
-use Rattle.std.specs.Prelude.{◌≡◌, ℕ, true, false, List, take, Option, IfSome, ◌⊎◌}
+use Rattle.std.specs.Prelude.{◌≡◌, ℕ, true, false, List, take, Option, Some, None, IfSome, ◌⊎◌}
 use Rattle.std.specs.List.{concat}
 use Rattle.hv_base.specs.declared.outcome.Outcome.{Outcome}
 use Rattle.hv_base.specs.declared.outcome.Outcome.TheVariants as outcome
+use Rattle.hv_base.specs.declared.refusal.Stop.{Stop}
+use Rattle.hv_base.specs.declared.refusal.Stop.TheVariants as stop
 use Rattle.hv_io.specs.Streams.{Rose, IsSpent, Takes, Gains, GainsPrefix}
 use Rattle.spec_decoder.specs.Decoder.{Decoded, decoded, bytes_of}
+
+-- the outcome of a stream: success where nothing stops it, and else the broken rule or the limit that does
+abbrev pub outcome_of : Option Stop → Outcome
+outcome_of None = outcome.Ok
+outcome_of (Some (stop.Fault f)) = outcome.Fault f
+outcome_of (Some (stop.Limit l)) = outcome.Limit l
 
 -- what a source or a sink tells, its bytes and its count of faults, before and after a run
 pub record Change : Type 0 where
@@ -41,7 +49,7 @@ GainsCut out d = GainsPrefix out.before out.after (bytes_of d)
 
 -- the outcome is that of what is decoded, and the sink gained all its bytes
 abbrev pub IsResult : Change → Outcome → Decoded → Type 0
-IsResult out o d = (o ≡ d.outcome) × GainsAll out d
+IsResult out o d = (o ≡ outcome_of d.stop) × GainsAll out d
 
 -- where the source told its bytes, the outcome and the bytes that the sink gained are those of sequential decoding
 abbrev pub IsDecoded : Change → Change → Outcome → Type 0
@@ -51,7 +59,7 @@ IsDecoded src out o = IfSome src.before (λ b. IsResult out o (decoded true b))
 -- goes on; they break no rule and meet no limit
 abbrev pub IsOpen : Change → Change → Type 0
 IsOpen src out =
-    IfSome src.before (λ b. (read : List ℕ) × Takes src.before src.after read × GainsAll out (decoded false read) × ((decoded false read).outcome ≡ outcome.Ok))
+    IfSome src.before (λ b. (read : List ℕ) × Takes src.before src.after read × GainsAll out (decoded false read) × ((decoded false read).stop ≡ None))
 
 -- where the source told its bytes, the sink gained a prefix of what is owed
 abbrev pub IsCut : Change → Change → Type 0
@@ -72,4 +80,4 @@ Headline src out outcome.WriteFault = Failed out × IsCut src out
 
 -- where neither count rose, the outcome is that of sequential decoding, or there was no memory
 abbrev pub IsComplete : Change → Change → Outcome → Type 0
-IsComplete src out o = ¬ Failed src → ¬ Failed out → IfSome src.before (λ b. (o ≡ (decoded true b).outcome) ⊎ (o ≡ outcome.Memory))
+IsComplete src out o = ¬ Failed src → ¬ Failed out → IfSome src.before (λ b. (o ≡ outcome_of (decoded true b).stop) ⊎ (o ≡ outcome.Memory))

@@ -5,7 +5,8 @@ ghost use Rattle.picture_build.specs.Pictures.{buffer_of};
 ghost use Rattle.spec_decoder.specs.Decoder.{decoded_picture, told_by};
 ghost use Rattle.decoder.specs.Pictures.{DecodesAs, IsTold};
 
-use hv_base::{Breach, Fault, Limit, Outcome};
+use crate::writing::outcome_of;
+use hv_base::{Breach, Fault, Limit, Outcome, Stop};
 use picture_buffer::{Bases, Picture};
 use picture_build::build_picture;
 use picture_trees::ReadError;
@@ -25,30 +26,30 @@ pub(crate) fn decode_picture(
 {
     match build_picture(alloc, picture, bases, spare) {
         Ok(decoded) => Ok(decoded),
-        Err(error) => Err(outcome_of(error)),
+        Err(error) => Err(told(error)),
     }
 }
 
 /// How decoding ends where the data of a picture weren't read to their end.
-fn outcome_of(error: ReadError) -> Outcome
+fn told(error: ReadError) -> Outcome
     ensures { IsTold error result }
 {
     match error {
         ReadError::Memory => Outcome::Memory,
-        ReadError::Broken { breach, nal, ctu } => broken_at(nal, ctu, breach),
+        ReadError::Broken { breach, nal, ctu } => outcome_of(Some(stop_at(nal, ctu, breach))),
     }
 }
 
 /// What the data of a NAL unit break or meet, at a coding tree unit.
-fn broken_at(nal: u32, ctu: u32, breach: Breach) -> Outcome
+fn stop_at(nal: u32, ctu: u32, breach: Breach) -> Stop
     ensures { result ≡ told_by nal ctu breach }
 {
     match breach {
-        Breach::Fault(kind) => Outcome::Fault(Fault {
+        Breach::Fault(kind) => Stop::Fault(Fault {
             kind,
             nal,
             ctu: Some(ctu),
         }),
-        Breach::Limit(kind) => Outcome::Limit(Limit { kind, nal }),
+        Breach::Limit(kind) => Stop::Limit(Limit { kind, nal }),
     }
 }

@@ -3,8 +3,8 @@
 ghost use Rattle.std.specs.Prelude.{◌≡◌};
 ghost use Rattle.picture_build.specs.Pictures.{buffer_of};
 ghost use Rattle.picture_plan.specs.Flights.{pictures_of};
-ghost use Rattle.spec_decoder.specs.Decoder.{decoded_from, ending, finished};
-ghost use Rattle.decoder.specs.Headline.{change_of};
+ghost use Rattle.spec_decoder.specs.Decoder.{decoded_from, finished};
+ghost use Rattle.decoder.specs.Headline.{change_of, outcome_of};
 ghost use Rattle.decoder.specs.Writing.{IsAnswered, TakesPicture, WritesFirst};
 
 use crate::buffer::Buffer;
@@ -28,14 +28,14 @@ fn write_end<O: Sink>(last: &[u32], stop: Option<Stop>, buffer: &Buffer, out: &m
     ensures { IsAnswered (finished last.now stop (buffer_of buffer.now)) (change_of O.contents O.faults out.old out.new) result }
 {
     match buffer.write(last, out) {
-        Ok(()) => ending(stop),
+        Ok(()) => outcome_of(stop),
         Err(outcome) => outcome,
     }
 }
 
-/// How decoding ends behind all pictures, where this stops the stream.
-fn ending(stop: Option<Stop>) -> Outcome
-    ensures { result ≡ ending stop }
+/// How decoding ends where this stops the stream.
+pub(crate) fn outcome_of(stop: Option<Stop>) -> Outcome
+    ensures { result ≡ outcome_of stop }
 {
     match stop {
         None => Outcome::Ok,

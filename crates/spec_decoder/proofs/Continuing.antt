@@ -3,8 +3,6 @@ use Rattle.std.proofs.Common.{◌≡◌, ℕ, Bool, false, List, [], ◌∷◌, 
 use Rattle.std.specs.List.{concat}
 use Rattle.std.proofs.lemmas.List.{append-nil}
 use Rattle.std.proofs.lemmas.List.Folds.{concat-append}
-use Rattle.hv_base.specs.declared.outcome.Outcome.{Outcome}
-use Rattle.hv_base.specs.declared.outcome.Outcome.TheVariants as outcome
 use Rattle.hv_base.specs.declared.refusal.Stop.{Stop}
 use Rattle.plan_types.specs.declared.between.Between.{Between}
 use Rattle.plan_types.specs.declared.picture_plan.PicturePlan.{PicturePlan}
@@ -17,7 +15,7 @@ use Rattle.spec_picture_samples.specs.References.{DecodedPicture}
 use Rattle.spec_decoder.specs.Decoder.{Decoded, Continues, decoded_picture, out_at, kept_from, put_out, ended, entered, with_picture, decoded_from, finished, decoded_plan, decoded}
 
 -- the bytes follow from the pictures
-continues : (short long : Decoded) (more : List (List ℕ)) → long.pictures ≡ short.pictures ++ more → (¬ (short.outcome ≡ outcome.Ok) → long ≡ short)
+continues : (short long : Decoded) (more : List (List ℕ)) → long.pictures ≡ short.pictures ++ more → (¬ (short.stop ≡ None) → long ≡ short)
     → Continues short long
 continues short long more pictures stopped = record {
   more = more;
@@ -36,9 +34,9 @@ put_continues first short long c =
     (λ n. ap (put_out first) (c.stopped n))
 
 -- whatever the buffer behind a picture is, the one continues the other
-entered_continues : (p : PicturePlan) (short long : List DecodedPicture → Decoded) (buffer : List DecodedPicture) (r : Result DecodedPicture Outcome)
+entered_continues : (p : PicturePlan) (short long : List DecodedPicture → Decoded) (buffer : List DecodedPicture) (r : Result DecodedPicture Stop)
     → ((b : List DecodedPicture) → Continues (short b) (long b)) → Continues (entered p short buffer r) (entered p long buffer r)
-entered_continues p short long buffer (Err o) h = same_continues (ended o)
+entered_continues p short long buffer (Err s) h = same_continues (ended (Some s))
 entered_continues p short long buffer (Ok picture) h =
     let now : List DecodedPicture = buffer ++ picture ∷ [] in
     let left : List DecodedPicture = kept_from p.outputs.kept 0 now in

@@ -3,8 +3,6 @@ use Rattle.std.specs.Prelude.{◌≡◌, ℕ, suc, Bool, List, [], ◌∷◌, �
 use Rattle.std.specs.List.{concat, list_any}
 use Rattle.hv_base.specs.declared.breach.Breach.{Breach}
 use Rattle.hv_base.specs.declared.breach.Breach.TheVariants as breach
-use Rattle.hv_base.specs.declared.outcome.Outcome.{Outcome}
-use Rattle.hv_base.specs.declared.outcome.Outcome.TheVariants as outcome
 use Rattle.hv_base.specs.declared.refusal.Stop.{Stop}
 use Rattle.hv_base.specs.declared.refusal.Stop.TheVariants as stop
 use Rattle.plan_types.specs.declared.picture_plan.PicturePlan.{PicturePlan}
@@ -14,29 +12,29 @@ use Rattle.spec_decoded_pictures.specs.Decoded.{picture_decoded}
 use Rattle.spec_picture_samples.specs.Output.{picture_bytes}
 use Rattle.spec_picture_samples.specs.References.{DecodedPicture}
 
--- the pictures in output order, each as its bytes, and how decoding ends
+-- the pictures in output order, each as its bytes, and the broken rule or the limit that stops decoding, if any does
 pub record Decoded : Type 0 where
   pub pictures : List (List ℕ)
-  pub outcome : Outcome
+  pub stop : Option Stop
 
 -- a decoded picture as it goes out
 abbrev pub picture_out : DecodedPicture → List ℕ
 picture_out picture = picture_bytes picture.format picture.samples
 
 -- what is broken or met in the data of a picture
-abbrev pub told_by : ℕ → ℕ → Breach → Outcome
-told_by nal ctu (breach.Fault kind) = outcome.Fault (record { kind = kind; nal = nal; ctu = Some ctu })
-told_by nal ctu (breach.Limit kind) = outcome.Limit (record { kind = kind; nal = nal })
+abbrev pub told_by : ℕ → ℕ → Breach → Stop
+told_by nal ctu (breach.Fault kind) = stop.Fault (record { kind = kind; nal = nal; ctu = Some ctu })
+told_by nal ctu (breach.Limit kind) = stop.Limit (record { kind = kind; nal = nal })
 
-abbrev pub told : PictureBroken → Outcome
+abbrev pub told : PictureBroken → Stop
 told broken = told_by broken.nal broken.ctu broken.breach
 
-abbrev pub decoded_data : Result DecodedPicture PictureBroken → Result DecodedPicture Outcome
+abbrev pub decoded_data : Result DecodedPicture PictureBroken → Result DecodedPicture Stop
 decoded_data (Ok picture) = Ok picture
 decoded_data (Err broken) = Err (told broken)
 
 -- a picture by the buffer before it, or what is broken or met in it first
-unfoldable pub decoded_picture : List DecodedPicture → PicturePlan → Result DecodedPicture Outcome
+unfoldable pub decoded_picture : List DecodedPicture → PicturePlan → Result DecodedPicture Stop
 decoded_picture buffer p = decoded_data (picture_decoded buffer p)
 
 -- the pictures at these places of a buffer, one after the other, as they go out. A place behind the last has none
@@ -58,27 +56,21 @@ kept_from places place [] = []
 kept_from places place (picture ∷ later) =
     if is_among places place then picture ∷ kept_from places (suc place) later else kept_from places (suc place) later
 
--- how decoding ends behind the last picture
-abbrev pub ending : Option Stop → Outcome
-ending None = outcome.Ok
-ending (Some (stop.Fault f)) = outcome.Fault f
-ending (Some (stop.Limit l)) = outcome.Limit l
-
 -- pictures that go out first, and what is decoded behind that
 abbrev pub put_out : List (List ℕ) → Decoded → Decoded
-put_out pictures later = record { pictures = pictures ++ later.pictures; outcome = later.outcome }
+put_out pictures later = record { pictures = pictures ++ later.pictures; stop = later.stop }
 
 -- nothing more goes out
-abbrev pub ended : Outcome → Decoded
-ended o = record { pictures = []; outcome = o }
+abbrev pub ended : Option Stop → Decoded
+ended stop = record { pictures = []; stop = stop }
 
 -- behind a picture that stands in the buffer with those before it: what goes out then, and the buffer that it leaves
 abbrev pub behind_picture : PicturePlan → (List DecodedPicture → Decoded) → List DecodedPicture → Decoded
 behind_picture p next buffer = put_out (out_at buffer p.outputs.behind) (next (kept_from p.outputs.kept 0 buffer))
 
 -- a decoded picture stands behind the last of the buffer; where it couldn't be decoded, that ends decoding
-abbrev pub entered : PicturePlan → (List DecodedPicture → Decoded) → List DecodedPicture → Result DecodedPicture Outcome → Decoded
-entered p next buffer (Err o) = ended o
+abbrev pub entered : PicturePlan → (List DecodedPicture → Decoded) → List DecodedPicture → Result DecodedPicture Stop → Decoded
+entered p next buffer (Err s) = ended (Some s)
 entered p next buffer (Ok picture) = behind_picture p next (buffer ++ picture ∷ [])
 
 -- a picture: what goes out before it is decoded goes out before its data are judged
@@ -91,9 +83,9 @@ abbrev pub decoded_from : (List DecodedPicture → Decoded) → List PicturePlan
 decoded_from end [] buffer = end buffer
 decoded_from end (p ∷ pictures) buffer = with_picture p (decoded_from end pictures) buffer
 
--- behind the last picture: the pictures of the buffer that go out at the input's end, and how decoding ends
+-- behind the last picture: the pictures of the buffer that go out at the input's end, and what stops decoding
 abbrev pub finished : List ℕ → Option Stop → List DecodedPicture → Decoded
-finished last stop buffer = record { pictures = out_at buffer last; outcome = ending stop }
+finished last stop buffer = record { pictures = out_at buffer last; stop = stop }
 
 -- before the first picture the buffer is empty
 abbrev pub decoded_plan : Planned → Decoded
@@ -113,13 +105,4 @@ pub record Continues (short long : Decoded) : Type 0 where
   pub more : List (List ℕ)
   pub pictures : long.pictures ≡ short.pictures ++ more
   pub bytes : bytes_of long ≡ bytes_of short ++ concat more
-  pub stopped : ¬ (short.outcome ≡ outcome.Ok) → long ≡ short
-
--- an outcome that a stream alone decides
-abbrev pub IsDecided : Outcome → Type 0
-IsDecided outcome.Ok = Unit {0}
-IsDecided (outcome.Fault f) = Unit {0}
-IsDecided (outcome.Limit l) = Unit {0}
-IsDecided outcome.Memory = ⊥
-IsDecided outcome.ReadFault = ⊥
-IsDecided outcome.WriteFault = ⊥
+  pub stopped : ¬ (short.stop ≡ None) → long ≡ short

@@ -1,6 +1,6 @@
-//! The sequential decoder: which pictures and which answer a byte string has.
+//! The sequential decoder: which pictures a byte string has, and what stops it.
 #![tactic(auto)]
 
 mod laws;
 
-pub use laws::{open_prefixes_stay, streams_decide};
+pub use laws::open_prefixes_stay;
