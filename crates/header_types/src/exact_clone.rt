@@ -3,12 +3,9 @@
 ghost use Rattle.std.proofs.Common.{rules};
 ghost use Rattle.std.specs.Prelude.{◌≡◌};
 
-use crate::pps::PpsFields;
-use crate::profile::SubLayerProfile;
 use crate::reference_pictures::{DpbPicture, LongTermRef};
 use crate::scaling::ScalingList;
 use crate::short_term_set::{ShortTermRef, StRps};
-use crate::sps::{LongTermCandidate, SpsFields, SubLayerOrdering};
 
 /// A value whose clones are equal to it.
 pub trait ExactClone: Clone {
@@ -23,23 +20,11 @@ impl ExactClone for u32 {
     ghost exact = { Prim.search rules };
 }
 
-impl ExactClone for u64 {
-    ghost exact = { Prim.search rules };
-}
-
 impl ExactClone for DpbPicture {
     ghost exact = { Prim.search rules };
 }
 
-impl ExactClone for LongTermCandidate {
-    ghost exact = { Prim.search rules };
-}
-
 impl ExactClone for LongTermRef {
-    ghost exact = { Prim.search rules };
-}
-
-impl ExactClone for PpsFields {
     ghost exact = { Prim.search rules };
 }
 
@@ -51,18 +36,6 @@ impl ExactClone for ShortTermRef {
     ghost exact = { Prim.search rules };
 }
 
-impl ExactClone for SpsFields {
-    ghost exact = { Prim.search rules };
-}
-
 impl ExactClone for StRps {
-    ghost exact = { Prim.search rules };
-}
-
-impl ExactClone for SubLayerOrdering {
-    ghost exact = { Prim.search rules };
-}
-
-impl ExactClone for SubLayerProfile {
     ghost exact = { Prim.search rules };
 }

@@ -4,7 +4,6 @@ ghost use Rattle.std.specs.Prelude.{◌≡◌};
 ghost use Rattle.header_types.specs.PictureParameterSet.{IsPps};
 
 use crate::scaling::ScalingLists;
-use std::alloc::AllocError;
 use std::marker::Model;
 
 /// The fields behind deblocking_filter_control_present_flag, where it is 1 (7.4.3.3).
@@ -20,7 +19,7 @@ pub struct DeblockingControl {
 
 /// The fields of a picture parameter set up to slice_segment_header_extension_present_flag (7.3.2.3). Its
 /// tiles_enabled_flag is 0.
-#[derive(Clone, Debug, PartialEq, Eq, Drop)]
+#[derive(Debug, PartialEq, Eq, Drop)]
 pub struct PpsFields {
     pub pps_pic_parameter_set_id: u32,
     pub pps_seq_parameter_set_id: u32,
@@ -70,16 +69,6 @@ impl Model for Pps {
     ghost inverse = { λ f. record { fields = f } };
 
     ghost invariant = { λ p. IsPps p.fields };
-}
-
-impl Clone for Pps {
-    ghost is_clone = { λ a b. b ≡ a };
-
-    fn clone(&self) -> Result<Pps, AllocError> {
-        Ok(Pps {
-            fields: self.fields.clone()?,
-        })
-    }
 }
 
 impl Pps {

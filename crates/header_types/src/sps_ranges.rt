@@ -4,7 +4,6 @@ ghost use Rattle.std.specs.Prelude.{◌≡◌, ◌<◌, ◌≤◌, ◌^◌, ◌+
 ghost use Rattle.header_types.specs.SequenceParameterSets.{IsSps, min_cb_log2, ctb_log2, min_tb_log2, max_tb_log2, max_lsb, ctb_size, width_in_ctbs, height_in_ctbs, size_in_ctbs, highest_ordering, cropped_width, cropped_height, blocks_across};
 
 use crate::sps::{SpsFields, SubLayerOrdering};
-use std::alloc::AllocError;
 use std::marker::Model;
 
 /// A sequence parameter set whose fields are in range. Contracts see its fields, of which `IsSps` holds.
@@ -24,16 +23,6 @@ impl Model for Sps {
     ghost inverse = { λ f. record { fields = f } };
 
     ghost invariant = { λ s. IsSps s.fields };
-}
-
-impl Clone for Sps {
-    ghost is_clone = { λ a b. b ≡ a };
-
-    fn clone(&self) -> Result<Sps, AllocError> {
-        Ok(Sps {
-            fields: self.fields.clone()?,
-        })
-    }
 }
 
 impl Sps {

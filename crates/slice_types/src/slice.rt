@@ -5,7 +5,6 @@ ghost use Rattle.slice_types.specs.SliceHeaders.{IsSliceHeader};
 
 use crate::weights::PredWeightTable;
 use header_types::{FieldList, LongTermRef, StRps};
-use std::alloc::AllocError;
 use std::marker::Model;
 
 /// What is known of a slice segment's picture before its slice is read.
@@ -123,7 +122,7 @@ pub struct SliceFields {
 }
 
 /// A slice segment header (7.3.6.1), with what is known of its NAL unit and its picture.
-#[derive(Clone, Debug, PartialEq, Eq, Drop)]
+#[derive(Debug, PartialEq, Eq, Drop)]
 pub struct SliceHeaderFields {
     /// The number of the segment's NAL unit.
     pub nal: u32,
@@ -156,16 +155,6 @@ impl Model for SliceHeader {
     ghost inverse = { λ f. record { fields = f } };
 
     ghost invariant = { λ h. IsSliceHeader h.fields };
-}
-
-impl Clone for SliceHeader {
-    ghost is_clone = { λ a b. b ≡ a };
-
-    fn clone(&self) -> Result<SliceHeader, AllocError> {
-        Ok(SliceHeader {
-            fields: self.fields.clone()?,
-        })
-    }
 }
 
 impl SliceHeader {
