@@ -1,7 +1,8 @@
 //! Scaling lists (7.3.4, 7.4.5).
 
-ghost use Rattle.std.specs.Prelude.{◌≡◌, ℕ, ◌≤◌, ◌<◌, ℤ, pos, neg_ℤ, ◌≤ℤ◌, Bool, List, length, IfOk, if◌then◌else◌, nat_lt};
+ghost use Rattle.std.specs.Prelude.{◌≡◌, ℕ, ◌≤◌, ◌<◌, ℤ, pos, neg_ℤ, ◌≤ℤ◌, Bool, List, length, IfOk, IfSome, if◌then◌else◌, nat_lt};
 ghost use Rattle.header_fields.specs.Takes.{Takes};
+ghost use Rattle.spec_formats.specs.Fields.{optional};
 ghost use Rattle.header_types.specs.Scaling.{IsScalingLists};
 ghost use Rattle.spec_parameter_sets.specs.Scaling.{default_factors, default_list, predicted_list, next_coef, coded_factor, coded_factors, coded_dc, coded_list, scaling_list, list_count, coef_num, lists_of, scaling_list_data};
 
@@ -220,4 +221,19 @@ fn read_all_lists<'a>(alloc: Global, reader: &mut FieldReader<'a>) -> Result<Sca
     Ok(ScalingLists {
         lists: FieldList::from_items(lists),
     })
+}
+
+/// scaling_list_data, where it is there.
+pub fn read_scaling_lists<'a>(
+    alloc: Global,
+    reader: &mut FieldReader<'a>,
+    present: bool,
+) -> Result<Option<ScalingLists>, Refusal>
+    ensures in_range { IfOk result (λ s. IfSome s IsScalingLists) }
+    ensures value { Takes (λ x. x) result reader.old reader.new (optional present scaling_list_data) }
+{
+    if !present {
+        return Ok(None);
+    }
+    Ok(Some(read_scaling_list_data(alloc, reader)?))
 }

@@ -9,9 +9,9 @@ ghost use Rattle.spec_parameter_sets.specs.SequenceParameterSet.{scaling_lists, 
 
 use crate::block_sizes::{read_block_sizes, read_pcm_format};
 use crate::picture_format::read_picture_format;
-use crate::pps::read_scaling_lists;
 use crate::profile::read_profile_tier_level;
 use crate::reference_sets::{read_long_term_candidates, read_short_term_sets};
+use crate::scaling::read_scaling_lists;
 use crate::sub_layers::{
     greatest_buffering, ordered_sub_layers, read_max_sub_layers_minus1, read_orderings,
 };

@@ -20,7 +20,8 @@ use crate::unit_kinds::kind_of_type;
 use header_types::Shared;
 use hv_base::{Nal, Stop};
 use nal_stream::Next;
-use param_sets::{read_pps, read_sps};
+use param_sets::read_sps;
+use picture_parameter_sets::read_pps;
 use spec_pictures::UnitKind;
 use std::alloc::{AllocError, Global};
 

@@ -10,7 +10,7 @@ ghost use Rattle.slice_headers.specs.Views.{context_of, named_of};
 use crate::context::{SegmentContext, first_of, no_rasl_output_flag};
 use header_types::{Pps, Sets, Shared, Sps};
 use hv_base::{FaultKind, Refusal};
-use param_sets::fits;
+use picture_parameter_sets::fits;
 
 /// The parameter sets that a slice names.
 #[derive(Clone, Copy)]

@@ -2,7 +2,8 @@
 
 use header_lines::{print_pps, print_sps};
 use hv_base::{Nal, PPS_NUT, Refusal, SPS_NUT};
-use param_sets::{read_pps, read_sps};
+use param_sets::read_sps;
+use picture_parameter_sets::read_pps;
 use std::alloc::{AllocError, Global};
 use std::io::{self, Write};
 

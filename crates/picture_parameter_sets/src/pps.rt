@@ -2,16 +2,14 @@
 
 ghost use Rattle.std.specs.Prelude.{◌≡◌, ℕ, pos, neg_ℤ, ◌≤ℤ◌, List, IfOk, IfSome};
 ghost use Rattle.header_fields.specs.Takes.{Takes};
-ghost use Rattle.header_types.specs.Scaling.{IsScalingLists};
 ghost use Rattle.header_types.specs.PictureParameterSet.{IsWithin, IsDeblockingControl, IsPps};
 ghost use Rattle.spec_formats.specs.Fields.{Parses, optional, ue};
-ghost use Rattle.spec_parameter_sets.specs.Scaling.{scaling_list_data};
 ghost use Rattle.spec_parameter_sets.specs.PictureParameterSet.{deblocking_offset, deblocking_control, picture_parameter_set, picture_parameter_set_of};
 
-use crate::scaling::read_scaling_list_data;
 use header_fields::FieldReader;
-use header_types::{DeblockingControl, Pps, PpsFields, ScalingLists};
+use header_types::{DeblockingControl, Pps, PpsFields};
 use hv_base::{LimitKind, PARAMETER_SET_RULES, Refusal};
+use param_sets::read_scaling_lists;
 use std::alloc::Global;
 
 fn read_diff_cu_qp_delta_depth<'a>(
@@ -58,20 +56,6 @@ fn read_deblocking_control<'a>(
         pps_beta_offset_div2,
         pps_tc_offset_div2,
     }))
-}
-
-pub(crate) fn read_scaling_lists<'a>(
-    alloc: Global,
-    reader: &mut FieldReader<'a>,
-    present: bool,
-) -> Result<Option<ScalingLists>, Refusal>
-    ensures in_range { IfOk result (λ s. IfSome s IsScalingLists) }
-    ensures value { Takes (λ x. x) result reader.old reader.new (optional present scaling_list_data) }
-{
-    if !present {
-        return Ok(None);
-    }
-    Ok(Some(read_scaling_list_data(alloc, reader)?))
 }
 
 #[tactic(auto, unfolding(spec_parameter_sets::specs::PictureParameterSet::picture_parameter_set))]
