@@ -11,6 +11,3 @@ pub use availability::{SliceArea, available};
 pub use kind::Scan;
 pub use order::{scan, scan_index};
 pub use reached_rows::needed_rows;
-
-#[cfg(test)]
-mod tests;

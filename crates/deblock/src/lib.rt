@@ -13,6 +13,3 @@ mod window;
 
 pub use row::{Row, horizontal_row, vertical_row};
 pub use view::Places;
-
-#[cfg(test)]
-mod tests;

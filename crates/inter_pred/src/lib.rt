@@ -22,6 +22,3 @@ pub use prediction::Prediction;
 pub use reference::RefWindow;
 pub use scratch::Scratch;
 pub use weighting::{weigh_one, weigh_two};
-
-#[cfg(test)]
-mod tests;

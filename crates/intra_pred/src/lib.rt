@@ -15,6 +15,3 @@ pub use beside::neighbours;
 pub use border::Border;
 pub use prediction::predict;
 pub use substitution::substitute;
-
-#[cfg(test)]
-mod tests;

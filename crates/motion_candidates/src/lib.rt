@@ -21,6 +21,3 @@ pub use predictors::amvp;
 pub use references::reference_in;
 pub use unit_motion::derive;
 pub use view::MotionView;
-
-#[cfg(test)]
-mod tests;

@@ -10,6 +10,3 @@ mod stages;
 pub use scaling::scale;
 pub use skipping::skip;
 pub use stages::inverse;
-
-#[cfg(test)]
-mod tests;

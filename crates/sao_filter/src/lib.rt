@@ -8,8 +8,6 @@ mod edge;
 mod filtering;
 mod row;
 mod runs;
-#[cfg(test)]
-mod tests;
 
 pub use filtering::sao_row;
 pub use row::OffsetRow;

@@ -1,6 +1,8 @@
+//! A step between two blocks.
+
 ghost use Rattle.deblock.specs.Samples.{IsBounded};
 
-use super::*;
+use deblock::{Places, Row, vertical_row};
 use spec_deblocking::{Place, Plane};
 
 /// Places of QpY 37 without offsets, the edges on whose left have strength 2.
@@ -43,8 +45,8 @@ fn four(line: &[u16; 16]) -> [u16; 64]
     lines
 }
 
-#[test]
-fn a_step_becomes_smooth(rt: HostRuntime) {
+/// Whether the strong filter smoothes the step.
+fn is_step_smoothed() -> bool {
     let row = Row {
         plane: Plane::Luma,
         bit_depth: 8,
@@ -57,5 +59,10 @@ fn a_step_becomes_smooth(rt: HostRuntime) {
     };
     let mut out = [0; 64];
     vertical_row(&StrongEdges, &row, &four(&STEP), &mut out);
-    assert!(rt; out == four(&SMOOTHED));
+    out == four(&SMOOTHED)
+}
+
+#[test]
+fn a_step_becomes_smooth(rt: HostRuntime) {
+    assert!(rt; is_step_smoothed());
 }

@@ -1,9 +1,10 @@
+//! Predictions from a picture that has one sample everywhere.
+
 ghost use Rattle.std.specs.Prelude.{◌<◌};
 
-use super::*;
 use ctu_records::Mv;
+use inter_pred::{Block, Prediction, RefWindow, Scratch, chroma, luma, weigh_one, weigh_two};
 use spec_inter_prediction::{Weight, Weighting, Weights};
-use std::test::Fail;
 
 /// A picture that has one sample everywhere.
 #[derive(Drop)]
@@ -21,8 +22,7 @@ impl RefWindow for Flat {
 }
 
 /// The weights of a P slice whose denominator is 1, weight change -1 and offset 3: a sample of 100 becomes 53.
-#[test]
-fn an_explicit_weight_halves_and_moves_a_sample(rt: HostRuntime) -> Result<(), Fail> {
+fn is_weighted() -> bool {
     let view = Flat { sample: 100 };
     let block = Block {
         x: 4,
@@ -60,13 +60,16 @@ fn an_explicit_weight_halves_and_moves_a_sample(rt: HostRuntime) -> Result<(), F
         8,
         &mut out,
     );
-    assert!(rt; out[64 * 7 + 7] == 53);
-    Ok(())
+    out[64 * 7 + 7] == 53
 }
 
-/// A flat picture predicts itself at every fraction of luma and of chroma.
 #[test]
-fn a_flat_picture_predicts_itself(rt: HostRuntime) -> Result<(), Fail> {
+fn an_explicit_weight_halves_and_moves_a_sample(rt: HostRuntime) {
+    assert!(rt; is_weighted());
+}
+
+/// Whether a flat picture predicts itself at every fraction of luma and of chroma.
+fn is_flat_predicted() -> bool {
     let view = Flat { sample: 77 };
     let mut scratch = Scratch::new();
     let mut first = Prediction::new();
@@ -80,8 +83,12 @@ fn a_flat_picture_predicts_itself(rt: HostRuntime) -> Result<(), Fail> {
             same = false;
         }
     }
-    assert!(rt; same);
-    Ok(())
+    same
+}
+
+#[test]
+fn a_flat_picture_predicts_itself(rt: HostRuntime) {
+    assert!(rt; is_flat_predicted());
 }
 
 /// A luma and a chroma block by one vector.

@@ -1,6 +1,6 @@
 use Rattle.std.proofs.Common.{ℕ, zero, suc, ◌≤◌, slice_index_or, arith}
 use Rattle.std.specs.Prelude.{replicate}
-use Rattle.deblock.proofs.tests.four.Goals as goal
+use Rattle.sample_rows.proofs.deblock_tests.four.Goals as goal
 
 small : (n k : ℕ) → slice_index_or (replicate n 0) k 0 ≤ 255
 small zero k = omega arith

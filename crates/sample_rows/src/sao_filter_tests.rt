@@ -1,7 +1,8 @@
-use super::*;
+//! Edge and band offsets of two blocks, and a valley.
+
 use ctu_records::ComponentOffset;
+use sao_filter::{OffsetRow, sao_row};
 use spec_sample_adaptive_offset::OffsetUnit;
-use std::test::Fail;
 
 /// Two lines of two blocks of eight columns.
 const LINES: [u16; 32] = [
@@ -41,45 +42,60 @@ const CASES: [(ComponentOffset, bool, bool, [u16; 32]); 3] = [
     ),
 ];
 
-#[test]
-fn edges_and_bands_move_samples(rt: HostRuntime) -> Result<(), Fail> {
-    for (offset, across, keeps, wanted) in CASES {
-        let here = [
-            OffsetUnit {
-                offset,
-                slice: 0,
-                across: true,
-            },
-            OffsetUnit {
-                offset,
-                slice: 1,
-                across,
-            },
-        ];
-        let kept = [false, keeps, false, false];
-        let row = OffsetRow {
-            width: 16,
-            height: 2,
-            size: 8,
-            depth: 8,
-            row: 0,
-            above: &[],
-            here: &here,
-            below: &[],
-            place_log2: 2,
-            places: 4,
-            kept: &kept,
-        };
-        let mut out = [0; 32];
-        sao_row(&row, &LINES, &mut out);
-        assert!(rt; out == wanted);
-    }
-    Ok(())
+/// Whether the blocks of a case become what they should.
+fn is_case_filtered(
+    offset: ComponentOffset,
+    across: bool,
+    keeps: bool,
+    wanted: &[u16; 32],
+) -> bool {
+    let here = [
+        OffsetUnit {
+            offset,
+            slice: 0,
+            across: true,
+        },
+        OffsetUnit {
+            offset,
+            slice: 1,
+            across,
+        },
+    ];
+    let kept = [false, keeps, false, false];
+    let row = OffsetRow {
+        width: 16,
+        height: 2,
+        size: 8,
+        depth: 8,
+        row: 0,
+        above: &[],
+        here: &here,
+        below: &[],
+        place_log2: 2,
+        places: 4,
+        kept: &kept,
+    };
+    let mut out = [0; 32];
+    sao_row(&row, &LINES, &mut out);
+    out == *wanted
 }
 
-/// A sample lower than those on both sides.
+/// Whether each case is filtered so.
+fn are_cases_filtered() -> bool {
+    let mut are_same = true;
+    for (offset, across, keeps, wanted) in CASES {
+        are_same = are_same && is_case_filtered(offset, across, keeps, &wanted);
+    }
+    are_same
+}
+
 #[test]
-fn a_valley_is_raised(rt: HostRuntime) {
+fn edges_and_bands_move_samples(rt: HostRuntime) {
+    assert!(rt; are_cases_filtered());
+}
+
+/// Whether a sample lower than those on both sides is raised.
+fn is_valley_raised() -> bool {
     let here = [OffsetUnit {
         offset: ComponentOffset::Edge(0, [2, 1, -1, -2]),
         slice: 0,
@@ -100,5 +116,10 @@ fn a_valley_is_raised(rt: HostRuntime) {
     };
     let mut out = [0; 8];
     sao_row(&row, &[10, 8, 10, 10, 10, 10, 10, 10], &mut out);
-    assert!(rt; out == [10, 10, 9, 10, 10, 10, 10, 10]);
+    out == [10, 10, 9, 10, 10, 10, 10, 10]
+}
+
+#[test]
+fn a_valley_is_raised(rt: HostRuntime) {
+    assert!(rt; is_valley_raised());
 }
