@@ -18,6 +18,3 @@ pub use event::Event;
 pub use event_needs::needs;
 pub use laws::{ending_runs_agree, every_run_is_sound, lines_are_drawn_in_order};
 pub use need_list::Needs;
-
-#[cfg(test)]
-mod tests;

@@ -7,6 +7,3 @@ mod row_range;
 
 pub use plan::{FlightPicture, FlightPlan, MAX_FLIGHT_PICTURES, MAX_SIDE_IN_CTBS};
 pub use row_range::{Reference, RowRange, RowRanges};
-
-#[cfg(test)]
-mod tests;

@@ -1,4 +1,6 @@
-use super::*;
+//! A flight of one small picture.
+
+use board_core::{Core, Event, needs};
 use flight_plan::{FlightPicture, FlightPlan};
 use hv_base::{Line, Phase};
 use std::alloc::{AllocError, Global};

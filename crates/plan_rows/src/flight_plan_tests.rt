@@ -1,4 +1,6 @@
-use super::*;
+//! A flight that takes a picture and a bad coding tree unit of it.
+
+use flight_plan::{FlightPicture, FlightPlan};
 use std::alloc::Global;
 
 /// Whether a plan takes a picture and a bad coding tree unit of it, which is none of its filter units.
