@@ -4,4 +4,7 @@
 
 mod laws;
 
-pub use laws::{picture_is_its_segments, segments_end_where_the_next_begins};
+pub use laws::{
+    picture_is_its_segments, pictures_have_all_units, segments_end_where_the_next_begins,
+    segments_share_out_the_units,
+};
