@@ -9,6 +9,3 @@ mod packing;
 pub use bin_reader::BinReader;
 pub use contexts::Contexts;
 pub use packing::packed_contexts_are_unpacked;
-
-#[cfg(test)]
-mod tests;

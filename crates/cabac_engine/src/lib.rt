@@ -5,6 +5,3 @@ mod interval;
 mod places;
 
 pub use interval::Interval;
-
-#[cfg(test)]
-mod tests;

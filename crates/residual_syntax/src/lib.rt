@@ -11,6 +11,3 @@ mod sub_block;
 pub use level_list::Levels;
 pub use reading::read_residual;
 pub use spec_residuals::{Level, ResidualBlock};
-
-#[cfg(test)]
-mod tests;

@@ -1,4 +1,6 @@
-use super::*;
+//! The first bins of the grey coding tree unit.
+
+use cabac_engine::Interval;
 
 /// The first bins of the grey coding tree unit, as a decoder in another language reads them: part_mode, pcm_flag,
 /// prev_intra_luma_pred_flag and the first of mpm_idx.
