@@ -15,7 +15,9 @@ use picture_parameter_sets::fits;
 /// The parameter sets that a slice names.
 #[derive(Clone, Copy)]
 pub struct SliceSets<'a> {
+    /// The picture parameter set that its slice_pic_parameter_set_id names.
     pub pps: &'a Pps,
+    /// The sequence parameter set that this one names.
     pub sps: &'a Sps,
 }
 

@@ -16,8 +16,11 @@ use std::alloc::Global;
 /// What is read of a slice up to its reference fields.
 #[derive(Drop)]
 pub struct FrontFields {
+    /// How the coding units of the slice may be predicted.
     pub slice_type: SliceType,
+    /// Whether the picture may go out: true where it isn't coded.
     pub pic_output_flag: bool,
+    /// The picture's order count, and the pictures kept for reference.
     pub references: ReferenceFields,
 }
 
