@@ -23,7 +23,9 @@ use std::alloc::{AllocError, Global};
 /// The flights that a step ends, and what stops the stream behind it.
 #[derive(Drop)]
 pub(crate) struct Step {
+    /// The flights that it ends.
     pub ended: Ended,
+    /// What stops the stream behind it.
     pub stop: Option<Stop>,
 }
 
