@@ -10,9 +10,13 @@ use ctu_records::{CodedBlock, Square};
 /// first one.
 #[derive(Clone, Copy, Debug, PartialEq, Eq)]
 pub struct Place {
+    /// The component: 0 for luma, 1 for Cb, 2 for Cr.
     pub c: u8,
+    /// The column of its first sample.
     pub x: u32,
+    /// The line of its first sample.
     pub y: u32,
+    /// The binary logarithm of its side in samples of the component.
     pub log2: u32,
 }
 

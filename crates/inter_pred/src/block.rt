@@ -17,9 +17,13 @@ use ctu_records::Mv;
 /// A block of a picture, in samples of its component.
 #[derive(Clone, Copy, Debug, PartialEq, Eq)]
 pub struct Block {
+    /// Its first column.
     pub x: u32,
+    /// Its first line.
     pub y: u32,
+    /// How many columns it has, at most 64.
     pub width: u32,
+    /// How many lines it has, at most 64.
     pub height: u32,
 }
 

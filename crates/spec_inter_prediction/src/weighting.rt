@@ -16,13 +16,17 @@ pub struct Weight {
 pub struct Weights {
     /// luma_log2_weight_denom or ChromaLog2WeightDenom: at most 7.
     pub log2_denominator: u8,
+    /// That of list 0.
     pub list0: Weight,
+    /// That of list 1.
     pub list1: Weight,
 }
 
 /// weightedPredFlag, and the weights where it is 1.
 #[derive(Clone, Copy, Debug, PartialEq, Eq)]
 pub enum Weighting {
+    /// 0: samples are predicted without weights (8.5.3.3.4.2).
     Default,
+    /// 1: by these weights (8.5.3.3.4.3).
     Explicit(Weights),
 }

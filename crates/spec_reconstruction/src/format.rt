@@ -5,6 +5,7 @@
 /// lists.
 #[derive(Clone, Copy, Debug, PartialEq, Eq)]
 pub struct ScalingFactors {
+    /// The factors, in that order.
     pub by_place: [u8; 2032],
 }
 
