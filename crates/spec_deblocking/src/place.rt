@@ -20,6 +20,7 @@ pub struct Place {
 /// What a plane's samples are.
 #[derive(Clone, Copy, Debug, PartialEq, Eq)]
 pub enum Plane {
+    /// Luma.
     Luma,
     /// Cb or Cr: cQpPicOffset is pps_cb_qp_offset or pps_cr_qp_offset.
     Chroma { qp_pic_offset: i8 },
