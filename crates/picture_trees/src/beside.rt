@@ -175,7 +175,9 @@ fn side_of(records: &Records, x: usize, y: usize) -> Side
 /// The units beside one whose first luma sample stands in this row.
 #[derive(Drop)]
 pub(crate) struct View<'b> {
+    /// What is known of the units before it.
     pub(crate) beside: &'b Beside,
+    /// The row of that luma sample, from the picture's top.
     pub(crate) top: u32,
 }
 

@@ -12,10 +12,15 @@ use std::marker::Model;
 /// of its own.
 #[derive(Clone, Copy)]
 pub(crate) struct Layout {
+    /// PicWidthInCtbsY, from 1 to 512.
     pub(crate) width: u32,
+    /// How many places the picture has across.
     pub(crate) across: u32,
+    /// How many places it has down.
     pub(crate) down: u32,
+    /// The binary logarithm of a unit's side in places, from 2 to 4.
     pub(crate) size: u8,
+    /// entropy_coding_sync_enabled_flag.
     pub(crate) sync: bool,
 }
 
