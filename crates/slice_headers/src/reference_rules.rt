@@ -52,8 +52,8 @@ fn find_references<'a>(
     Ok(())
 }
 
-/// The rules on what a slice refers to: the picture order count is in range; the fields are those of the picture's first
-/// segment; its reference pictures are there; a P or B slice has some.
+/// The rules on what a slice refers to: the picture order count is in range; the fields are those of the picture's
+/// first segment; its reference pictures are there; a P or B slice has some.
 #[tactic(auto, unfolding(spec_slice_headers::specs::ReferenceRules::judged_references))]
 pub fn judge_references<'a>(
     alloc: Global,
