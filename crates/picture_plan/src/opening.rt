@@ -177,8 +177,8 @@ impl Parts {
     }
 }
 
-/// The picture that has these parts, and this unit and header as its first slice segment. Before it the buffer has these
-/// pictures.
+/// The picture that has these parts, and this unit and header as its first slice segment. Before it the buffer has
+/// these pictures.
 fn picture_with(
     alloc: Global,
     dpb: &[DpbPicture],
