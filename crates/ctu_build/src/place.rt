@@ -6,8 +6,8 @@ ghost use Rattle.spec_reconstruction.specs.Sound.{IsCoded, IsSquare};
 
 use ctu_records::{CodedBlock, Square};
 
-/// A square of 2^`log2` samples on a side of component `c`, whose first sample is at (`x`, `y`), counted from the unit's
-/// first one.
+/// A square of 2^`log2` samples on a side of component `c`, whose first sample is at (`x`, `y`), counted from the
+/// unit's first one.
 #[derive(Clone, Copy, Debug, PartialEq, Eq)]
 pub struct Place {
     /// The component: 0 for luma, 1 for Cb, 2 for Cr.

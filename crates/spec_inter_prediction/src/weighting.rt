@@ -1,7 +1,7 @@
 //! What weights a prediction (8.5.3.3.4, 7.4.7.3).
 
-/// The weight and the offset of one component of a reference picture: LumaWeightLX and luma_offset_lX, or ChromaWeightLX
-/// and ChromaOffsetLX.
+/// The weight and the offset of one component of a reference picture: LumaWeightLX and luma_offset_lX, or
+/// ChromaWeightLX and ChromaOffsetLX.
 #[derive(Clone, Copy, Debug, PartialEq, Eq)]
 pub struct Weight {
     /// From -128 to 255, in units of 2^-`log2_denominator`.

@@ -1,4 +1,5 @@
-//! What the syntax of a coding tree unit depends on. Sizes are binary logarithms of sides in places of 4x4 luma samples.
+//! What the syntax of a coding tree unit depends on. Sizes are binary logarithms of sides in places of 4x4 luma
+//! samples.
 
 use ctu_records::Square;
 
