@@ -8,8 +8,8 @@ ghost use Rattle.spec_slice_data.specs.Segment.{begins_row, column_of, row_of};
 use plan_types::PicturePlan;
 use std::marker::Model;
 
-/// A picture's size in coding tree units and in places of 4x4 luma samples, and whether each row of units has a substream
-/// of its own.
+/// A picture's size in coding tree units and in places of 4x4 luma samples, and whether each row of units has a
+/// substream of its own.
 #[derive(Clone, Copy)]
 pub(crate) struct Layout {
     /// PicWidthInCtbsY, from 1 to 512.

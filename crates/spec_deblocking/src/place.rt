@@ -9,7 +9,8 @@ pub struct Place {
     pub top_strength: u8,
     /// QpY of its coding unit.
     pub qp_y: i8,
-    /// Whether its samples stay: they are PCM and pcm_loop_filter_disabled_flag is 1, or cu_transquant_bypass_flag is 1.
+    /// Whether its samples stay: they are PCM and pcm_loop_filter_disabled_flag is 1, or cu_transquant_bypass_flag is
+    /// 1.
     pub kept: bool,
     /// slice_beta_offset_div2 of its slice.
     pub slice_beta_offset_div2: i8,
