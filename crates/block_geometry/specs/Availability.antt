@@ -14,8 +14,8 @@ width_in_units area = (area.across + (2 ^ area.size - 1)) / 2 ^ area.size
 unfoldable pub unit_of_place : SliceArea → ℕ → ℕ → ℕ
 unit_of_place area x y = width_in_units area * (y / 2 ^ area.size) + x / 2 ^ area.size
 
--- the place of a place in the z-scan order of a picture: units by their addresses, and inside each the bits of column and
--- row in turn
+-- the place of a place in the z-scan order of a picture: units by their addresses, and inside each the bits of column
+-- and row in turn
 unfoldable pub z_scan_order : SliceArea → ℕ → ℕ → ℕ
 z_scan_order area x y =
     256 * unit_of_place area x y + (spread (x % 2 ^ area.size) + 2 * spread (y % 2 ^ area.size))

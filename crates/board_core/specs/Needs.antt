@@ -66,8 +66,8 @@ build_needs plan l x =
     ++ (row_needs plan (collocated_of plan l x) l.row ++ reach_needs plan l x)
 
 -- what a phase of a row needs as a whole: vertical edges the row as it is built; horizontal edges the vertical ones of
--- the row and of those above and below it, and these rows as they are built; sample adaptive offset the horizontal edges
--- of the three rows, and the row as it is built
+-- the row and of those above and below it, and these rows as they are built; sample adaptive offset the horizontal
+-- edges of the three rows, and the row as it is built
 abbrev pub phase_needs : FlightRows → Phase → ℕ → ℕ → List (Line × ℕ)
 phase_needs plan B picture row = []
 phase_needs plan V picture row = rows_needs plan B picture row row

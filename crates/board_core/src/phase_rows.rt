@@ -9,9 +9,13 @@ use hv_base::{Line, Phase};
 /// One phase of the rows from `first` to `last` of a picture, both included, as many as the picture has.
 #[derive(Clone, Copy, Debug, PartialEq, Eq)]
 pub struct PhaseRows {
+    /// What is done at the rows.
     pub phase: Phase,
+    /// The picture, by its place in the flight.
     pub picture: u32,
+    /// The first row of coding tree blocks, counted from the top.
     pub first: u32,
+    /// The last row, which may lie below the picture.
     pub last: u64,
 }
 

@@ -1,4 +1,5 @@
-//! The tickets of lines and the numbers of units, by tables of what stands before each picture, and which units are bad.
+//! The tickets of lines and the numbers of units, by tables of what stands before each picture, and which units are
+//! bad.
 
 ghost use Rattle.std.specs.Prelude.{◌≡◌, ◌<◌, ◌↔◌, IsTrue, IfOk, IfSome, None, length};
 ghost use Rattle.std.specs.Prelude.{ℕ, ◌≤◌, ◌+◌, ◌*◌, take, sum_by, slice_index, slice_index_or};

@@ -14,7 +14,9 @@ const DATA_END: Breach = Breach::Fault(FaultKind::DataEnd);
 /// The interval and the contexts of a slice segment.
 #[derive(Debug, Drop)]
 pub struct BinReader<'a> {
+    /// The interval, and the bits of the substream that aren't read yet.
     pub interval: Interval<'a>,
+    /// The contexts, as the bins before left them.
     pub contexts: Contexts,
 }
 

@@ -7,7 +7,8 @@ use Rattle.spec_slice_data.specs.declared.syntax.CtuSyntax.{CtuSyntax}
 use Rattle.spec_slice_data.specs.Offset.{no_sao}
 use Rattle.coding_quadtree.specs.declared.unit_place.UnitPlace.{UnitPlace}
 
--- how many places beside a unit of n places are available: those that the picture has, where there is a unit in the slice
+-- how many places beside a unit of n places are available: those that the picture has, where there is a unit in the
+-- slice
 abbrev pub available : Bool → ℕ → ℕ → ℕ
 available there places n = if there then (if nat_lt places n then places else n) else 0
 

@@ -24,8 +24,8 @@ abbrev pub over_view : CtuSyntax → UnitPlace → (ℕ → ℕ → Side) → (�
 over_view syntax place side_at sao_at s =
     judged (read (unit_and_end syntax (left_sao syntax place sao_at) (above_sao syntax place sao_at) place.is_last place.ends_subset (ctu_begins syntax place side_at)) s)
 
--- a call answered what follows a unit and left the unit and the state behind it, as reading gives them; or the first rule
--- broken
+-- a call answered what follows a unit and left the unit and the state behind it, as reading gives them; or the first
+-- rule broken
 abbrev pub Follows : Result End Breach → Ctu → State → Result ((Ctu × End) × State) Breach → Type 0
 Follows (Ok follows) ctu after read = read ≡ Ok ((ctu, follows), after)
 Follows (Err e) ctu after read = read ≡ Err e

@@ -11,8 +11,8 @@ use Rattle.spec_slice_data.specs.Segment.{PictureShape, SegmentShape, Between, b
 use Rattle.coding_quadtree.specs.declared.unit_place.UnitPlace.{UnitPlace}
 use Rattle.coding_quadtree.specs.Beside.{on_left, on_top}
 
--- the place and the syntax are those of the unit at this address, and a view tells of the units beside it what was read of
--- them so far
+-- the place and the syntax are those of the unit at this address, and a view tells of the units beside it what was read
+-- of them so far
 pub record IsNext (common : CtuSyntax) (picture : PictureShape) (segment : SegmentShape) (address : ℕ) (between : Between) (syntax : CtuSyntax) (place : UnitPlace) (side_at : ℕ → ℕ → Side) (sao_at : ℕ → Sao) : Type 0 where
   pub reads : syntax ≡ syntax_at common picture segment address
   pub at : place.address ≡ address

@@ -43,7 +43,9 @@ fn scan_of(unit: &UnitSyntax, block: TransformBlock) -> Scan
 /// What the transform tree of a coding unit depends on.
 #[derive(Clone, Copy)]
 pub struct UnitContext {
+    /// What all elements of the coding tree unit depend on.
     pub syntax: CtuSyntax,
+    /// What is known of the coding unit.
     pub unit: UnitSyntax,
 }
 

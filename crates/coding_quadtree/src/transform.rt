@@ -23,7 +23,9 @@ use spec_slice_data::{ChromaFlags, CtuSyntax, TransformBlock, UnitSyntax};
 pub struct TransformNode {
     /// Its chroma flags, or those of the node above before they are read.
     pub flags: ChromaFlags,
+    /// Its luma block.
     pub square: Square,
+    /// trafoDepth.
     pub depth: u8,
 }
 

@@ -22,8 +22,11 @@ use spec_reconstruction::{UnitFormat, UnitMode};
 /// A coded block, and how its coding unit is coded, with its Qp'Y.
 #[derive(Clone, Copy)]
 pub(crate) struct InUnit {
+    /// The block.
     pub(crate) block: CodedBlock,
+    /// How its coding unit is coded.
     pub(crate) mode: UnitMode,
+    /// Qp'Y of its coding unit.
     pub(crate) qp: u8,
 }
 

@@ -9,6 +9,7 @@ use spec_reconstruction::UnitMode;
 /// What is known of the coding unit that is built.
 #[derive(Clone, Copy, Debug, PartialEq, Eq)]
 pub(crate) struct Coding {
+    /// CuPredMode, and cu_transquant_bypass_flag.
     pub(crate) mode: UnitMode,
     /// IntraPredModeC.
     pub(crate) chroma_mode: u8,

@@ -21,7 +21,9 @@ use spec_reconstruction::UnitFormat;
 /// What the intra blocks of a unit depend on apart from its samples.
 #[derive(Clone, Copy)]
 pub(crate) struct IntraUnit<'a> {
+    /// What all samples of the unit depend on.
     pub(crate) format: &'a UnitFormat,
+    /// The motion of the unit and beside it, which tells what is predicted in inter mode.
     pub(crate) motion: &'a UnitMotion,
 }
 

@@ -1,5 +1,5 @@
-//! Builds the samples of a coding tree unit from what was read of it, its motion and the pictures that it refers to (H.265
-//! 8.4.4.1, 8.5.3.3, 8.6).
+//! Builds the samples of a coding tree unit from what was read of it, its motion and the pictures that it refers to
+//! (H.265 8.4.4.1, 8.5.3.3, 8.6).
 #![tactic(auto)]
 
 mod blocks;

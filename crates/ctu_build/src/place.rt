@@ -6,13 +6,17 @@ ghost use Rattle.spec_reconstruction.specs.Sound.{IsCoded, IsSquare};
 
 use ctu_records::{CodedBlock, Square};
 
-/// A square of 2^`log2` samples on a side of component `c`, whose first sample is at (`x`, `y`), counted from the unit's
-/// first one.
+/// A square of 2^`log2` samples on a side of component `c`, whose first sample is at (`x`, `y`), counted from the
+/// unit's first one.
 #[derive(Clone, Copy, Debug, PartialEq, Eq)]
 pub struct Place {
+    /// The component: 0 for luma, 1 for Cb, 2 for Cr.
     pub c: u8,
+    /// The column of its first sample.
     pub x: u32,
+    /// The line of its first sample.
     pub y: u32,
+    /// The binary logarithm of its side in samples of the component.
     pub log2: u32,
 }
 

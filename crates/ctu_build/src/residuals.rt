@@ -16,8 +16,11 @@ use spec_reconstruction::{UnitFormat, UnitMode};
 /// A coded block, how its coding unit is coded, and its qP.
 #[derive(Clone, Copy)]
 pub(crate) struct Quantized {
+    /// The block.
     pub(crate) block: CodedBlock,
+    /// How its coding unit is coded.
     pub(crate) mode: UnitMode,
+    /// qP: at most 51, and 6 more for each bit of depth above 8.
     pub(crate) qp: u32,
 }
 

@@ -28,8 +28,8 @@ struct Next<'a> {
     behind: &'a [Item],
 }
 
-/// Builds the samples of a unit from what was read of it, its motion, the pictures that it refers to and what is known beside
-/// it. Items that aren't sound are passed over.
+/// Builds the samples of a unit from what was read of it, its motion, the pictures that it refers to and what is known
+/// beside it. Items that aren't sound are passed over.
 #[tactic(auto, unfolding(spec_reconstruction::specs::Unit::unit_built))]
 pub fn build_ctu<V: RefWindow>(
     records: &Records,

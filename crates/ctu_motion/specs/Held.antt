@@ -4,8 +4,8 @@ use Rattle.spec_motion.specs.declared.collocation.Collocated.{Collocated}
 use Rattle.spec_motion.specs.declared.vectors.Motion.{Motion}
 use Rattle.spec_motion.specs.Vectors.{Beneath, Known}
 
--- the motion of 34 places in each of 17 rows, the first column and the first row beside the unit, the row as far as twice its
--- side; and that of the collocated picture in four rows of five blocks
+-- the motion of 34 places in each of 17 rows, the first column and the first row beside the unit, the row as far as
+-- twice its side; and that of the collocated picture in four rows of five blocks
 pub record Cells : Type 0 where
   pub places : List (Option Motion)
   pub beneath : List (Option Collocated)

@@ -9,8 +9,8 @@ use crate::unit_motion::UnitMotion;
 use ctu_records::Item;
 use spec_motion::{SliceMotion, is_placed};
 
-/// Derives the prediction units of a coding tree unit in reading order, each over what those before it left. One that doesn't
-/// lie in the unit is passed over.
+/// Derives the prediction units of a coding tree unit in reading order, each over what those before it left. One that
+/// doesn't lie in the unit is passed over.
 #[tactic(auto, unfolding(spec_motion::specs::Units::unit_derived))]
 pub fn derive_motion(items: &[Item], slice: &SliceMotion, motion: &mut UnitMotion)
     ensures places { All IsPlacedItem items.now → held motion.new ≡ unit_derived slice.now (held_beneath motion.old) items.now (held motion.old) }

@@ -11,8 +11,8 @@ use Rattle.ctu_records.specs.declared.offset.Sao.{Sao}
 use Rattle.ctu_records.specs.declared.records.Quantization.{Quantization}
 use Rattle.ctu_records.specs.Places.{overlay, Holds}
 
--- the binary logarithm of the unit's side in places; what is known of the places left of it, from the upper one down, and
--- above it; its sample adaptive offset; the quantization group; and what was read, in reading order
+-- the binary logarithm of the unit's side in places; what is known of the places left of it, from the upper one down,
+-- and above it; its sample adaptive offset; the quantization group; and what was read, in reading order
 pub record Ctu : Type 0 where
   pub size : ℕ
   pub left : List Side

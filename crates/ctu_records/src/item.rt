@@ -6,14 +6,18 @@ use crate::prediction::PredictionUnit;
 /// in places.
 #[derive(Clone, Copy, Debug, PartialEq, Eq)]
 pub struct Square {
+    /// The column of its first place, from 0 to 15.
     pub x: u8,
+    /// The row of its first place, from 0 to 15.
     pub y: u8,
+    /// The binary logarithm of its side in places, from 0 to 4.
     pub log2_size: u8,
 }
 
 /// What coding_unit begins with (7.3.8.5).
 #[derive(Clone, Copy, Debug, PartialEq, Eq)]
 pub struct CodingUnit {
+    /// Its coding block.
     pub square: Square,
     /// CtDepth.
     pub depth: u8,
@@ -43,28 +47,35 @@ pub struct CodingPlace {
 /// IntraPredModeY of a prediction block (8.4.2).
 #[derive(Clone, Copy, Debug, PartialEq, Eq)]
 pub struct LumaMode {
+    /// The prediction block.
     pub square: Square,
+    /// IntraPredModeY, from 0 to 34.
     pub mode: u8,
 }
 
 /// A cu_qp_delta, and the coding unit whose Qp'Y it makes (7.3.8.11, 8.6.1).
 #[derive(Clone, Copy, Debug, PartialEq, Eq)]
 pub struct QpDelta {
+    /// The coding unit.
     pub square: Square,
     /// CuQpDeltaVal.
     pub delta: i8,
+    /// Qp'Y of the coding unit, from 0 to 51 + QpBdOffsetY.
     pub qp: u8,
 }
 
 /// A transform unit and its coded block flags (7.3.8.8).
 #[derive(Clone, Copy, Debug, PartialEq, Eq)]
 pub struct TransformUnit {
+    /// Its luma block.
     pub square: Square,
     /// trafoDepth.
     pub depth: u8,
+    /// cbf_luma: whether the levels of its luma block follow.
     pub cbf_luma: bool,
     /// cbf_cb, where the transform unit has 4x4 luma samples that of the unit that was split.
     pub cbf_cb: bool,
+    /// cbf_cr, of the same unit as cbf_cb.
     pub cbf_cr: bool,
 }
 
@@ -73,6 +84,7 @@ pub struct TransformUnit {
 pub struct CodedBlock {
     /// The first place of its transform unit; of a chroma block of 4x4 samples that of the unit that was split.
     pub x: u8,
+    /// The row of that place.
     pub y: u8,
     /// The binary logarithm of its side in samples of its component.
     pub log2_size: u8,

@@ -14,7 +14,10 @@ pub enum ComponentOffset {
 /// Sample adaptive offset of a coding tree unit.
 #[derive(Clone, Copy, Debug, PartialEq, Eq)]
 pub struct Sao {
+    /// That of luma.
     pub luma: ComponentOffset,
+    /// That of Cb.
     pub cb: ComponentOffset,
+    /// That of Cr.
     pub cr: ComponentOffset,
 }

@@ -9,7 +9,9 @@ use crate::item::Square;
 /// A motion vector, in quarter luma samples.
 #[derive(Clone, Copy, Debug, PartialEq, Eq)]
 pub struct Mv {
+    /// To the right, from -2^15 to 2^15 - 1.
     pub x: i16,
+    /// Downwards, from -2^15 to 2^15 - 1.
     pub y: i16,
 }
 
@@ -59,18 +61,24 @@ pub enum MotionSyntax {
 pub struct PredictionUnit {
     /// Its coding unit.
     pub unit: Square,
+    /// How its coding unit is parted.
     pub part_mode: PartMode,
     /// partIdx.
     pub part: u8,
+    /// How it tells its motion.
     pub motion: MotionSyntax,
 }
 
 /// A block of places: its first one, counted from the coding tree unit's first, and its sides in places.
 #[derive(Clone, Copy, Debug, PartialEq, Eq)]
 pub struct Rectangle {
+    /// The column of its first place.
     pub x: u8,
+    /// The row of its first place.
     pub y: u8,
+    /// How many places it has across, at most 16.
     pub width: u8,
+    /// How many it has down, at most 16.
     pub height: u8,
 }
 

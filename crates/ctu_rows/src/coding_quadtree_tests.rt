@@ -195,8 +195,8 @@ fn are_levels_read(records: &mut Records, levels: &mut Levels) -> bool {
     is_read(end, records.items(), 96, 95, Item::Level(0, 4))
 }
 
-/// The data of an encoder's B slice of SliceQpY 29: one unit of two prediction units, the first of which points two quarters of
-/// a sample to the left of its prediction in the second reference picture.
+/// The data of an encoder's B slice of SliceQpY 29: one unit of two prediction units, the first of which points two
+/// quarters of a sample to the left of its prediction in the second reference picture.
 #[rattlefmt::skip]
 const B_SLICE: [u8; 25] = [
     174, 226, 143, 248, 83, 191, 119, 13, 23, 71, 220, 203, 245, 158, 206, 158, 47, 205, 211,

@@ -16,6 +16,7 @@ use spec_deblocking::Plane;
 /// A row of a plane, in samples and lines of the plane.
 #[derive(Clone, Copy, Debug, PartialEq, Eq)]
 pub struct Row {
+    /// Whether the plane is luma or chroma.
     pub plane: Plane,
     /// From 8 to 14.
     pub bit_depth: u32,

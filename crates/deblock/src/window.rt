@@ -11,10 +11,15 @@ use spec_deblocking::Line;
 /// horizontal edges, which are `turned`, it is the other way round.
 #[derive(Clone, Copy, Debug, PartialEq, Eq)]
 pub struct Window {
+    /// Whether the edges are horizontal.
     pub turned: bool,
+    /// The first place across the edges.
     pub across_first: usize,
+    /// The place behind the last across the edges, at most 65536.
     pub across_end: usize,
+    /// The first place along the edges.
     pub along_first: usize,
+    /// The place behind the last along the edges, at most 65536.
     pub along_end: usize,
 }
 

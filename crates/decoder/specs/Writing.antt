@@ -36,8 +36,8 @@ GoOut out pictures r = (later : Decoded) → LeadsTo out (put_out pictures later
 abbrev pub Leaves : Change → List (List ℕ) → List (List ℕ) → Type 0
 Leaves out pictures rest = (later : Decoded) → Wrote out (put_out pictures later) (put_out rest later)
 
--- by a result: what a picture owes is written, whatever follows it, and the buffer is as it leaves it; or decoding ended
--- in it
+-- by a result: what a picture owes is written, whatever follows it, and the buffer is as it leaves it; or decoding
+-- ended in it
 abbrev pub TakesPicture : {X : Type 0} → Change → PicturePlan → List DecodedPicture → List DecodedPicture → Result X Outcome → Type 0
 TakesPicture out p old new r = (next : List DecodedPicture → Decoded) → LeadsTo out (with_picture p next old) (next new) r
 

@@ -9,11 +9,11 @@ use hv_base::Outcome;
 use hv_io::{InputEnd, Sink, Source, read_available};
 use std::alloc::Global;
 
-/// Reads the source, writes the pictures of its stream in output order, and answers how decoding ended. The pictures are
-/// I420: the planes Y, Cb and Cr of each picture, a byte a sample.
+/// Reads the source, writes the pictures of its stream in output order, and answers how decoding ended. The pictures
+/// are I420: the planes Y, Cb and Cr of each picture, a byte a sample.
 ///
-/// Where a read failed, what came before it is decoded: the pictures that are over are written. A broken rule or a limit
-/// in it is the answer, and else the read fault.
+/// Where a read failed, what came before it is decoded: the pictures that are over are written. A broken rule or a
+/// limit in it is the answer, and else the read fault.
 pub fn decode<S: Source, O: Sink>(
     alloc: Global,
     options: Options,

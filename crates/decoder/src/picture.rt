@@ -13,8 +13,8 @@ use picture_trees::ReadError;
 use plan_types::PicturePlan;
 use std::alloc::Global;
 
-/// Decodes a picture by those of the buffer, its loop filters with it, or answers what is broken or met in it first, or that
-/// there is no memory for it. A spare picture of its size lends it the memory.
+/// Decodes a picture by those of the buffer, its loop filters with it, or answers what is broken or met in it first, or
+/// that there is no memory for it. A spare picture of its size lends it the memory.
 #[tactic(auto, unfolding(spec_decoder::specs::Decoder::decoded_picture))]
 pub(crate) fn decode_picture(
     alloc: Global,

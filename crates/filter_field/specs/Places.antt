@@ -43,8 +43,8 @@ pub record HasPlaces (field : FieldPlaces) (across down : ℕ) : Type 0 where
   pub columns : field.across ≡ across
   pub rows : field.down ≡ down
 
--- whether a place beside a unit is coded, by the unit's first place, from which columns and rows are counted from 1; not
--- outside the picture (8.7.2.4)
+-- whether a place beside a unit is coded, by the unit's first place, from which columns and rows are counted from 1;
+-- not outside the picture (8.7.2.4)
 abbrev pub coded_at : FieldPlaces → ℕ → ℕ → ℕ → ℕ → Bool
 coded_at field x y column row =
     nat_lt 0 (x + column) && (nat_lt 0 (y + row) && (places_of field (x + column - 1) (y + row - 1)).coded)

@@ -3,7 +3,8 @@
 ghost use Rattle.std.specs.Prelude.{◌≡◌, ◌*◌, ◌≤◌, length};
 ghost use Rattle.filter_field.specs.Grids.{cell};
 
-/// The value in a column of a row, where values stand in rows of `across`, `down` of them; `outside` where there is none.
+/// The value in a column of a row, where values stand in rows of `across`, `down` of them; `outside` where there is
+/// none.
 #[tactic(auto, unfolding(crate::specs::Grids::cell))]
 pub(crate) fn cell<T: Copy>(
     across: u32,

@@ -22,8 +22,8 @@ still p = given_of p.ahead p.next (waiting p.pending)
 abbrev pub planned_behind : Bool → Result Between Stop → List Told → Planned
 planned_behind ended next told = planned_next next (λ s. planned_from ended s told)
 
--- the pictures of the flights and those that wait for their flight's end are those that waited before and then those that
--- are planned, each once and in their order; the same pictures go out at the end, and the same stops the stream
+-- the pictures of the flights and those that wait for their flight's end are those that waited before and then those
+-- that are planned, each once and in their order; the same pictures go out at the end, and the same stops the stream
 pub record AreGiven (before : List PicturePlan) (g : Given) (p : Planned) : Type 0 where
   pub pictures : pictures_of g.flights ++ g.left.pending ≡ before ++ p.pictures
   pub last : g.last ≡ p.last

@@ -20,8 +20,8 @@ abbrev pub run : Plans → List Told → Given
 run p [] = at_end p
 run p (t ∷ ts) = behind_flights (behind_unit p (t ∷ [])).flights (run (behind_unit p (t ∷ [])).left ts)
 
--- the flights hold the pictures that are planned, and nothing else; the same pictures go out at the end, and the same stops
--- the stream
+-- the flights hold the pictures that are planned, and nothing else; the same pictures go out at the end, and the same
+-- stops the stream
 pub record ArePlanned (g : Given) (p : Planned) : Type 0 where
   pub pictures : pictures_of g.flights ≡ p.pictures
   pub last : g.last ≡ p.last

@@ -5,8 +5,8 @@ use Rattle.flight_plan.specs.declared.row_range.Reference.TheVariants.{Base, Fli
 use Rattle.flight_plan.specs.declared.row_range.RowRange.{RowRange}
 
 -- a picture's coding tree units a row, its rows, whether entropy coding sync is on, and, by coding tree unit in raster
--- order, the collocated picture of the unit's slice and the row ranges that the unit reads; a unit past a list's end has
--- none
+-- order, the collocated picture of the unit's slice and the row ranges that the unit reads; a unit past a list's end
+-- has none
 pub record PictureRows : Type 0 where
   pub width : ℕ
   pub rows : ℕ

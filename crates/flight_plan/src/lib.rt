@@ -1,5 +1,5 @@
-//! What a flight of pictures is to do: the pictures that are decoded together, the rows that each waits for, and the units
-//! at which a rule is broken.
+//! What a flight of pictures is to do: the pictures that are decoded together, the rows that each waits for, and the
+//! units at which a rule is broken.
 #![tactic(auto)]
 
 mod plan;

@@ -30,8 +30,11 @@ impl Reference {
 /// Rows of coding tree blocks of a reference picture, from `first` to `last`, both included.
 #[derive(Clone, Copy, Debug, PartialEq, Eq)]
 pub struct RowRange {
+    /// The picture that is read.
     pub picture: Reference,
+    /// The first row, counted from the top.
     pub first: u32,
+    /// The last row.
     pub last: u32,
 }
 

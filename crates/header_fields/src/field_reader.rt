@@ -11,7 +11,9 @@ use hv_bits::BitReader;
 /// The bits of a structure that aren't read yet, and the rules that its fields keep.
 #[derive(Drop)]
 pub struct FieldReader<'a> {
+    /// The rules that a field breaks which ends too early, or is out of its range.
     pub rules: FieldRules,
+    /// The bits that aren't read yet.
     pub bits: BitReader<'a>,
 }
 

@@ -9,7 +9,9 @@ use std::marker::Model;
 /// The fields behind deblocking_filter_control_present_flag, where it is 1 (7.4.3.3).
 #[derive(Clone, Copy, Debug, PartialEq, Eq)]
 pub struct DeblockingControl {
+    /// Whether slice headers hold deblocking_filter_override_flag.
     pub deblocking_filter_override_enabled_flag: bool,
+    /// Whether slices without deblocking fields of their own aren't deblocked.
     pub pps_deblocking_filter_disabled_flag: bool,
     /// 0 where the filter is disabled.
     pub pps_beta_offset_div2: i32,
@@ -17,38 +19,61 @@ pub struct DeblockingControl {
     pub pps_tc_offset_div2: i32,
 }
 
-/// The fields of a picture parameter set up to slice_segment_header_extension_present_flag (7.3.2.3). Its
+/// The fields of a picture parameter set up to slice_segment_header_extension_present_flag (7.3.2.3, 7.4.3.3). Its
 /// tiles_enabled_flag is 0.
 #[derive(Debug, PartialEq, Eq, Drop)]
 pub struct PpsFields {
+    /// The number by which slices name the set, from 0 to 63.
     pub pps_pic_parameter_set_id: u32,
+    /// The sequence parameter set that it belongs to, from 0 to 15.
     pub pps_seq_parameter_set_id: u32,
+    /// Whether slice segments may be dependent: their headers hold dependent_slice_segment_flag.
     pub dependent_slice_segments_enabled_flag: bool,
+    /// Whether slice headers hold pic_output_flag.
     pub output_flag_present_flag: bool,
+    /// How many slice_reserved_flag bits a slice header has, from 0 to 7.
     pub num_extra_slice_header_bits: u32,
+    /// Whether the parity of a sub-block's levels may tell the sign of one of them.
     pub sign_data_hiding_enabled_flag: bool,
+    /// Whether the headers of P and B slices hold cabac_init_flag.
     pub cabac_init_present_flag: bool,
+    /// How many entries list 0 has in slices that don't tell it, less 1: from 0 to 14.
     pub num_ref_idx_l0_default_active_minus1: u32,
+    /// How many entries list 1 has in slices that don't tell it, less 1: from 0 to 14.
     pub num_ref_idx_l1_default_active_minus1: u32,
+    /// SliceQpY before slice_qp_delta is added, less 26: from -26 to 25.
     pub init_qp_minus26: i32,
+    /// Whether intra blocks are predicted from samples of intra coding units alone.
     pub constrained_intra_pred_flag: bool,
+    /// Whether blocks of 4x4 samples may hold transform_skip_flag.
     pub transform_skip_enabled_flag: bool,
     /// diff_cu_qp_delta_depth, where cu_qp_delta_enabled_flag is 1. Its range is judged where a slice names the set.
     pub diff_cu_qp_delta_depth: Option<u32>,
+    /// What is added to the quantization parameter for Cb, from -12 to 12.
     pub pps_cb_qp_offset: i32,
+    /// What is added to the quantization parameter for Cr, from -12 to 12.
     pub pps_cr_qp_offset: i32,
+    /// Whether slice headers hold slice_cb_qp_offset and slice_cr_qp_offset.
     pub pps_slice_chroma_qp_offsets_present_flag: bool,
+    /// Whether P slices have explicit weights.
     pub weighted_pred_flag: bool,
+    /// Whether B slices have explicit weights.
     pub weighted_bipred_flag: bool,
+    /// Whether coding units hold cu_transquant_bypass_flag.
     pub transquant_bypass_enabled_flag: bool,
+    /// Whether each row of units is a substream of its own, whose contexts begin as behind two units of the row above.
     pub entropy_coding_sync_enabled_flag: bool,
+    /// Whether loop filters may pass the left and the upper edges of slices that don't tell it.
     pub pps_loop_filter_across_slices_enabled_flag: bool,
+    /// How slices are deblocked, where deblocking_filter_control_present_flag is 1.
     pub deblocking_control: Option<DeblockingControl>,
     /// The lists, where pps_scaling_list_data_present_flag is 1.
     pub scaling_lists: Option<ScalingLists>,
+    /// Whether slice headers hold ref_pic_lists_modification.
     pub lists_modification_present_flag: bool,
     /// Its range is judged where a slice names the set.
     pub log2_parallel_merge_level_minus2: u32,
+    /// Whether slice segment headers hold an extension.
     pub slice_segment_header_extension_present_flag: bool,
 }
 

@@ -131,6 +131,7 @@ impl FaultKind {
 /// A broken rule, and where it is broken.
 #[derive(Clone, Copy, Debug, PartialEq, Eq)]
 pub struct Fault {
+    /// Which rule is broken.
     pub kind: FaultKind,
     /// The number of the NAL unit, counted from 0 over the whole stream.
     pub nal: u32,

@@ -51,6 +51,7 @@ impl LimitKind {
 /// A limit that a stream met, and where.
 #[derive(Clone, Copy, Debug, PartialEq, Eq)]
 pub struct Limit {
+    /// Which limit is met.
     pub kind: LimitKind,
     /// The number of the NAL unit, counted from 0 over the whole stream.
     pub nal: u32,

@@ -11,8 +11,11 @@ use std::alloc::{AllocError, AllocFailed};
 /// no memory left.
 #[derive(Clone, Copy, Debug, PartialEq, Eq)]
 pub enum Refusal {
+    /// There was no memory left.
     Memory,
+    /// A rule is broken.
     Fault(FaultKind),
+    /// A limit is met.
     Limit(LimitKind),
 }
 
@@ -35,6 +38,8 @@ impl<T: Drop> From<AllocFailed<T>> for Refusal {
 /// A broken rule or a limit that was met, and where.
 #[derive(Clone, Copy, Debug, PartialEq, Eq)]
 pub enum Stop {
+    /// A rule is broken.
     Fault(Fault),
+    /// A limit is met.
     Limit(Limit),
 }

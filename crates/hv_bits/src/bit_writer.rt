@@ -76,8 +76,8 @@ impl BitWriter {
         self.ue(code_of(v))
     }
 
-    /// Writes a 1 and zeros up to the end of a byte: byte_alignment() of H.265 7.3.2.12, a whole byte where the last one
-    /// is full. Where memory is wanting, nothing is written.
+    /// Writes a 1 and zeros up to the end of a byte: byte_alignment() of H.265 7.3.2.12, a whole byte where the last
+    /// one is full. Where memory is wanting, nothing is written.
     pub fn align(&mut self) -> Result<(), AllocError>
         ensures ok { OnOk result (self.new ≡ self.old ++ aligned_bits (length self.old)) }
         ensures err { OnErr result (self.new ≡ self.old) }

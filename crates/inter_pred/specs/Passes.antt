@@ -1,5 +1,5 @@
--- The passes over a window of a reference picture. Its samples stand at 14 bits in lines of 72; what the lines give stands
--- 8192 above in lines of 64, so that none of it is below 0.
+-- The passes over a window of a reference picture. Its samples stand at 14 bits in lines of 72; what the lines give
+-- stands 8192 above in lines of 64, so that none of it is below 0.
 use Rattle.std.specs.Prelude.{ℕ, ◌+◌, ◌*◌, ◌≤◌, ◌==◌, ℤ, pos, negsuc, ◌-ℤ◌, ◌≤ℤ◌, List, slice_index_or, if◌then◌else◌}
 use Rattle.std.specs.Int.{int_shr}
 use Rattle.spec_inter_prediction.specs.Taps.{luma_filter, chroma_filter}

@@ -15,7 +15,9 @@ use crate::window::{Window, gather};
 /// The fractions of a vector.
 #[derive(Clone, Copy)]
 pub struct Fractions {
+    /// That of the column, in quarters of a luma sample or eighths of a chroma sample: below 8.
     pub across: u32,
+    /// That of the line, likewise.
     pub down: u32,
 }
 

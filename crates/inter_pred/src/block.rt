@@ -17,9 +17,13 @@ use ctu_records::Mv;
 /// A block of a picture, in samples of its component.
 #[derive(Clone, Copy, Debug, PartialEq, Eq)]
 pub struct Block {
+    /// Its first column.
     pub x: u32,
+    /// Its first line.
     pub y: u32,
+    /// How many columns it has, at most 64.
     pub width: u32,
+    /// How many lines it has, at most 64.
     pub height: u32,
 }
 
@@ -59,8 +63,8 @@ fn chroma_first(place: u32, v: i16) -> i32
     place as i32 + i32::from(v >> 3) - 1
 }
 
-/// Writes the luma prediction of a block by a vector (8.5.3.3.3.1), on a scale of 14 bits, in lines of 64. `depth` is the
-/// bit depth of the reference picture, below which its samples are.
+/// Writes the luma prediction of a block by a vector (8.5.3.3.3.1), on a scale of 14 bits, in lines of 64. `depth` is
+/// the bit depth of the reference picture, below which its samples are.
 pub fn luma<V: RefWindow>(
     view: &V,
     picture: u32,
@@ -91,8 +95,8 @@ pub fn luma<V: RefWindow>(
     interpolate::<V, 8>(view, first, fractions, depth, scratch, out);
 }
 
-/// Writes the prediction of a block of a chroma component by a vector (8.5.3.3.3.2), on a scale of 14 bits, in lines of 64.
-/// The vector is that of the luma block, so it counts eighths of a chroma sample.
+/// Writes the prediction of a block of a chroma component by a vector (8.5.3.3.3.2), on a scale of 14 bits, in lines of
+/// 64. The vector is that of the luma block, so it counts eighths of a chroma sample.
 pub fn chroma<V: RefWindow>(
     view: &V,
     picture: u32,

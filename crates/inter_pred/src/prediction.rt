@@ -8,6 +8,7 @@ use std::marker::Model;
 /// The samples of a block on a scale of 14 bits (predSamplesLX), in lines of 64. A contract sees them as a list.
 #[derive(Drop)]
 pub struct Prediction {
+    /// 64 lines of 64, one after the other.
     pub(crate) samples: [i32; 4096],
 }
 

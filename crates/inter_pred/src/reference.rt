@@ -5,8 +5,8 @@ ghost use Rattle.inter_pred.specs.Passes.{at};
 
 /// The samples of reference pictures.
 pub trait RefWindow {
-    /// The sample of a picture and a component at a column and a line. Outside the picture it is the nearest one inside,
-    /// as 8.5.3.3.3 clamps coordinates.
+    /// The sample of a picture and a component at a column and a line. Outside the picture it is the nearest one
+    /// inside, as 8.5.3.3.3 clamps coordinates.
     ghost reference_at: { Self → ℕ → ℕ → ℤ → ℤ → ℕ };
 
     /// The samples of a line from a column on, both in samples of the component.

@@ -90,7 +90,8 @@ fn lines<const KIND: u32>(
     }
 }
 
-/// Writes the samples of a block that is predicted from one list, `list` 0 or 1 (8.5.3.3.4.2, 8.5.3.3.4.3), in lines of 64.
+/// Writes the samples of a block that is predicted from one list, `list` 0 or 1 (8.5.3.3.4.2, 8.5.3.3.4.3), in lines of
+/// 64.
 #[tactic(auto, unfolding(crate::specs::Samples::sample, spec_inter_prediction::specs::Weighting::weighted_one))]
 pub fn weigh_one(
     prediction: &Prediction,

@@ -10,11 +10,17 @@ use crate::reference::RefWindow;
 /// A rectangle of a component of a reference picture. It may begin and end outside the picture.
 #[derive(Clone, Copy)]
 pub struct Window {
+    /// The picture, by its place in the decoded picture buffer.
     pub picture: u32,
+    /// 0 for luma, 1 for Cb, 2 for Cr.
     pub component: u8,
+    /// The first column, in samples of the component.
     pub x: i32,
+    /// The first line.
     pub y: i32,
+    /// How many columns it has, at most 71.
     pub width: usize,
+    /// How many lines it has, at most 71.
     pub height: usize,
 }
 

@@ -11,6 +11,7 @@ pub struct UnitInter<'a> {
     pub motion: &'a UnitMotion,
     /// Its slice, with the reference picture lists.
     pub slice: &'a SliceMotion,
+    /// The weights of its slice's reference pictures.
     pub weighting: &'a SliceWeighting,
     /// The column of the unit's first place of 4x4 luma samples in the picture.
     pub column: u32,

@@ -21,7 +21,9 @@ use spec_reconstruction::UnitFormat;
 /// A block of a component, in samples of the picture.
 #[derive(Clone, Copy)]
 pub struct Part {
+    /// The block.
     pub block: Block,
+    /// The component: 0 for luma, 1 for Cb, 2 for Cr.
     pub c: u8,
 }
 

@@ -32,8 +32,8 @@ fn samples_of_place(c: u8) -> u32
     if c == 0 { 4 } else { 2 }
 }
 
-/// A block of places of a unit in samples of a component of the picture. `column` and `row` are those of the unit's first
-/// place.
+/// A block of places of a unit in samples of a component of the picture. `column` and `row` are those of the unit's
+/// first place.
 pub fn block_of(block: Rectangle, column: u32, row: u32, c: u8) -> Block
     requires block { IsBlock block }
     requires place { (column ≤ 8192) × (row ≤ 8192) }

@@ -6,8 +6,11 @@ use inter_pred::{Prediction, Scratch};
 /// nothing.
 #[derive(Drop)]
 pub struct InterScratch {
+    /// The prediction by list 0, or by the one list that there is.
     pub(crate) first: Prediction,
+    /// That by list 1, where there are both.
     pub(crate) second: Prediction,
+    /// What one prediction is interpolated in.
     pub(crate) scratch: Scratch,
 }
 

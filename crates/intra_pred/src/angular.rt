@@ -22,8 +22,8 @@ pub struct Direction {
     pub depth: u32,
 }
 
-/// Writes the prediction of a block along a direction, line after line. `main` and `side` begin with the corner; for the
-/// modes below 18 they are the samples on the left and above, and the block is written with columns for lines.
+/// Writes the prediction of a block along a direction, line after line. `main` and `side` begin with the corner; for
+/// the modes below 18 they are the samples on the left and above, and the block is written with columns for lines.
 pub fn angular(main: &[u16], side: &[u16], direction: Direction, out: &mut [u16])
     requires log2 { (2 ≤ direction.log2) × (direction.log2 ≤ 5) }
     requires mode { (2 ≤ direction.mode) × (direction.mode ≤ 34) }

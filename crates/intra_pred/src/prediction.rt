@@ -11,8 +11,8 @@ use crate::rows::columns;
 use crate::smoothing::{filter, is_filtered};
 
 /// Writes the prediction of a block of N = 2^`log2` columns in component `c` by a mode (0 planar, 1 DC, 2 to 34
-/// directions), line after line, from its 4N + 1 substituted neighbours. `strong` is strong_intra_smoothing_enabled_flag,
-/// `depth` the bits of a sample.
+/// directions), line after line, from its 4N + 1 substituted neighbours. `strong` is
+/// strong_intra_smoothing_enabled_flag, `depth` the bits of a sample.
 #[tactic(auto, using(crate::proofs::Sizes::small))]
 pub fn predict(edge: &[u16], c: u8, log2: u32, mode: u8, strong: bool, depth: u32, out: &mut [u16])
     requires log2 { (2 ≤ log2) × (log2 ≤ 5) }

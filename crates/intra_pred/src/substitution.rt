@@ -3,9 +3,9 @@
 ghost use Rattle.std.specs.Prelude.{◌≡◌, ◌≤◌, ◌-◌, ◌^◌, length, take};
 ghost use Rattle.spec_intra_prediction.specs.Substitution.{first_available, sample_or, substituted};
 
-/// Writes the neighbours of a block in the order of the standard, from the bottom of the left column on, each that isn't
-/// available as the one before it. Those before the first available one are as that one; where none is available, all are
-/// half of the range of samples of `depth` bits.
+/// Writes the neighbours of a block in the order of the standard, from the bottom of the left column on, each that
+/// isn't available as the one before it. Those before the first available one are as that one; where none is available,
+/// all are half of the range of samples of `depth` bits.
 pub fn substitute(neighbours: &[Option<u16>], depth: u32, samples: &mut [u16])
     requires some_depth { 1 ≤ depth }
     requires depth { depth ≤ 16 }

@@ -12,9 +12,13 @@ use spec_loop_filters::FilterFormat;
 pub struct Component {
     /// 0 for luma, 1 for Cb, 2 for Cr.
     pub c: usize,
+    /// Luma or chroma, as deblocking takes it.
     pub plane: Plane,
+    /// The bit depth, from 8 to 14.
     pub depth: u32,
+    /// The columns of the picture.
     pub width: usize,
+    /// The lines of the picture.
     pub height: usize,
     /// The side of a coding tree block.
     pub size: usize,

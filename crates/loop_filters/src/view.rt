@@ -23,7 +23,8 @@ pub trait FilterView: Places {
         ensures count { length result.now ≡ columns_of (shape self.now) }
         ensures units { (u : ℕ) → u < columns_of (shape self.now) → unit_in result.now u ≡ unit_at self.now c u row };
 
-    /// Whether the samples of each place of a row of coding tree blocks stay, line by line; empty where none of them does.
+    /// Whether the samples of each place of a row of coding tree blocks stay, line by line; empty where none of them
+    /// does.
     fn kept(&self, row: usize) -> &[bool]
         requires { row < rows_of (shape self.now) }
         ensures { (i j : ℕ) → i < (shape self.now).width / 4 → j < (shape self.now).ctb_size / 4 → (shape self.now).ctb_size / 4 * row + j < (shape self.now).height / 4 → slice_index_or result.now ((shape self.now).width / 4 * j + i) false ≡ (Self.place_at self.now i ((shape self.now).ctb_size / 4 * row + j)).kept };

@@ -8,9 +8,9 @@ use spec_motion::{Collocated, Motion};
 
 /// The motion that is known while a coding tree unit is derived. A place is a block of 4x4 luma samples.
 pub trait MotionView {
-    /// The motion of the place at a column and a row, both counted from 1 at the unit's first place, so that column 0 stands
-    /// left of the unit and row 0 above it. None where the place isn't available (6.4.2), or isn't decoded yet, or is
-    /// predicted in intra mode.
+    /// The motion of the place at a column and a row, both counted from 1 at the unit's first place, so that column 0
+    /// stands left of the unit and row 0 above it. None where the place isn't available (6.4.2), or isn't decoded yet,
+    /// or is predicted in intra mode.
     ghost motion_at: { Self → ℕ → ℕ → Option Motion };
 
     /// The motion of the collocated picture at the first place of the block of 4x4 places at a column and a row, both

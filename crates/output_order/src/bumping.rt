@@ -9,8 +9,8 @@ use crate::next_output::next_output;
 use header_types::{DpbPicture, FieldList};
 use std::alloc::AllocError;
 
-/// Pictures go out as long as one is needed for output and either more are than `reorder` or at least `size` stay in the
-/// buffer. Their places follow those of `out`.
+/// Pictures go out as long as one is needed for output and either more are than `reorder` or at least `size` stay in
+/// the buffer. Their places follow those of `out`.
 #[tactic(auto, unfolding(spec_output_order::specs::OutputOrder::bumped))]
 pub(crate) fn bump(
     reorder: u32,

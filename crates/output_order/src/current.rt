@@ -9,8 +9,8 @@ use ref_picture_sets::begins_anew;
 use slice_types::SliceHeaderFields;
 use spec_output_order::CurrentPicture;
 
-/// What of a picture of this header, sequence parameter set and order count decides its outputs. Skipped leading pictures
-/// are dropped before, so PicOutputFlag is pic_output_flag.
+/// What of a picture of this header, sequence parameter set and order count decides its outputs. Skipped leading
+/// pictures are dropped before, so PicOutputFlag is pic_output_flag.
 pub fn current_picture(header: &SliceHeaderFields, sps: &Sps, poc: i32) -> CurrentPicture
     ensures value { result ≡ current_picture header.now sps.now poc }
     ensures buffering { result.ordering.max_dec_pic_buffering_minus1 ≤ 15 }

@@ -60,9 +60,10 @@ impl Dpb {
         self.pictures.as_slice()
     }
 
-    /// A picture starts, whose reference picture set over these pictures this is: what goes out before it, and what stays,
-    /// named by places in the buffer before the call. `DpbFull` where the buffer has no room: the picture doesn't begin
-    /// anew, and as many pictures are marked as reference as the buffer holds. After a refusal all is as before.
+    /// A picture starts, whose reference picture set over these pictures this is: what goes out before it, and what
+    /// stays, named by places in the buffer before the call. `DpbFull` where the buffer has no room: the picture
+    /// doesn't begin anew, and as many pictures are marked as reference as the buffer holds. After a refusal all is as
+    /// before.
     pub fn start(&mut self, header: &SliceHeader, sps: &Sps, rps: &Rps) -> Result<Outputs, Refusal>
         requires anew { begins_anew header.now.kind ≡ true → count_by is_reference rps.now.marks ≡ 0 }
         ensures value { (poc : ℤ) → GivesOutputs result (start_of (current_picture header.now sps.now poc) self.old.pictures rps.now.marks) }
@@ -122,8 +123,8 @@ impl Dpb {
         Ok(outputs)
     }
 
-    /// The pictures that are still needed for output go out, behind the last picture, and none stays. After want of memory
-    /// all is as before.
+    /// The pictures that are still needed for output go out, behind the last picture, and none stays. After want of
+    /// memory all is as before.
     pub fn flush(&mut self) -> Result<Outputs, AllocError>
         ensures value { IfOk result (λ o. o ≡ flush_outputs self.old.pictures) }
         ensures left { OnOk result (self.new ≡ record (self.old) { pictures = [] }) }

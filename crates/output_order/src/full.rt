@@ -8,8 +8,8 @@ ghost use Rattle.spec_output_order.specs.OutputOrder.{is_full_of_references};
 use crate::kept::is_reference;
 use header_types::{Mark, SubLayerOrdering};
 
-/// Whether the buffer has no room for a picture: it doesn't begin anew, and it marks as many pictures as reference as the
-/// buffer holds, max_dec_pic_buffering_minus1 + 1 (C.5.2.2).
+/// Whether the buffer has no room for a picture: it doesn't begin anew, and it marks as many pictures as reference as
+/// the buffer holds, max_dec_pic_buffering_minus1 + 1 (C.5.2.2).
 #[tactic(auto, unfolding(spec_output_order::specs::OutputOrder::is_full_of_references))]
 pub fn is_full_of_references(anew: bool, ordering: SubLayerOrdering, marks: &[Mark]) -> bool
     ensures { result ≡ is_full_of_references anew ordering marks.now }

@@ -119,7 +119,8 @@ pub(crate) fn enter(
 }
 
 /// The places of the pictures that go out where the input ends, in output order: all that are needed for output, where
-/// `dpb` are the pictures of the decoded picture buffer in decoding order (C.5.2.4). `AllocError` where memory runs out.
+/// `dpb` are the pictures of the decoded picture buffer in decoding order (C.5.2.4). `AllocError` where memory runs
+/// out.
 #[tactic(auto, unfolding(spec_output_order::specs::OutputOrder::last_outputs))]
 pub fn last_outputs(alloc: Global, dpb: &[DpbPicture]) -> Result<FieldList<u32>, AllocError>
     requires few { length dpb.now < 2 ^ 16 }

@@ -46,7 +46,8 @@ fn puts_out(dpb: &mut Dpb, current: CurrentPicture, marks: &[Mark], behind: &[u3
     start.before.len() == 0 && placed.behind.as_slice() == behind
 }
 
-/// Whether order counts 0, 4 and 2 go out as they should in a buffer of three that reorders one: 0 behind 4, and 2 at once.
+/// Whether order counts 0, 4 and 2 go out as they should in a buffer of three that reorders one: 0 behind 4, and 2 at
+/// once.
 fn are_reordered(dpb: &mut Dpb) -> bool {
     puts_out(dpb, picture(0, true, 2, 1), &[], &[])
         && puts_out(dpb, picture(4, false, 2, 1), &[Mark::Short], &[0])

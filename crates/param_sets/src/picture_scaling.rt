@@ -39,8 +39,8 @@ pub fn default_scaling_lists(alloc: Global) -> Result<ScalingLists, AllocError>
     })
 }
 
-/// The lists that scale a picture of these sets: those of the picture parameter set, or else of the sequence parameter set,
-/// or else the default lists; none where scaling_list_enabled_flag is 0, and each factor is 16.
+/// The lists that scale a picture of these sets: those of the picture parameter set, or else of the sequence parameter
+/// set, or else the default lists; none where scaling_list_enabled_flag is 0, and each factor is 16.
 #[tactic(auto, unfolding(spec_parameter_sets::specs::PictureScaling::picture_scaling_lists))]
 pub fn picture_scaling_lists(
     alloc: Global,

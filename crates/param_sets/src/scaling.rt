@@ -193,8 +193,8 @@ fn read_lists<'a>(
 ///
 /// # Errors
 ///
-/// The syntax rule of the reader where it ends inside a field or has a prefix of over 31 zeros; its range rule where a field
-/// is out of range or a factor is 0.
+/// The syntax rule of the reader where it ends inside a field or has a prefix of over 31 zeros; its range rule where a
+/// field is out of range or a factor is 0.
 #[tactic(auto, using(crate::proofs::ListLoops::read_in_range))]
 pub fn read_scaling_list_data<'a>(
     alloc: Global,

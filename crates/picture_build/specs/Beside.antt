@@ -4,8 +4,9 @@ use Rattle.spec_slice_data.specs.Segment.{PictureShape, column_of}
 use Rattle.spec_picture_samples.specs.Border.{Samples}
 use Rattle.picture_build.specs.declared.part.Part.{Part}
 
--- the first column of the line above that is of a unit of the slice, where units have so many samples on a side: column 0
--- is of the unit above on the left, and behind the columns of the unit itself stand those of the unit above on the right
+-- the first column of the line above that is of a unit of the slice, where units have so many samples on a side: column
+-- 0 is of the unit above on the left, and behind the columns of the unit itself stand those of the unit above on the
+-- right
 unfoldable pub first_above : PictureShape → ℕ → ℕ → ℕ → ℕ
 first_above picture slice address side =
     if nat_le (slice + picture.width + 1) address && nat_lt 0 (column_of picture address) then 0

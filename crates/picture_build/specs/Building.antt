@@ -37,14 +37,15 @@ behind_by building = record { motions = motions_of building.motion.field; gather
 abbrev pub IsSoundUnit : PicturePlan → TreeUnit → Type 0
 IsSoundUnit p unit = (s : SegmentPlan) → AreSound (unit_format p.sps p.pps s.header.slice) unit.read.items
 
--- a picture that is built is the one of this plan, and, where all these units are sound, has their samples, their motion and
--- what the loop filters need of them
+-- a picture that is built is the one of this plan, and, where all these units are sound, has their samples, their
+-- motion and what the loop filters need of them
 pub record IsBuilt (buffer : List DecodedPicture) (building : Building) (p : PicturePlan) (given : List TreeUnit) : Type 0 where
   pub plan : building.plan ≡ p
   pub picture : All (IsSoundUnit p) given → built_by building ≡ units_built buffer p given
   pub behind : All (IsSoundUnit p) given → behind_by building ≡ units_behind (motions_at buffer) p given
 
--- a call answered the picture that a plan gives, or the rule that its data break; where there was no memory nothing is said
+-- a call answered the picture that a plan gives, or the rule that its data break; where there was no memory nothing is
+-- said
 abbrev pub BuildsPicture : Result HeldPicture ReadError → Result DecodedPicture PictureBroken → Type 0
 BuildsPicture (Ok p) decoded = decoded ≡ Ok (decoded_of p)
 BuildsPicture (Err error.Memory) decoded = Unit {0}

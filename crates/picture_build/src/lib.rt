@@ -1,6 +1,6 @@
-//! Reads and builds a planned picture (H.265 6.4.1, 8.4.4.1, 8.5.3, 8.6.5, 8.7), on one thread: the motion and the samples
-//! of its coding tree units one after the other, each from what is known beside it and from the pictures that it refers to,
-//! and then its loop filters.
+//! Reads and builds a planned picture (H.265 6.4.1, 8.4.4.1, 8.5.3, 8.6.5, 8.7), on one thread: the motion and the
+//! samples of its coding tree units one after the other, each from what is known beside it and from the pictures that
+//! it refers to, and then its loop filters.
 #![tactic(auto)]
 
 mod beside;

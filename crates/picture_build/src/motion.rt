@@ -20,8 +20,11 @@ use plan_types::{PicturePlan, SegmentPlan};
 /// A slice segment of a planned picture, and the pictures of the decoded picture buffer before it.
 #[derive(Clone, Copy)]
 pub(crate) struct Source<'a> {
+    /// The picture.
     pub(crate) plan: &'a PicturePlan,
+    /// The pictures of the decoded picture buffer before it.
     pub(crate) bases: &'a Bases,
+    /// The slice segment.
     pub(crate) segment: &'a SegmentPlan,
 }
 

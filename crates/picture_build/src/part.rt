@@ -9,8 +9,10 @@ pub(crate) struct Part {
     pub(crate) side: usize,
     /// The column and the line of its first sample.
     pub(crate) x: usize,
+    /// The line of its first sample.
     pub(crate) y: usize,
     /// The plane's sides.
     pub(crate) width: usize,
+    /// The plane's lines.
     pub(crate) height: usize,
 }

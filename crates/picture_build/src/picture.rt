@@ -14,9 +14,9 @@ use spec_unit_ranges::units_that_are_read_are_sound;
 use std::alloc::Global;
 use std::marker::Brand;
 
-/// Reads and builds a picture over the pictures of the decoded picture buffer before it, and filters it: its samples and its
-/// motion. The error is the first rule that its data break, or want of memory, which is taken before the first unit is read. A
-/// spare picture of its size lends it the memory.
+/// Reads and builds a picture over the pictures of the decoded picture buffer before it, and filters it: its samples
+/// and its motion. The error is the first rule that its data break, or want of memory, which is taken before the first
+/// unit is read. A spare picture of its size lends it the memory.
 pub fn build_picture(
     alloc: Global,
     plan: &PicturePlan,

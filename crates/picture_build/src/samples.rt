@@ -26,10 +26,13 @@ use spec_reconstruction::UnitFormat;
 /// What the samples of a unit depend on, apart from those beside it.
 #[derive(Clone, Copy)]
 pub(crate) struct Depends<'a> {
+    /// The slice segment, the picture and the pictures before it.
     pub(crate) source: Source<'a>,
+    /// The unit's place.
     pub(crate) unit: Unit,
     /// The row of its first place.
     pub(crate) row: u32,
+    /// What all samples of the slice's units depend on.
     pub(crate) format: &'a UnitFormat,
     /// The picture's motion behind it.
     pub(crate) motion: &'a PictureMotion<'a>,

@@ -9,8 +9,8 @@ use header_types::PictureFormat;
 use picture_buffer::{MotionField, Picture, Planes};
 use std::alloc::{AllocError, Global};
 
-/// Planes of zeros and a field without motion of a picture of this format: those of a spare picture of its size, else new
-/// ones.
+/// Planes of zeros and a field without motion of a picture of this format: those of a spare picture of its size, else
+/// new ones.
 pub(crate) fn empty_parts(
     alloc: Global,
     format: &PictureFormat,

@@ -11,7 +11,9 @@ use picture_buffer::{MotionField, PlaceMotion};
 /// The motion of a unit in that of its picture.
 #[derive(Clone, Copy)]
 pub(crate) struct MotionNear<'a> {
+    /// The unit's place.
     pub(crate) unit: &'a Unit,
+    /// The motion of its picture.
     pub(crate) field: &'a MotionField,
 }
 

@@ -9,8 +9,11 @@ use picture_layout::Layout;
 /// A unit of a picture: its address, and that of the first unit of its slice.
 #[derive(Clone, Copy)]
 pub(crate) struct Unit {
+    /// The picture's size.
     pub(crate) layout: Layout,
+    /// The address of the first unit of its slice.
     pub(crate) slice: u32,
+    /// Its address, in raster order.
     pub(crate) address: u32,
 }
 

@@ -17,8 +17,8 @@ pub record Deriving : Type 0 where
   pub field : FieldPlaces
   pub last : Cells
 
--- what is known of the motion of the unit of a segment at an address, by the motion of the collocated picture and that of its
--- own picture so far
+-- what is known of the motion of the unit of a segment at an address, by the motion of the collocated picture and that
+-- of its own picture so far
 unfoldable pub known_over : Motions → PicturePlan → SegmentPlan → ℕ → List Item → Motions → Known
 known_over collocated p s address items motions =
     unit_derived (slice_motion p s address) (beneath_unit (picture_shape p.sps p.pps) address collocated) items

@@ -1,5 +1,5 @@
-//! The motion of a picture, unit after unit (H.265 6.4.1, 8.5.3.2): what is known beside a coding tree unit and beneath it in
-//! the collocated picture, and its motion laid into that of the picture.
+//! The motion of a picture, unit after unit (H.265 6.4.1, 8.5.3.2): what is known beside a coding tree unit and beneath
+//! it in the collocated picture, and its motion laid into that of the picture.
 #![tactic(auto)]
 
 mod beneath;

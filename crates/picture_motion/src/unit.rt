@@ -8,8 +8,11 @@ use picture_layout::Layout;
 /// A unit of a picture: its address, and that of the first unit of its slice.
 #[derive(Clone, Copy)]
 pub struct Unit {
+    /// The picture's size.
     pub layout: Layout,
+    /// The address of the first unit of its slice.
     pub slice: u32,
+    /// Its address, in raster order.
     pub address: u32,
 }
 

@@ -28,9 +28,13 @@ pub fn lay_unit(unit: &Unit, slice: &SliceMotion, motion: &UnitMotion, field: &m
 /// The places of a unit that the picture has: the first one, and how many there are across and down.
 #[derive(Clone, Copy)]
 pub(crate) struct Block {
+    /// The column of the first place in the picture.
     pub(crate) x: usize,
+    /// The row of the first place in the picture.
     pub(crate) y: usize,
+    /// How many places there are across, at most 16.
     pub(crate) columns: usize,
+    /// How many there are down, at most 16.
     pub(crate) rows: usize,
 }
 

@@ -23,8 +23,8 @@ fn ctb_log2_size(blocks: &BlockSizes) -> u64
     min_cb_log2_size + u64::from(blocks.log2_diff_max_min_luma_coding_block_size)
 }
 
-/// Whether a picture parameter set agrees with the sequence parameter set that it names: where not, a slice that names it
-/// breaks the rule `SetMismatch`. diff_cu_qp_delta_depth is at most log2_diff_max_min_luma_coding_block_size, and
+/// Whether a picture parameter set agrees with the sequence parameter set that it names: where not, a slice that names
+/// it breaks the rule `SetMismatch`. diff_cu_qp_delta_depth is at most log2_diff_max_min_luma_coding_block_size, and
 /// Log2ParMrgLevel at most CtbLog2SizeY.
 #[tactic(auto, unfolding(spec_parameter_sets::specs::Fits::fits))]
 pub fn fits(sps: &SpsFields, pps: &PpsFields) -> bool

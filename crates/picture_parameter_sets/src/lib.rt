@@ -1,4 +1,5 @@
-//! Reads picture parameter sets, and tells whether they agree with their sequence parameter sets (H.265 7.3.2.3, 7.4.3.3).
+//! Reads picture parameter sets, and tells whether they agree with their sequence parameter sets (H.265 7.3.2.3,
+//! 7.4.3.3).
 #![tactic(auto)]
 
 mod agreement;

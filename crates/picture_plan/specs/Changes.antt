@@ -53,8 +53,8 @@ Stops nal refusal.Memory e = ⊥
 Stops nal (refusal.Fault kind) e = e ≡ stop_at nal (breach.Fault kind)
 Stops nal (refusal.Limit kind) e = e ≡ stop_at nal (breach.Limit kind)
 
--- the picture that has these parts, and this unit and header as its first slice segment, and before which the buffer has
--- these pictures
+-- the picture that has these parts, and this unit and header as its first slice segment, and before which the buffer
+-- has these pictures
 abbrev pub begun_by : List DpbPicture → NalUnit → SliceHeaderFields → Parts → PicturePlan
 begun_by dpb u header parts = record {
   nal = u.index;

@@ -3,7 +3,8 @@ use Rattle.std.specs.Prelude.{ℕ, List}
 use Rattle.plan_types.specs.declared.picture_plan.PicturePlan.{PicturePlan}
 use Rattle.plan_types.specs.declared.between.Between.{Between}
 
--- how many pictures a flight has at most, the pictures that wait for their flight's end, and what is known between two units
+-- how many pictures a flight has at most, the pictures that wait for their flight's end, and what is known between two
+-- units
 pub record Held : Type 0 where
   pub ahead : ℕ
   pub pending : List PicturePlan

@@ -26,11 +26,17 @@ pub(crate) enum Closing {
 /// What a unit changes once it has closed the open picture, or that the stream stops there.
 #[derive(Drop)]
 pub(crate) enum Change {
+    /// Nothing.
     Nothing,
+    /// A sequence parameter set is accepted.
     SequenceSet(Shared<Sps>),
+    /// A picture parameter set is accepted.
     PictureSet(Shared<Pps>),
+    /// The sequence ends.
     SequenceEnd,
+    /// A picture begins, with the unit as its first slice segment.
     Opened(PicturePlan),
+    /// The stream stops.
     Stop(Stop),
 }
 

@@ -24,8 +24,8 @@ use plan_types::{PicturePlan, SegmentPlan};
 use ref_picture_sets::begins_anew;
 use slice_headers::data_size;
 
-/// The first rule that a picture breaks as it is closed: of those on its slice segments, and then that the decoded picture
-/// buffer has room for it (`DpbFull`), told at its first slice segment.
+/// The first rule that a picture breaks as it is closed: of those on its slice segments, and then that the decoded
+/// picture buffer has room for it (`DpbFull`), told at its first slice segment.
 pub(crate) fn broken_at_closing(picture: &PicturePlan) -> Option<Fault>
     ensures value { result ≡ broken_at_closing picture.now }
     ensures room { KeepsFew picture.now → result ≡ None → IsWithinSize picture.now }

@@ -16,7 +16,9 @@ use std::alloc::AllocError;
 /// What closing the open picture gives at the end of the input, and which pictures go out then.
 #[derive(Drop)]
 pub(crate) struct Ending {
+    /// The flights that end, and what stops the stream.
     pub step: Step,
+    /// The pictures that go out, in output order, by their places in the buffer.
     pub last: FieldList<u32>,
 }
 

@@ -31,8 +31,8 @@ impl Flight {
         Ok(Ended { changed, full })
     }
 
-    /// Puts a picture behind the pending ones, and ends their flight before it where it is of another sequence parameter
-    /// set.
+    /// Puts a picture behind the pending ones, and ends their flight before it where it is of another sequence
+    /// parameter set.
     #[tactic(auto, unfolding(crate::specs::Flights::joined_with))]
     fn join(&mut self, alloc: Global, picture: PicturePlan) -> Result<Option<Flight>, PicturePlan>
         ensures flights { IfOk result (λ changed. some_flight changed ≡ (joined_with (waiting self.old) picture).flights) }

@@ -69,10 +69,15 @@ fn only_segment(
 /// What a picture has beside its first slice segment's unit and header.
 #[derive(Drop)]
 pub(crate) struct Parts {
+    /// The active sequence parameter set.
     pub sps: Shared<Sps>,
+    /// The picture parameter set that its slices name.
     pub pps: Shared<Pps>,
+    /// PicOrderCntVal.
     pub poc: i32,
+    /// The reference picture set.
     pub rps: Rps,
+    /// What goes out of the decoded picture buffer at the picture, and what stays there.
     pub outputs: Outputs,
 }
 
@@ -172,8 +177,8 @@ impl Parts {
     }
 }
 
-/// The picture that has these parts, and this unit and header as its first slice segment. Before it the buffer has these
-/// pictures.
+/// The picture that has these parts, and this unit and header as its first slice segment. Before it the buffer has
+/// these pictures.
 fn picture_with(
     alloc: Global,
     dpb: &[DpbPicture],

@@ -14,8 +14,8 @@ use plan_types::Outputs;
 use slice_types::SliceHeader;
 use std::alloc::{AllocError, Global};
 
-/// What a picture of this header and order count puts out, and what it leaves in the buffer: no more than the buffer may
-/// hold, where it has room for the picture.
+/// What a picture of this header and order count puts out, and what it leaves in the buffer: no more than the buffer
+/// may hold, where it has room for the picture.
 pub(crate) fn outputs_at(
     alloc: Global,
     former: &Former,

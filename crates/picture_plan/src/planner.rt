@@ -21,8 +21,8 @@ use std::marker::Model;
 pub struct Planned {
     /// The flights that ended, in decoding order.
     pub flights: Flights,
-    /// Where the input ended and nothing stopped it, the pictures that go out then, in output order: each by its place in
-    /// the decoded picture buffer behind the last picture. None in other calls.
+    /// Where the input ended and nothing stopped it, the pictures that go out then, in output order: each by its place
+    /// in the decoded picture buffer behind the last picture. None in other calls.
     pub last: FieldList<u32>,
     /// What stops the stream behind them, where something does.
     pub stop: Option<Stop>,
@@ -58,8 +58,9 @@ impl Planner {
         })
     }
 
-    /// Plans the next unit, or what the framer answers in its place: the flights that end so, and what stops the stream.
-    /// Behind a stop each call gives no flight and the same stop. After want of memory the planner is as before.
+    /// Plans the next unit, or what the framer answers in its place: the flights that end so, and what stops the
+    /// stream. Behind a stop each call gives no flight and the same stop. After want of memory the planner is as
+    /// before.
     #[tactic(auto, unfolding(crate::specs::Plans::behind_unit))]
     pub fn unit(&mut self, next: Next) -> Result<Planned, AllocError>
         ensures value { IfOk result (λ planned. behind_unit self.old (told_by next) ≡ record { flights = planned.flights; last = planned.last; left = self.new }) }

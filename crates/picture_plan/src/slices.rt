@@ -20,8 +20,8 @@ use plan_types::{PicturePlan, SegmentPlan};
 use std::alloc::AllocError;
 
 impl State {
-    /// Plans a slice segment: of a dropped picture it closes the open one and isn't read; one that begins a picture closes
-    /// the open one first.
+    /// Plans a slice segment: of a dropped picture it closes the open one and isn't read; one that begins a picture
+    /// closes the open one first.
     #[tactic(auto, unfolding(spec_pictures::specs::Steps::slice_step))]
     pub(crate) fn plan_slice(&mut self, nal: Nal) -> Result<Step, AllocError>
         ensures value { IfOk result (λ step. left_by step self.new ≡ taken self.old (slice_step self.old.between (unit_of nal))) }

@@ -13,9 +13,13 @@ use std::marker::Model;
 /// units.
 #[derive(Drop)]
 pub(crate) struct State {
+    /// Where memory is taken.
     pub(crate) alloc: Global,
+    /// How many pictures a flight has at most.
     pub(crate) ahead: u32,
+    /// The pictures that wait for their flight's end, in decoding order.
     pub(crate) pending: Flight,
+    /// What is known between two units.
     pub(crate) between: Between,
 }
 

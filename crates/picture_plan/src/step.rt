@@ -23,7 +23,9 @@ use std::alloc::{AllocError, Global};
 /// The flights that a step ends, and what stops the stream behind it.
 #[derive(Drop)]
 pub(crate) struct Step {
+    /// The flights that it ends.
     pub ended: Ended,
+    /// What stops the stream behind it.
     pub stop: Option<Stop>,
 }
 
@@ -73,7 +75,8 @@ impl State {
         Ok(ended)
     }
 
-    /// Closes the open picture so, and changes nothing else. What may lack memory comes first, and then all is as before.
+    /// Closes the open picture so, and changes nothing else. What may lack memory comes first, and then all is as
+    /// before.
     pub(crate) fn close_as(&mut self, how: Closing) -> Result<Step, AllocError>
         requires { Closes how self.old.between }
         ensures value { IfOk result (λ step. left_by step self.new ≡ taken self.old (close self.old.between)) }
@@ -136,8 +139,8 @@ impl State {
     }
 }
 
-/// Adds the open picture, if there is one, to those that wait for their flight's end, and gives the flights that end so.
-/// After want of memory all is as before.
+/// Adds the open picture, if there is one, to those that wait for their flight's end, and gives the flights that end
+/// so. After want of memory all is as before.
 fn end_open(
     alloc: Global,
     ahead: u32,

@@ -26,8 +26,8 @@ use spec_pictures::UnitKind;
 use std::alloc::{AllocError, Global};
 
 impl State {
-    /// Plans what the framer answers: a unit, or what stops the stream behind the open picture. After want of memory all is
-    /// as before.
+    /// Plans what the framer answers: a unit, or what stops the stream behind the open picture. After want of memory
+    /// all is as before.
     #[tactic(auto, unfolding(spec_pictures::specs::Steps::step))]
     pub(crate) fn plan_next(&mut self, next: Next) -> Result<Step, AllocError>
         ensures value { IfOk result (λ step. left_by step self.new ≡ taken self.old (stepped self.old.between (told_by next))) }

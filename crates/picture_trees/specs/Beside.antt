@@ -7,7 +7,8 @@ use Rattle.spec_slice_data.specs.Offset.{no_sao}
 use Rattle.spec_slice_data.specs.Segment.{side_of}
 use Rattle.picture_trees.specs.declared.beside.Column.{Column}
 
--- a unit's side in places, the units of a row, the rightmost places of the unit before one, and the lowest places and the sample adaptive offset of the last unit of each column
+-- a unit's side in places, the units of a row, the rightmost places of the unit before one, and the lowest places and
+-- the sample adaptive offset of the last unit of each column
 pub record UnitsBeside : Type 0 where
   pub side : ℕ
   pub width : ℕ

@@ -21,8 +21,8 @@ between_of r units = record { engine = r.bins.interval; contexts = r.bins.contex
 abbrev pub unit_in : PictureShape → List Ctu → ℕ → Ctu
 unit_in picture units address = slice_index_or units address (nothing_read picture.size no_group)
 
--- what is kept of the units beside the one at an address, which is the next one, is what was read of them: the unit before
--- it, and the last unit of each column
+-- what is kept of the units beside the one at an address, which is the next one, is what was read of them: the unit
+-- before it, and the last unit of each column
 pub record IsKept (picture : PictureShape) (address : ℕ) (beside : UnitsBeside) (units : List Ctu) : Type 0 where
   pub count : length units ≡ address
   pub side : beside.side ≡ 2 ^ picture.size

@@ -1,5 +1,5 @@
-//! What is known of the coding tree units before one, as far as reading asks for it: the places above it and on its left
-//! (6.4.1). A place is a block of 4x4 luma samples.
+//! What is known of the coding tree units before one, as far as reading asks for it: the places above it and on its
+//! left (6.4.1). A place is a block of 4x4 luma samples.
 
 ghost use Rattle.std.specs.Prelude.{◌≡◌, ℕ, ◌+◌, ◌-◌, ◌*◌, ◌/◌, ◌%◌, ◌^◌, ◌<◌, ◌≤◌, IfOk, slice_index_or, slice_set, length};
 ghost use Rattle.ctu_records.specs.Tree.{no_side, side};
@@ -29,7 +29,8 @@ const NO_COLUMN: Column = Column {
     },
 };
 
-/// What the last unit in a column of units leaves to the one below it: its lowest places, and its sample adaptive offset.
+/// What the last unit in a column of units leaves to the one below it: its lowest places, and its sample adaptive
+/// offset.
 #[derive(Clone, Copy)]
 pub(crate) struct Column {
     places: [Side; 16],
@@ -175,7 +176,9 @@ fn side_of(records: &Records, x: usize, y: usize) -> Side
 /// The units beside one whose first luma sample stands in this row.
 #[derive(Drop)]
 pub(crate) struct View<'b> {
+    /// What is known of the units before it.
     pub(crate) beside: &'b Beside,
+    /// The row of that luma sample, from the picture's top.
     pub(crate) top: u32,
 }
 

@@ -8,14 +8,19 @@ ghost use Rattle.spec_slice_data.specs.Segment.{begins_row, column_of, row_of};
 use plan_types::PicturePlan;
 use std::marker::Model;
 
-/// A picture's size in coding tree units and in places of 4x4 luma samples, and whether each row of units has a substream
-/// of its own.
+/// A picture's size in coding tree units and in places of 4x4 luma samples, and whether each row of units has a
+/// substream of its own.
 #[derive(Clone, Copy)]
 pub(crate) struct Layout {
+    /// PicWidthInCtbsY, from 1 to 512.
     pub(crate) width: u32,
+    /// How many places the picture has across.
     pub(crate) across: u32,
+    /// How many places it has down.
     pub(crate) down: u32,
+    /// The binary logarithm of a unit's side in places, from 2 to 4.
     pub(crate) size: u8,
+    /// entropy_coding_sync_enabled_flag.
     pub(crate) sync: bool,
 }
 

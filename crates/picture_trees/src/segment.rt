@@ -21,6 +21,7 @@ const MOST_BYTES: usize = 67108864;
 pub(crate) struct Segment<'a> {
     /// The address of its first unit.
     pub(crate) first: u32,
+    /// How many units it has.
     pub(crate) count: u32,
     /// The address of its slice's first unit.
     pub(crate) slice: u32,
@@ -28,6 +29,7 @@ pub(crate) struct Segment<'a> {
     pub(crate) qp: u8,
     /// The contexts that its slice begins with.
     pub(crate) contexts: Contexts,
+    /// dependent_slice_segment_flag.
     pub(crate) dependent: bool,
     payload: &'a [u8],
     ranges: &'a [Substream],

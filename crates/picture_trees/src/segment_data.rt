@@ -22,7 +22,9 @@ pub(crate) struct SegmentData<'a> {
     number: usize,
     nal: u32,
     syntax: CtuSyntax,
+    /// The picture's size.
     pub(crate) layout: Layout,
+    /// Where its units stand, what its slice begins with, and its substreams.
     pub(crate) shape: Segment<'a>,
 }
 

@@ -11,11 +11,12 @@ use std::alloc::AllocError;
 
 /// Is handed each coding tree unit of a picture once it is read.
 pub trait Trees {
-    /// Whether these may be the units of this picture that it was handed, in order. Who tells nothing of them takes any.
+    /// Whether these may be the units of this picture that it was handed, in order. Who tells nothing of them takes
+    /// any.
     ghost tells: { Self → PicturePlan → List TreeUnit → Type 0 };
 
-    /// Takes what was read of the coding tree unit at address `ctu`, in raster order, of the picture's slice segment with
-    /// this number, from 0.
+    /// Takes what was read of the coding tree unit at address `ctu`, in raster order, of the picture's slice segment
+    /// with this number, from 0.
     fn unit(&mut self, segment: usize, ctu: u32, records: &Records) -> Result<(), AllocError>
         ensures { (p : PicturePlan) (given : List TreeUnit) → Self.tells self.old p given → OnOk result (Self.tells self.new p (given ++ tree_unit segment ctu records.now ∷ [])) };
 }

@@ -10,8 +10,11 @@ use slice_types::PictureKind;
 pub struct PicturePlan {
     /// The number of the NAL unit of the first slice segment.
     pub nal: u32,
+    /// What is known of it before its slices are read.
     pub kind: PictureKind,
+    /// The active sequence parameter set.
     pub sps: Shared<Sps>,
+    /// The picture parameter set that all its slices name.
     pub pps: Shared<Pps>,
     /// PicOrderCntVal.
     pub poc: i32,

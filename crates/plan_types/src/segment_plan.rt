@@ -7,6 +7,7 @@ use slice_types::{SliceHeader, Substream};
 /// A slice segment: its header, and its NAL unit.
 #[derive(Debug, Drop)]
 pub struct SegmentPlan {
+    /// Its header, with the fields of its slice.
     pub header: SliceHeader,
     /// The unit's payload, behind the two bytes of its header. The segment's data begin at the header's `data_place`.
     pub payload: Bytes,

@@ -14,6 +14,7 @@ use std::alloc::{AllocError, Global};
 /// The picture whose reference picture set is derived.
 #[derive(Clone, Copy)]
 pub(crate) struct CurrentPicture {
+    /// What is known of it before its slices are read.
     pub(crate) kind: PictureKind,
     /// PicOrderCntVal.
     pub(crate) poc: i32,

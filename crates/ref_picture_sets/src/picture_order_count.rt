@@ -28,8 +28,8 @@ pub fn begins_anew(kind: PictureKind) -> bool
     is_irap(kind.nal_type) && kind.no_rasl_output_flag
 }
 
-/// PicOrderCntVal of the picture (8.3.1). `prev` is that of prevTid0Pic: the picture before it that has TemporalId 0 and
-/// is no RASL, RADL or sub-layer non-reference picture. `HeaderRange` exactly where it doesn't fit 32 bits.
+/// PicOrderCntVal of the picture (8.3.1). `prev` is that of prevTid0Pic: the picture before it that has TemporalId 0
+/// and is no RASL, RADL or sub-layer non-reference picture. `HeaderRange` exactly where it doesn't fit 32 bits.
 #[tactic(auto, unfolding(spec_reference_pictures::specs::PictureOrderCount::pic_order_cnt_val))]
 pub fn poc_of(kind: PictureKind, references: &ReferenceFields, prev: i32) -> Result<i32, FaultKind>
     requires max_lsb_low { 16 ≤ kind.max_lsb }

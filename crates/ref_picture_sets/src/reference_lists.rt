@@ -9,8 +9,8 @@ use slice_types::{InterFields, SliceFields};
 use std::marker::Model;
 
 /// The reference picture lists of a slice (8.3.4). A slice without fields of P and B slices has none, one without
-/// num_ref_idx_l1_active_minus1 has no list 1, and where NumPicTotalCurr is 0 there is none. `dpb` is the decoded picture
-/// buffer in decoding order, before this picture.
+/// num_ref_idx_l1_active_minus1 has no list 1, and where NumPicTotalCurr is 0 there is none. `dpb` is the decoded
+/// picture buffer in decoding order, before this picture.
 #[tactic(auto, unfolding(spec_reference_pictures::specs::ReferenceLists::reference_lists))]
 pub fn build_lists(slice: &SliceFields, rps: &Rps, dpb: &[DpbPicture]) -> Lists
     requires { IfSome slice.now.inter IsInterFields }

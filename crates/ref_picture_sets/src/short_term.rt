@@ -45,8 +45,8 @@ fn read_set<'a>(
 }
 
 /// st_ref_pic_set(`index`) of `count` sets (7.3.7), derived from `former`, those before it (7.4.8). `max` is
-/// sps_max_dec_pic_buffering_minus1 of the highest sub-layer. A set that is predicted from one that isn't in `former` has
-/// no entry but the picture itself to start from.
+/// sps_max_dec_pic_buffering_minus1 of the highest sub-layer. A set that is predicted from one that isn't in `former`
+/// has no entry but the picture itself to start from.
 ///
 /// The syntax rule of the reader where bits lack or a prefix has over 31 zeros; its range rule where a field is out of
 /// range, an explicit set has over `max` entries, which is told once both numbers are read, or a predicted one over 16,

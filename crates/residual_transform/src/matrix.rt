@@ -11,8 +11,11 @@ use spec_transforms::{COSINE_MATRIX, SINE_MATRIX};
 /// The rows of a matrix, which stand `stride` apart in `entries` and have `size` columns.
 #[derive(Clone, Copy)]
 pub struct Matrix<'a> {
+    /// The entries, row after row.
     pub entries: &'a [i32],
+    /// How far in `entries` a row begins behind the one before.
     pub stride: usize,
+    /// How many rows and columns there are: 4, 8, 16 or 32.
     pub size: usize,
 }
 

@@ -46,7 +46,9 @@ pub fn band_run(lines: &[u16], run: Run, table: &[i16; 32], depth: u32, out: &mu
 /// The first samples of the neighbours of a run.
 #[derive(Clone, Copy)]
 pub struct Neighbours {
+    /// Where the first neighbour of the run's first sample stands among the lines that are read.
     pub first: usize,
+    /// Where its second neighbour stands there.
     pub second: usize,
 }
 

@@ -23,8 +23,11 @@ pub struct SegmentContext<'a> {
     pub nal_type: u8,
     /// TemporalId of the unit.
     pub temporal_id: u8,
+    /// The accepted parameter sets.
     pub sets: &'a Sets,
+    /// What the pictures before left to its picture.
     pub former: &'a Former,
+    /// The segments of its picture before it, in decoding order.
     pub segments: &'a [SegmentPlan],
 }
 

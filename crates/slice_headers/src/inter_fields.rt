@@ -141,7 +141,8 @@ fn has_weights(slice_type: SliceType, pps: &Pps) -> bool
     }
 }
 
-/// The fields of a slice that isn't an I slice, where `total` is NumPicTotalCurr and `is_temporal` is slice_temporal_mvp_enabled_flag.
+/// The fields of a slice that isn't an I slice, where `total` is NumPicTotalCurr and `is_temporal` is
+/// slice_temporal_mvp_enabled_flag.
 #[tactic(auto, unfolding(spec_slice_headers::specs::InterFields::inter_fields))]
 pub fn read_inter_fields<'a>(
     alloc: Global,

@@ -15,7 +15,9 @@ use picture_parameter_sets::fits;
 /// The parameter sets that a slice names.
 #[derive(Clone, Copy)]
 pub struct SliceSets<'a> {
+    /// The picture parameter set that its slice_pic_parameter_set_id names.
     pub pps: &'a Pps,
+    /// The sequence parameter set that this one names.
     pub sps: &'a Sps,
 }
 
@@ -41,8 +43,8 @@ fn is_active(active: &Option<Shared<Sps>>, sps: &Sps) -> bool
     }
 }
 
-/// The parameter sets behind slice_pic_parameter_set_id: they were accepted, they fit each other, the sequence parameter
-/// set changes only where a sequence begins, and each segment of a picture names the same ones.
+/// The parameter sets behind slice_pic_parameter_set_id: they were accepted, they fit each other, the sequence
+/// parameter set changes only where a sequence begins, and each segment of a picture names the same ones.
 #[tactic(auto, unfolding(spec_slice_headers::specs::NamedSets::named_sets))]
 pub fn read_named_sets<'a>(
     context: SegmentContext<'a>,

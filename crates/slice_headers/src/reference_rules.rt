@@ -16,8 +16,11 @@ use std::alloc::Global;
 /// What is read of a slice up to its reference fields.
 #[derive(Drop)]
 pub struct FrontFields {
+    /// How the coding units of the slice may be predicted.
     pub slice_type: SliceType,
+    /// Whether the picture may go out: true where it isn't coded.
     pub pic_output_flag: bool,
+    /// The picture's order count, and the pictures kept for reference.
     pub references: ReferenceFields,
 }
 
@@ -49,8 +52,8 @@ fn find_references<'a>(
     Ok(())
 }
 
-/// The rules on what a slice refers to: the picture order count is in range; the fields are those of the picture's first
-/// segment; its reference pictures are there; a P or B slice has some.
+/// The rules on what a slice refers to: the picture order count is in range; the fields are those of the picture's
+/// first segment; its reference pictures are there; a P or B slice has some.
 #[tactic(auto, unfolding(spec_slice_headers::specs::ReferenceRules::judged_references))]
 pub fn judge_references<'a>(
     alloc: Global,

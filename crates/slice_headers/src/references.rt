@@ -21,8 +21,11 @@ use std::alloc::Global;
 /// Which short-term set a slice has.
 #[derive(Drop)]
 pub struct ShortTermFields {
+    /// Whether the set is one of the sequence parameter set, and not coded in the header.
     pub short_term_ref_pic_set_sps_flag: bool,
+    /// Its number among those of the sequence parameter set, from 0: 0 where it isn't coded.
     pub short_term_ref_pic_set_idx: u32,
+    /// The set, coded or named.
     pub short_term_ref_pic_set: StRps,
 }
 

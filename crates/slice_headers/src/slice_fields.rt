@@ -174,10 +174,15 @@ fn read_across_slices<'a>(
 /// The fields of a slice's quantization and of its filters.
 #[derive(Clone, Copy)]
 pub struct FilterFields {
+    /// SliceQpY less 26 and init_qp_minus26: SliceQpY is from 0 to 51.
     pub slice_qp_delta: i32,
+    /// What is added to pps_cb_qp_offset: from -12 to 12, and so is the sum.
     pub slice_cb_qp_offset: i32,
+    /// What is added to pps_cr_qp_offset: from -12 to 12, and so is the sum.
     pub slice_cr_qp_offset: i32,
+    /// How the slice is deblocked.
     pub deblocking: SliceDeblocking,
+    /// Whether loop filters may pass its left and upper edges: as the picture parameter set tells where it isn't coded.
     pub slice_loop_filter_across_slices_enabled_flag: bool,
 }
 

@@ -2,8 +2,8 @@
 use Rattle.std.specs.Prelude.{ℕ, ◌+◌, ◌-◌, ◌%◌, ◌^◌, Bool, true, false, List, length, Option, Some, ◌==◌, if◌then◌else◌}
 use Rattle.spec_bits.specs.Bits.{u_at, ◌>>=◌}
 
--- the bits up to the next end of a byte, where a bit is left: 1 to 8 of them. The byte string ends at the end of a byte,
--- so the count of bits left tells the place.
+-- the bits up to the next end of a byte, where a bit is left: 1 to 8 of them. The byte string ends at the end of a
+-- byte, so the count of bits left tells the place.
 unfoldable pub up_to_boundary : List Bool → ℕ
 up_to_boundary bs = (length bs - 1) % 8 + 1
 

@@ -35,8 +35,8 @@ pub fn signed_exp_golomb_as_spelled()
     ensures only { (value : ℤ) (rest : List Bool) → nat_abs value ≤ 2147483647 → se_at (se_bits value ++ rest) ≡ Some (value, rest) }
 {}
 
-/// Byte alignment, before bits that fill whole bytes: what is read is spelled so (`found`), and what is spelled so is read
-/// (`only`).
+/// Byte alignment, before bits that fill whole bytes: what is read is spelled so (`found`), and what is spelled so is
+/// read (`only`).
 pub fn alignment_as_spelled()
     ensures found { (bs rest : List Bool) → aligned_at bs ≡ Some (true, rest) → (length rest % 8 ≡ 0) × ((before : ℕ) → (before + length bs) % 8 ≡ 0 → bs ≡ aligned_bits before ++ rest) }
     ensures only { (before : ℕ) (rest : List Bool) → length rest % 8 ≡ 0 → aligned_at (aligned_bits before ++ rest) ≡ Some (true, rest) }

@@ -1,5 +1,5 @@
-//! What the bits of a byte string are, what number the next n bits or the next Exp-Golomb code spell, and which bits spell
-//! a number (H.265 7.2, 9.2), with a plain program that reads and the laws that bind the two.
+//! What the bits of a byte string are, what number the next n bits or the next Exp-Golomb code spell, and which bits
+//! spell a number (H.265 7.2, 9.2), with a plain program that reads and the laws that bind the two.
 #![tactic(auto)]
 
 mod alignment;

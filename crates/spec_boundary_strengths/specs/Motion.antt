@@ -37,8 +37,8 @@ same_in_order p0 p1 q0 q1 = same_picture p0 q0 && same_picture p1 q1
 abbrev pub same_crossed : PlaceVector → PlaceVector → PlaceVector → PlaceVector → Bool
 same_crossed p0 p1 q0 q1 = same_picture p0 q1 && same_picture p1 q0
 
--- two vectors on each side: to other pictures; all to the same picture, where both ways to match them have vectors apart;
--- or to two pictures, where those to the same picture are apart
+-- two vectors on each side: to other pictures; all to the same picture, where both ways to match them have vectors
+-- apart; or to two pictures, where those to the same picture are apart
 unfoldable pub differ_by_two : PlaceVector → PlaceVector → PlaceVector → PlaceVector → Bool
 differ_by_two p0 p1 q0 q1 =
     if not (same_in_order p0 p1 q0 q1 || same_crossed p0 p1 q0 q1)

@@ -10,8 +10,8 @@ use Rattle.spec_boundary_strengths.specs.Edges.{is_transform_left, is_transform_
 
 -- what a unit's strengths depend on, apart from what was read of it. Columns and rows of places are counted from 1 at
 -- the unit's first place: column 0 stands left of the unit, row 0 above it. The motion of a place, None where it is
--- predicted in intra mode; whether the luma transform block of a place in column 0, or in row 0, has levels that aren't 0;
--- whether the unit's left side is filtered, and its top; and slice_deblocking_filter_disabled_flag of its slice
+-- predicted in intra mode; whether the luma transform block of a place in column 0, or in row 0, has levels that aren't
+-- 0; whether the unit's left side is filtered, and its top; and slice_deblocking_filter_disabled_flag of its slice
 pub record Beside : Type 0 where
   pub motion : ℕ → ℕ → Option PlaceMotion
   pub coded : ℕ → ℕ → Bool
@@ -50,8 +50,8 @@ strength coded None (Some q) = 2
 strength coded (Some p) None = 2
 strength coded (Some p) (Some q) = if coded then 1 else motion_strength p q
 
--- whether an edge before a column of places, or above a row of them, is filtered: it is on the grid of eight samples, and
--- the unit's own side is filtered
+-- whether an edge before a column of places, or above a row of them, is filtered: it is on the grid of eight samples,
+-- and the unit's own side is filtered
 abbrev pub is_filtered : Bool → Bool → ℕ → Bool
 is_filtered disabled side line = not disabled && (line % 2 == 0 && (if line == 0 then side else true))
 

@@ -12,9 +12,13 @@ use spec_bits::unsigned;
 /// ivlCurrRange, ivlOffset, the bits of the substream, and the place of the one that is read next.
 #[derive(Clone, Copy, Debug)]
 pub struct PlainEngine<'a> {
+    /// ivlCurrRange, from 256 to 510.
     pub range: u32,
+    /// ivlOffset, below ivlCurrRange.
     pub offset: u32,
+    /// The bits of the substream.
     pub bits: &'a [bool],
+    /// The place of the bit that is read next, from 0.
     pub at: usize,
 }
 

@@ -1,4 +1,5 @@
--- The filters of one line (8.7.2.5.7, 8.7.2.5.8). The greatest sample, 2 ^ BitDepth - 1, is a parameter of all that clip.
+-- The filters of one line (8.7.2.5.7, 8.7.2.5.8). The greatest sample, 2 ^ BitDepth - 1, is a parameter of all that
+-- clip.
 use Rattle.std.specs.Prelude.{ℕ, ◌+◌, ◌-◌, ◌*◌, ◌/◌, max, min, Bool, nat_lt, ℤ, pos, ◌+ℤ◌, neg_ℤ, ◌-ℤ◌, if◌then◌else◌}
 use Rattle.std.specs.Int.{int_shr, int_min, int_max}
 use Rattle.std.specs.Int.RustNames.{unsigned_abs}

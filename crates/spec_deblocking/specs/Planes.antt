@@ -1,5 +1,5 @@
--- The samples of a plane behind deblocking, by column and line (8.7.2). A sample lies within four of one edge of the grid
--- of eight samples alone.
+-- The samples of a plane behind deblocking, by column and line (8.7.2). A sample lies within four of one edge of the
+-- grid of eight samples alone.
 use Rattle.std.specs.Prelude.{ℕ, ◌+◌, ◌-◌, ◌*◌, ◌/◌, ◌%◌, ◌^◌, ◌&&◌, nat_lt, if◌then◌else◌}
 use Rattle.spec_deblocking.specs.declared.line.Line.{Line}
 use Rattle.spec_deblocking.specs.declared.place.Place.{Place}

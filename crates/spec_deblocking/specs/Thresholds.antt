@@ -1,5 +1,5 @@
--- The thresholds of an edge, from the places of p0 and q0 (8.7.2.5.3, 8.7.2.5.5). The offsets are those of the slice that
--- has q0.
+-- The thresholds of an edge, from the places of p0 and q0 (8.7.2.5.3, 8.7.2.5.5). The offsets are those of the slice
+-- that has q0.
 use Rattle.std.specs.Prelude.{ℕ, ◌*◌, ◌-◌, ◌^◌, ℤ, pos, negsuc, ◌+ℤ◌, ◌-ℤ◌, ◌*ℤ◌, slice_index_or}
 use Rattle.std.specs.Int.{int_shr, int_min, int_max}
 use Rattle.std.specs.Int.RustNames.{unsigned_abs}

@@ -10,8 +10,8 @@ ghost use Rattle.spec_deblocking.specs.Planes.{filtered_line, vertical, horizont
 ghost use Rattle.spec_deblocking.specs.Step.{step_place, step_sample, smoothed};
 
 /// A row of lines of a plane, which begins at a multiple of eight, depends on its own lines before vertical edges are
-/// filtered, and before horizontal edges are on four lines on each side of it too, where the plane has them. Of places it
-/// depends on those of its own lines, and for horizontal edges on those beside them too.
+/// filtered, and before horizontal edges are on four lines on each side of it too, where the plane has them. Of places
+/// it depends on those of its own lines, and for horizontal edges on those beside them too.
 pub fn rows_read_their_lines_and_four_beside()
     ensures vertical { (plane : Plane) (depth width : ℕ) (places others : ℕ → ℕ → Place) (samples other : ℕ → ℕ → ℕ) (top lines x y : ℕ)
         → width % 4 ≡ 0 → top % 8 ≡ 0 → lines % 4 ≡ 0 → x < width → top ≤ y → y < top + lines

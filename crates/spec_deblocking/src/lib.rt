@@ -1,5 +1,5 @@
-//! Deblocking as the standard says it where the boundary filtering strengths are given (8.7.2.5): which edges are filtered
-//! and how, and the samples of a plane behind it.
+//! Deblocking as the standard says it where the boundary filtering strengths are given (8.7.2.5): which edges are
+//! filtered and how, and the samples of a plane behind it.
 #![tactic(auto)]
 
 mod laws;

@@ -3,13 +3,21 @@
 /// Four samples before an edge and four behind it, numbered from the edge on.
 #[derive(Clone, Copy, Debug, PartialEq, Eq)]
 pub struct Line {
+    /// The fourth sample before the edge.
     pub p3: u32,
+    /// The third before it.
     pub p2: u32,
+    /// The second before it.
     pub p1: u32,
+    /// The sample right before the edge.
     pub p0: u32,
+    /// The sample right behind the edge.
     pub q0: u32,
+    /// The second behind it.
     pub q1: u32,
+    /// The third behind it.
     pub q2: u32,
+    /// The fourth sample behind the edge.
     pub q3: u32,
 }
 

@@ -1,5 +1,5 @@
--- A decoded picture, by the pictures of the decoded picture buffer before it: its samples are built from what was read and
--- from the pictures that it refers to, and then go through its loop filters (8.1.3, 8.7).
+-- A decoded picture, by the pictures of the decoded picture buffer before it: its samples are built from what was read
+-- and from the pictures that it refers to, and then go through its loop filters (8.1.3, 8.7).
 use Rattle.std.specs.Prelude.{ℕ, List, [], Result, Ok, Err, if◌then◌else◌}
 use Rattle.plan_types.specs.declared.picture_plan.PicturePlan.{PicturePlan}
 use Rattle.spec_picture_data.specs.Picture.{Halt, PictureBroken, Progress, TreeUnit, picture_read}

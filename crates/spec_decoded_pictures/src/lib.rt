@@ -1,5 +1,5 @@
-//! Decoded pictures as the standard says them (H.265 8.1.3): built from what was read and from the pictures that they refer
-//! to, and then filtered.
+//! Decoded pictures as the standard says them (H.265 8.1.3): built from what was read and from the pictures that they
+//! refer to, and then filtered.
 #![tactic(auto)]
 
 mod laws;

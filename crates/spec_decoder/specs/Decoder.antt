@@ -77,8 +77,8 @@ entered p next buffer (Ok picture) = behind_picture p next (buffer ++ picture �
 abbrev pub with_picture : PicturePlan → (List DecodedPicture → Decoded) → List DecodedPicture → Decoded
 with_picture p next buffer = put_out (out_at buffer p.outputs.before) (entered p next buffer (decoded_picture buffer p))
 
--- the pictures up to the first in which something is broken or met, in decoding order, with the pictures that the buffer
--- has before them, and what follows the last of them
+-- the pictures up to the first in which something is broken or met, in decoding order, with the pictures that the
+-- buffer has before them, and what follows the last of them
 abbrev pub decoded_from : (List DecodedPicture → Decoded) → List PicturePlan → List DecodedPicture → Decoded
 decoded_from end [] buffer = end buffer
 decoded_from end (p ∷ pictures) buffer = with_picture p (decoded_from end pictures) buffer

@@ -19,8 +19,8 @@ pub fn parameter_sets_are_in_range()
     ensures picture { (bytes : List ℕ) (p : PpsFields) → picture_parameter_set_of bytes ≡ Ok p → IsPps p }
 {}
 
-/// A slice segment header that is read is in range, where the accepted parameter sets are, and the slices of the segments
-/// before it.
+/// A slice segment header that is read is in range, where the accepted parameter sets are, and the slices of the
+/// segments before it.
 pub fn headers_are_in_range()
     ensures { (c : Context) (payload : List ℕ) (h : SliceHeaderFields)
         → AreSets c.sets → HaveSlices c.segments → slice_header_of c payload ≡ Ok h → IsSliceHeader h }

@@ -1,5 +1,5 @@
--- The interpolation filters (8.5.3.3.3.1, 8.5.3.3.3.2), and how they run over a picture. Samples of one line, or column,
--- beside each other are a to h; d is the whole place of luma, and b that of chroma.
+-- The interpolation filters (8.5.3.3.3.1, 8.5.3.3.3.2), and how they run over a picture. Samples of one line, or
+-- column, beside each other are a to h; d is the whole place of luma, and b that of chroma.
 use Rattle.std.specs.Prelude.{ℕ, ◌-◌, ◌≤◌, ◌==◌, ℤ, pos, ◌+ℤ◌, ◌-ℤ◌, ◌*ℤ◌, if◌then◌else◌}
 use Rattle.std.specs.Int.{int_shr, int_max, int_min}
 use Rattle.std.specs.Int.RustNames.{unsigned_abs}
@@ -31,8 +31,8 @@ luma_filter quarter s = luma_taps quarter (s 0) (s 1) (s 2) (s 3) (s 4) (s 5) (s
 abbrev pub chroma_filter : ℕ → (ℕ → ℤ) → ℤ
 chroma_filter eighth s = chroma_taps eighth (s 0) (s 1) (s 2) (s 3)
 
--- a sample of 14 bits by a filter across and one down, over columns i and lines j: the lines in units of 2^shift1, where
--- shift1 is BitDepth - 8, and the column of what they give in units of 2^shift2, where shift2 is 6
+-- a sample of 14 bits by a filter across and one down, over columns i and lines j: the lines in units of 2^shift1,
+-- where shift1 is BitDepth - 8, and the column of what they give in units of 2^shift2, where shift2 is 6
 abbrev pub filtered : ((ℕ → ℤ) → ℤ) → ((ℕ → ℤ) → ℤ) → ℕ → (ℕ → ℕ → ℤ) → ℤ
 filtered across down depth s = int_shr (down (λ j. int_shr (across (λ i. s i j)) (depth - 8))) 6
 

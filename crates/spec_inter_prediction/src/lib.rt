@@ -1,5 +1,5 @@
-//! Inter prediction as the standard says it (8.5.3.3): samples between the samples of a reference picture, and how one or
-//! two predictions become samples.
+//! Inter prediction as the standard says it (8.5.3.3): samples between the samples of a reference picture, and how one
+//! or two predictions become samples.
 #![tactic(auto)]
 
 mod laws;

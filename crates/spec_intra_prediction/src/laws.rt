@@ -4,8 +4,8 @@ ghost use Rattle.std.specs.Prelude.{◌≡◌, ◌+◌, ◌-◌, ◌≤◌, ◌<
 ghost use Rattle.spec_intra_prediction.specs.AngleRule.{angle_step, rounded_inverse};
 ghost use Rattle.spec_intra_prediction.specs.Angular.{angle, inverse_angle};
 
-/// The angles grow by the same steps on both sides of horizontal (10) and vertical (26): positive towards the lower left
-/// and the upper right, negative towards the diagonal (18) between them.
+/// The angles grow by the same steps on both sides of horizontal (10) and vertical (26): positive towards the lower
+/// left and the upper right, negative towards the diagonal (18) between them.
 pub fn angles_are_mirrored()
     ensures below { (d : ℕ) → d ≤ 8 → angle (10 - d) ≡ pos (angle_step d) }
     ensures towards { (d : ℕ) → d ≤ 8 → angle (10 + d) ≡ neg_ℤ (pos (angle_step d)) }

@@ -1,5 +1,5 @@
-//! The samples of a picture behind its loop filters as the standard says them (H.265 8.7): deblocking, then sample adaptive
-//! offset, of each component, by what is known of the picture's places and coding tree units.
+//! The samples of a picture behind its loop filters as the standard says them (H.265 8.7): deblocking, then sample
+//! adaptive offset, of each component, by what is known of the picture's places and coding tree units.
 #![tactic(auto)]
 
 mod format;

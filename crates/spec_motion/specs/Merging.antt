@@ -70,8 +70,8 @@ abbrev pub present : List (Option Motion) → List Motion
 present [] = []
 present (candidate ∷ candidates) = option_to_list candidate ++ present candidates
 
--- which of the motions at A1, B1, B0, A0 and B2 are candidates: each that isn't as the ones that it is compared with, and B2
--- where the others aren't four
+-- which of the motions at A1, B1, B0, A0 and B2 are candidates: each that isn't as the ones that it is compared with,
+-- and B2 where the others aren't four
 unfoldable pub spatial_of : Option Motion → Option Motion → Option Motion → Option Motion → Option Motion → List Motion
 spatial_of a1 b1 b0 a0 b2 =
     let four : List Motion = present (a1 ∷ unless_same b1 a1 ∷ unless_same b0 b1 ∷ unless_same a0 a1 ∷ []) in

@@ -34,8 +34,8 @@ scaled_component factor component = clip3 (negsuc 32767) (pos 32767) (shortened 
 abbrev pub stretched : ℤ → Mv → Mv
 stretched factor mv = record { x = scaled_component factor mv.x; y = scaled_component factor mv.y }
 
--- whether a vector over one difference of order counts stays as it is over another one: where both are equal, and where the
--- one that it spans is 0
+-- whether a vector over one difference of order counts stays as it is over another one: where both are equal, and where
+-- the one that it spans is 0
 abbrev pub is_kept : ℤ → ℤ → Bool
 is_kept spanned wanted = int_eq spanned wanted || int_eq spanned (pos 0)
 

@@ -43,8 +43,8 @@ abbrev pub collocated_mv : SliceMotion → ℕ → Reference → Option Collocat
 collocated_mv slice list target None = None
 collocated_mv slice list target (Some block) = option_and_then (brought slice target) (column_vector slice list block.list_0 block.list_1)
 
--- what the collocated picture has at the bottom right of a block, where that place is inside the picture and in the row of
--- coding tree blocks; the place is brought to its block of 4x4 places behind that
+-- what the collocated picture has at the bottom right of a block, where that place is inside the picture and in the row
+-- of coding tree blocks; the place is brought to its block of 4x4 places behind that
 unfoldable pub bottom_right : SliceMotion → Beneath → Rectangle → Option Collocated
 bottom_right slice beneath block =
     if (nat_lt (block.x + block.width) slice.right && nat_lt (block.y + block.height) slice.lower) && nat_lt (block.y + block.height) slice.side

@@ -1,5 +1,5 @@
--- Advanced motion vector prediction (8.5.3.2.6, 8.5.3.2.7): a list of two predictors of a vector, of which mvp_lX_flag names
--- one. At each place list X is looked at before the other.
+-- Advanced motion vector prediction (8.5.3.2.6, 8.5.3.2.7): a list of two predictors of a vector, of which mvp_lX_flag
+-- names one. At each place list X is looked at before the other.
 use Rattle.std.specs.Prelude.{ℕ, ◌+◌, ◌==◌, Bool, true, false, ◌||◌, ◌-ℤ◌, Option, Some, None, List, [], ◌∷◌, ◌++◌, map, take, option_and_then, option_to_list, slice_index_or, if◌then◌else◌}
 use Rattle.ctu_records.specs.declared.prediction.Mv.{Mv}
 use Rattle.ctu_records.specs.declared.prediction.Rectangle.{Rectangle}
@@ -78,8 +78,8 @@ spatial_predictors slice known block list target =
     let b2 : Option Motion = known block.x block.y in
     spatial_mvs slice list target (a0 ∷ a1 ∷ []) (b0 ∷ b1 ∷ b2 ∷ []) (is_there a0 || is_there a1)
 
--- mvpListLX of a block, by list X and refIdxLX: the temporal predictor counts where there are fewer than two others, and
--- vectors of 0 fill the list
+-- mvpListLX of a block, by list X and refIdxLX: the temporal predictor counts where there are fewer than two others,
+-- and vectors of 0 fill the list
 unfoldable pub mv_predictors : SliceMotion → Beneath → Known → Rectangle → ℕ → ℕ → List Mv
 mv_predictors slice beneath known block list ref_idx =
     take 2 (spatial_predictors slice known block list (reference_in slice list ref_idx)

@@ -9,13 +9,13 @@ use Rattle.spec_motion.specs.declared.vectors.Reference.{Reference}
 use Rattle.spec_motion.specs.declared.vectors.Vector.{Vector}
 
 -- what is known of motion while a coding tree unit is derived, by column and row of places, both counted from 1 at the
--- unit's first place: column 0 stands left of the unit, row 0 above it. None where a place isn't available (6.4.1, 6.4.2):
--- it is outside the picture or the slice, or isn't decoded yet; nor where it is predicted in intra mode
+-- unit's first place: column 0 stands left of the unit, row 0 above it. None where a place isn't available (6.4.1,
+-- 6.4.2): it is outside the picture or the slice, or isn't decoded yet; nor where it is predicted in intra mode
 abbrev pub Known : Type 0
 Known = ℕ → ℕ → Option Motion
 
--- the motion of the collocated picture, by column and row of blocks of 4x4 places counted from the unit's first one: that of
--- the block's first place, none where it is predicted in intra mode
+-- the motion of the collocated picture, by column and row of blocks of 4x4 places counted from the unit's first one:
+-- that of the block's first place, none where it is predicted in intra mode
 abbrev pub Beneath : Type 0
 Beneath = ℕ → ℕ → Option Collocated
 

@@ -5,6 +5,7 @@ use ctu_records::Mv;
 /// A vector of the collocated picture.
 #[derive(Clone, Copy, Debug, PartialEq, Eq)]
 pub struct CollocatedVector {
+    /// The vector.
     pub mv: Mv,
     /// PicOrderCntVal of the picture that it points to.
     pub order: i32,
@@ -15,6 +16,8 @@ pub struct CollocatedVector {
 /// The motion of a place of the collocated picture.
 #[derive(Clone, Copy, Debug, PartialEq, Eq)]
 pub struct Collocated {
+    /// Its vector by list 0, where there is one.
     pub list_0: Option<CollocatedVector>,
+    /// Its vector by list 1, where there is one.
     pub list_1: Option<CollocatedVector>,
 }

@@ -1,5 +1,5 @@
-//! The motion of prediction units as the standard says it (H.265 8.5.3.2): by merging with candidates beside a block or in
-//! another picture, or by a predicted vector and a difference.
+//! The motion of prediction units as the standard says it (H.265 8.5.3.2): by merging with candidates beside a block or
+//! in another picture, or by a predicted vector and a difference.
 #![tactic(auto)]
 
 mod collocation;

@@ -25,6 +25,8 @@ pub struct Vector {
 /// The motion of a place: a vector by each list whose PredFlagLX is 1.
 #[derive(Clone, Copy, Debug, PartialEq, Eq)]
 pub struct Motion {
+    /// Its vector by list 0, where PredFlagL0 is 1.
     pub list_0: Option<Vector>,
+    /// Its vector by list 1, where PredFlagL1 is 1.
     pub list_1: Option<Vector>,
 }

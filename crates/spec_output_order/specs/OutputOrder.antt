@@ -54,8 +54,8 @@ not_needed p = record (p) { needed_for_output = false }
 abbrev pub not_needed_at : List DpbPicture → ℕ → List DpbPicture
 not_needed_at pictures place = slice_set pictures place (not_needed (slice_index_or pictures place no_picture))
 
--- whether a picture has to go out: more are needed for output than may be reordered, or the buffer is full, where it has
--- a size
+-- whether a picture has to go out: more are needed for output than may be reordered, or the buffer is full, where it
+-- has a size
 abbrev pub is_full : Option ℕ → List DpbPicture → Bool
 is_full None pictures = false
 is_full (Some size) pictures = nat_le size (count_by is_kept pictures)

@@ -1,5 +1,5 @@
--- What goes out in the words of C.5.2: which picture waits for its output, which is first for output, and what becomes of
--- each picture that waits.
+-- What goes out in the words of C.5.2: which picture waits for its output, which is first for output, and what becomes
+-- of each picture that waits.
 use Rattle.std.specs.Prelude.{◌≡◌, ℕ, ◌<◌, ◌≤◌, ◌⊎◌, ◌≤ℤ◌, true, false, All, List, [], ◌∷◌, ◌++◌, length, slice_index_or, Option, ◌==◌}
 use Rattle.std.specs.List.{count_by}
 use Rattle.header_types.specs.declared.reference_pictures.DpbPicture.{DpbPicture}
@@ -27,8 +27,8 @@ pub record IsFirstForOutput (pictures : List DpbPicture) (place : ℕ) : Type 0 
 abbrev pub HasRoom : ℕ → Option ℕ → List DpbPicture → Type 0
 HasRoom reorder size pictures = (needs_bumping reorder size pictures ≡ false) ⊎ NoneNeededForOutput pictures
 
--- "bumping": while the buffer is over its bounds the picture that is first for output goes out, and waits no more; these
--- pictures go out so, and these are left (C.5.2.4)
+-- "bumping": while the buffer is over its bounds the picture that is first for output goes out, and waits no more;
+-- these pictures go out so, and these are left (C.5.2.4)
 abbrev pub IsBumping : ℕ → Option ℕ → List DpbPicture → List ℕ → List DpbPicture → Type 0
 IsBumping reorder size pictures [] left = (left ≡ pictures) × HasRoom reorder size pictures
 IsBumping reorder size pictures (place ∷ out) left =

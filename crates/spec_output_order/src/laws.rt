@@ -15,15 +15,15 @@ ghost use Rattle.spec_output_order.specs.OutputOrder.{GoesOutAtOnce, NoneNeededF
 ghost use Rattle.spec_output_order.specs.Buffer.{place_outputs, start_outputs, started_and_placed};
 ghost use Rattle.spec_output_order.specs.Waiting.{GoesOutOnce, HasRoom, IsBumping, IsDiscarded, IsFirstForOutput, IsInRange, IsQuietAt, IsStill, Waits, WaitsAndThen, picture_at};
 
-/// The buffer behind a picture has that picture, those that it marks as reference, and at most max_num_reorder_pics that
-/// are needed for output.
+/// The buffer behind a picture has that picture, those that it marks as reference, and at most max_num_reorder_pics
+/// that are needed for output.
 pub fn few_pictures_stay()
     ensures { (current : CurrentPicture) (dpb : List DpbPicture) (marks : List Mark)
         → length (outputs_of current dpb marks).dpb ≤ count_by is_reference marks + 1 + current.ordering.max_num_reorder_pics }
 {}
 
-/// Where no picture is needed for output, a picture that is to be put out and may not be reordered goes out at once, alone,
-/// and then none is needed for output; and none goes out at the end of the input.
+/// Where no picture is needed for output, a picture that is to be put out and may not be reordered goes out at once,
+/// alone, and then none is needed for output; and none goes out at the end of the input.
 pub fn lone_pictures_go_out_at_once()
     ensures once { (current : CurrentPicture) (dpb : List DpbPicture) (marks : List Mark)
         → NoneNeededForOutput dpb → current.pic_output_flag ≡ true → current.ordering.max_num_reorder_pics ≡ 0
@@ -41,8 +41,8 @@ pub fn first_pictures_go_out()
         → IsBumping reorder size pictures (bumped reorder size pictures).out (bumped reorder size pictures).left }
 {}
 
-/// Before a picture is decoded none waits, where it begins anew, else the buffer has room or none waits; and behind it no
-/// more wait than may be reordered.
+/// Before a picture is decoded none waits, where it begins anew, else the buffer has room or none waits; and behind it
+/// no more wait than may be reordered.
 pub fn buffer_keeps_its_bounds()
     ensures anew { (current : CurrentPicture) (pictures : List DpbPicture)
         → current.begins_anew ≡ true → NoneNeededForOutput (started current pictures).left }
@@ -52,8 +52,8 @@ pub fn buffer_keeps_its_bounds()
         → count_by is_needed_for_output (outputs_of current dpb marks).dpb ≤ current.ordering.max_num_reorder_pics }
 {}
 
-/// A picture that waits goes out once, or waits on, or is discarded, and no other picture goes out; where the input ends
-/// each picture that waits goes out once.
+/// A picture that waits goes out once, or waits on, or is discarded, and no other picture goes out; where the input
+/// ends each picture that waits goes out once.
 pub fn waiting_pictures_go_out_once()
     ensures waiting { (current : CurrentPicture) (dpb : List DpbPicture) (marks : List Mark) (place : ℕ)
         → Waits (entered current dpb) place → WaitsAndThen current (length dpb) (outputs_of current dpb marks) place }
@@ -64,8 +64,8 @@ pub fn waiting_pictures_go_out_once()
     ensures last { (dpb : List DpbPicture) (place : ℕ) → GoesOutOnce dpb (last_outputs dpb) place }
 {}
 
-/// Outputs name places of the buffer, and what stays is the picture at its place as the current picture marks it; marking
-/// leaves no picture out.
+/// Outputs name places of the buffer, and what stays is the picture at its place as the current picture marks it;
+/// marking leaves no picture out.
 pub fn outputs_name_pictures_of_the_buffer()
     ensures places { (current : CurrentPicture) (dpb : List DpbPicture) (marks : List Mark) → IsInRange (length dpb) (outputs_of current dpb marks) }
     ensures last { (dpb : List DpbPicture) → All (λ (k : ℕ). k < length dpb) (last_outputs dpb) }
@@ -74,8 +74,8 @@ pub fn outputs_name_pictures_of_the_buffer()
     ensures marked { (dpb : List DpbPicture) (marks : List Mark) → length (all_marked dpb marks) ≡ length dpb }
 {}
 
-/// Where a buffer isn't full of references, a start leaves a place in it, a placing takes one, and behind a picture no more
-/// pictures are in it than it holds; a picture that begins anew marks none as reference.
+/// Where a buffer isn't full of references, a start leaves a place in it, a placing takes one, and behind a picture no
+/// more pictures are in it than it holds; a picture that begins anew marks none as reference.
 pub fn buffer_keeps_its_size()
     ensures start { (current : CurrentPicture) (dpb : List DpbPicture) (marks : List Mark)
         → is_full_of_references current.begins_anew current.ordering marks ≡ false → (current.begins_anew ≡ true → count_by is_reference marks ≡ 0)
@@ -88,8 +88,8 @@ pub fn buffer_keeps_its_size()
         → reference_picture_set kind references poc dpb ≡ Ok rps → count_by is_reference rps.marks ≡ 0 }
 {}
 
-/// What a picture puts out and leaves is what it puts out as it starts and then, in the buffer that this leaves, as it is
-/// placed.
+/// What a picture puts out and leaves is what it puts out as it starts and then, in the buffer that this leaves, as it
+/// is placed.
 pub fn outputs_are_a_start_and_a_placing()
     ensures { (current : CurrentPicture) (dpb : List DpbPicture) (marks : List Mark) → outputs_of current dpb marks ≡ started_and_placed current dpb marks }
 {}

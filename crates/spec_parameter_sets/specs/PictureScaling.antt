@@ -6,8 +6,8 @@ use Rattle.header_types.specs.declared.scaling.ScalingLists.{ScalingLists}
 use Rattle.header_types.specs.declared.sps.SpsFields.{SpsFields}
 use Rattle.spec_parameter_sets.specs.Scaling.{default_lists}
 
--- the lists that scale a picture: those of its picture parameter set, or else of its sequence parameter set, or else the
--- default lists. There are none where scaling_list_enabled_flag is 0: each factor is 16 then.
+-- the lists that scale a picture: those of its picture parameter set, or else of its sequence parameter set, or else
+-- the default lists. There are none where scaling_list_enabled_flag is 0: each factor is 16 then.
 unfoldable pub picture_scaling_lists : SpsFields → PpsFields → Option ScalingLists
 picture_scaling_lists sps pps =
     if sps.scaling_list_enabled_flag

@@ -34,8 +34,8 @@ default_lists_of size = map (default_list size) (range_with_len 0 (list_count si
 unfoldable pub default_lists : ScalingLists
 default_lists = record { lists = default_lists_of 0 ++ default_lists_of 1 ++ default_lists_of 2 ++ default_lists_of 3 }
 
--- where scaling_list_pred_mode_flag is 0: the default list, or among the former lists of its sizeId that of refMatrixId.
--- A list's matrixId is how many lists of its sizeId stand before it.
+-- where scaling_list_pred_mode_flag is 0: the default list, or among the former lists of its sizeId that of
+-- refMatrixId. A list's matrixId is how many lists of its sizeId stand before it.
 unfoldable pub predicted_list : ℕ → List ScalingList → Header ScalingList
 predicted_list size former = do
   scaling_list_pred_matrix_id_delta ← ue_to (length former)

@@ -89,8 +89,9 @@ sub_layer_ordering = do
 unfoldable pub ordered_sub_layers : Bool → ℕ → ℕ
 ordered_sub_layers present max_sub_layers_minus1 = if present then max_sub_layers_minus1 + 1 else 1
 
--- log2_min_luma_coding_block_size_minus3 to max_transform_hierarchy_depth_intra: the smallest coding blocks fill the picture,
--- coding tree blocks have 16 to 64 luma samples a side, transform blocks are smaller than coding blocks and at most 32
+-- log2_min_luma_coding_block_size_minus3 to max_transform_hierarchy_depth_intra: the smallest coding blocks fill the
+-- picture, coding tree blocks have 16 to 64 luma samples a side, transform blocks are smaller than coding blocks and at
+-- most 32
 unfoldable pub block_sizes : ℕ → ℕ → Header BlockSizes
 block_sizes width height = do
   coding_minus3 ← ue_to 3

@@ -108,8 +108,8 @@ segments_read p number first [] progress = Ok progress
 segments_read p number first (s ∷ later) progress =
     and_segments (segment_read (segment_at p number first s later) progress) (segments_read p (number + 1) (end_of (size_in_ctbs p.sps) first later) later)
 
--- all units of a picture in order, behind those that were handed over before; or the units before the first broken rule,
--- and that rule
+-- all units of a picture in order, behind those that were handed over before; or the units before the first broken
+-- rule, and that rule
 unfoldable pub picture_read : PicturePlan → List TreeUnit → Result Progress Halt
 picture_read p given = segments_read p 0 0 p.segments (record { between = before_picture; given = given })
 

@@ -62,8 +62,8 @@ coded_near picture address coded column row =
     then coded (first_column picture address + column - 1) (first_row picture address + row - 1)
     else false
 
--- what the strengths of a unit of a slice segment depend on, by its address, the motion of the picture behind the unit, and
--- the places before it
+-- what the strengths of a unit of a slice segment depend on, by its address, the motion of the picture behind the unit,
+-- and the places before it
 unfoldable pub beside_unit : PicturePlan → SegmentPlan → ℕ → Motions → (ℕ → ℕ → Bool) → Beside
 beside_unit p s address motions coded = record {
   motion = motion_near (picture_shape p.sps p.pps) address motions;

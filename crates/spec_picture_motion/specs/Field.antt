@@ -1,5 +1,5 @@
--- The motion of a picture by place, what of it is known beside a coding tree unit (6.4.1, 6.4.2), and what a later picture
--- takes of it (8.5.3.2.8). A place is a block of 4x4 luma samples.
+-- The motion of a picture by place, what of it is known beside a coding tree unit (6.4.1, 6.4.2), and what a later
+-- picture takes of it (8.5.3.2.8). A place is a block of 4x4 luma samples.
 use Rattle.std.specs.Prelude.{ℕ, ◌+◌, ◌-◌, ◌*◌, ◌/◌, ◌^◌, ◌==◌, ◌&&◌, ◌||◌, nat_le, nat_lt, Bool, Option, Some, None, if◌then◌else◌}
 use Rattle.spec_motion.specs.declared.collocation.Collocated.{Collocated}
 use Rattle.spec_motion.specs.declared.collocation.CollocatedVector.{CollocatedVector}
@@ -11,8 +11,8 @@ use Rattle.picture_buffer.specs.declared.place_motion.PlaceMotion.{PlaceMotion}
 use Rattle.picture_buffer.specs.declared.place_motion.PlaceVector.{PlaceVector}
 use Rattle.spec_slice_data.specs.Segment.{PictureShape, column_of, row_of}
 
--- by column and row of places, counted from 0; None outside the picture, where nothing is derived yet, and where a place is
--- predicted in intra mode
+-- by column and row of places, counted from 0; None outside the picture, where nothing is derived yet, and where a
+-- place is predicted in intra mode
 abbrev pub Motions : Type 0
 Motions = ℕ → ℕ → Option PlaceMotion
 
@@ -38,8 +38,8 @@ unit_of_place picture x y = picture.width * (y / unit_places picture) + x / unit
 abbrev pub has_place : PictureShape → ℕ → ℕ → Bool
 has_place picture x y = nat_lt x picture.across && nat_lt y picture.down
 
--- whether a place beside the unit at an address, whose slice begins at another, is available for it: the picture has it,
--- and its unit is of the slice and was decoded before (6.4.1)
+-- whether a place beside the unit at an address, whose slice begins at another, is available for it: the picture has
+-- it, and its unit is of the slice and was decoded before (6.4.1)
 unfoldable pub is_available : PictureShape → ℕ → ℕ → ℕ → ℕ → Bool
 is_available picture slice address x y =
     has_place picture x y && (nat_le slice (unit_of_place picture x y) && nat_lt (unit_of_place picture x y) address)
@@ -62,8 +62,8 @@ motion_beside picture slice address motions column row =
     then motion_of (motions x y)
     else None
 
--- whether a place, counted so, stands in the row above a unit, as far as the end of the unit behind it, or in the column on
--- its left: of all others outside the unit none is decoded before it, or asked for
+-- whether a place, counted so, stands in the row above a unit, as far as the end of the unit behind it, or in the
+-- column on its left: of all others outside the unit none is decoded before it, or asked for
 abbrev pub is_border : ℕ → ℕ → ℕ → Bool
 is_border n column row = (row == 0 && nat_le column (2 * n)) || (column == 0 && nat_le row n)
 
@@ -81,8 +81,8 @@ abbrev pub collocated_of : Option PlaceMotion → Option Collocated
 collocated_of None = None
 collocated_of (Some place) = Some (record { list_0 = collocated_vector place.list_0; list_1 = collocated_vector place.list_1 })
 
--- what the collocated picture has at the blocks of 4x4 places from the first one of the unit at an address on, as far as the
--- block behind the unit's: no candidate of the unit stands past it
+-- what the collocated picture has at the blocks of 4x4 places from the first one of the unit at an address on, as far
+-- as the block behind the unit's: no candidate of the unit stands past it
 unfoldable pub beneath_unit : PictureShape → ℕ → Motions → Beneath
 beneath_unit picture address motions column row =
     if nat_lt column 5 && nat_lt row 4

@@ -38,8 +38,8 @@ unit_of_sample picture c x y = picture.width * (y / unit_side picture c) + x / u
 unfoldable pub has_sample : PictureShape → ℕ → ℕ → ℕ → Bool
 has_sample picture c x y = nat_lt c 3 && (nat_lt x (width_of picture c) && nat_lt y (height_of picture c))
 
--- whether a sample beside the unit at an address, whose slice begins at another, is available for it: the picture has it,
--- and its unit is of the slice and was decoded before (6.4.1)
+-- whether a sample beside the unit at an address, whose slice begins at another, is available for it: the picture has
+-- it, and its unit is of the slice and was decoded before (6.4.1)
 unfoldable pub is_available : PictureShape → ℕ → ℕ → ℕ → ℕ → ℕ → Bool
 is_available picture slice address c x y =
     has_sample picture c x y && (nat_le slice (unit_of_sample picture c x y) && nat_lt (unit_of_sample picture c x y) address)

@@ -24,8 +24,8 @@ format_height format c = if c == 0 then format.pic_height_in_luma_samples else f
 abbrev pub greatest_sample : PictureFormat → ℕ → ℕ
 greatest_sample format c = 2 ^ (if c == 0 then 8 + format.bit_depth_luma_minus8 else 8 + format.bit_depth_chroma_minus8) - 1
 
--- the sample of a picture at a column and a line, or the nearest one inside. It is held to the bit depth, which no sample
--- that was decoded exceeds; where there is no picture it is 0
+-- the sample of a picture at a column and a line, or the nearest one inside. It is held to the bit depth, which no
+-- sample that was decoded exceeds; where there is no picture it is 0
 unfoldable pub reference_sample : Option DecodedPicture → ℕ → ℤ → ℤ → ℕ
 reference_sample None c x y = 0
 reference_sample (Some p) c x y =

@@ -1,4 +1,5 @@
--- The weights of a slice's reference pictures (7.4.7.3). Each number is held to its range, in which those that are read are.
+-- The weights of a slice's reference pictures (7.4.7.3). Each number is held to its range, in which those that are read
+-- are.
 use Rattle.std.specs.Prelude.{ℕ, ◌^◌, ℤ, pos, negsuc, ◌+ℤ◌, ◌-ℤ◌, ◌*ℤ◌, min, nat_lt, List, length, map, slice_index_or, Option, Some, None, if◌then◌else◌}
 use Rattle.std.specs.Int.{int_max, int_min, int_shr}
 use Rattle.std.specs.Int.RustNames.{unsigned_abs}

@@ -41,7 +41,8 @@ pub record IsSegmentOf (u : NalUnit) (s : SegmentPlan) : Type 0 where
 abbrev pub HasFirstFlag : Bool → SegmentPlan → Type 0
 HasFirstFlag flag s = first_flag (bits s.payload) ≡ Some flag
 
--- the slice segments of a picture: it has some, and first_slice_segment_in_pic_flag is 1 in the first and 0 in the others
+-- the slice segments of a picture: it has some, and first_slice_segment_in_pic_flag is 1 in the first and 0 in the
+-- others
 abbrev pub AreOfPicture : List SegmentPlan → Type 0
 AreOfPicture [] = ⊥
 AreOfPicture (s ∷ later) = HasFirstFlag true s × All (HasFirstFlag false) later

@@ -8,8 +8,8 @@ use Rattle.plan_types.specs.declared.between.Between.{Between}
 use Rattle.spec_pictures.specs.Pictures.{beginning}
 use Rattle.spec_pictures.specs.Steps.{Stepped, close, step}
 
--- the pictures in decoding order, which pictures of the buffer behind the last one go out where the input ends, by their
--- places, and what stops the stream
+-- the pictures in decoding order, which pictures of the buffer behind the last one go out where the input ends, by
+-- their places, and what stops the stream
 pub record Planned : Type 0 where
   pub pictures : List PicturePlan
   pub last : List ℕ

@@ -207,8 +207,8 @@ abbrev pub goes_on : Option Bool → Bool
 goes_on None = false
 goes_on (Some first) = not first
 
--- a slice segment: of a dropped picture it closes the open one and isn't read; one that begins a picture closes the open
--- one first
+-- a slice segment: of a dropped picture it closes the open one and isn't read; one that begins a picture closes the
+-- open one first
 unfoldable pub slice_step : Between → NalUnit → Stepped
 slice_step s u =
     if is_rasl u.nal_type && s.drops_rasl then close s

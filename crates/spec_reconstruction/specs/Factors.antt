@@ -29,8 +29,8 @@ no_list = record { factors = []; dc = 16 }
 abbrev pub list_of : ScalingLists → Bool → ℕ → ℕ → ScalingList
 list_of lists intra log2 c = slice_index_or lists.lists (6 * (log2 - 2) + matrix_of intra log2 c) no_list
 
--- ScalingFactor at column x and line y: a list is spread over blocks of 16x16 and more, whose first place has a factor of
--- its own
+-- ScalingFactor at column x and line y: a list is spread over blocks of 16x16 and more, whose first place has a factor
+-- of its own
 unfoldable pub listed_factor : ScalingList → ℕ → ℕ → ℕ → ℕ
 listed_factor list log2 x y =
     if log2 == 2 then slice_index_or list.factors (scan_index 2 Diagonal x y) 16

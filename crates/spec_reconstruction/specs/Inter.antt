@@ -19,8 +19,8 @@ use Rattle.spec_reconstruction.specs.Known.{Known}
 use Rattle.spec_reconstruction.specs.Parameters.{depth_of}
 use Rattle.spec_slice_data.specs.Residual.{samples_of_place}
 
--- the samples of the pictures of the decoded picture buffer, by place there, component, column and line: outside a picture
--- those of its nearest sample (8.5.3.3.3)
+-- the samples of the pictures of the decoded picture buffer, by place there, component, column and line: outside a
+-- picture those of its nearest sample (8.5.3.3.3)
 abbrev pub Pictures : Type 0
 Pictures = ℕ → ℕ → ℤ → ℤ → ℕ
 

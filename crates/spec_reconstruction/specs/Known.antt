@@ -4,9 +4,9 @@ use Rattle.std.specs.Int.{int_min, int_max}
 use Rattle.std.specs.Int.RustNames.{unsigned_abs}
 use Rattle.ctu_records.specs.Places.{inside}
 
--- by component, column and line, both counted from 1 at the unit's first sample: line 0 stands above the unit, column 0 left
--- of it, and the corner at both. None where a sample isn't available (6.4.1): it is outside the picture or the slice, or
--- isn't built yet
+-- by component, column and line, both counted from 1 at the unit's first sample: line 0 stands above the unit, column 0
+-- left of it, and the corner at both. None where a sample isn't available (6.4.1): it is outside the picture or the
+-- slice, or isn't built yet
 abbrev pub Known : Type 0
 Known = ℕ → ℕ → ℕ → Option ℕ
 

@@ -43,8 +43,8 @@ scaled_block format mode c log2 qp levels x y =
 abbrev pub has_sines : UnitMode → ℕ → ℕ → Bool
 has_sines mode c log2 = mode.intra && (c == 0 && log2 == 2)
 
--- residuals by column and line: the levels themselves where cu_transquant_bypass_flag is 1, else the scaled coefficients
--- transformed, or with the transform skipped
+-- residuals by column and line: the levels themselves where cu_transquant_bypass_flag is 1, else the scaled
+-- coefficients transformed, or with the transform skipped
 unfoldable pub residuals : UnitFormat → UnitMode → CodedBlock → ℕ → List ℤ → Block
 residuals format mode block qp levels x y =
     if mode.transquant_bypass then block_in (2 ^ block.log2_size) levels x y

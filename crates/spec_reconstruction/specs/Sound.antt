@@ -47,8 +47,8 @@ pub record IsPulse (format : UnitFormat) (value : ℕ) : Type 0 where
   pub luma : value * 2 ^ (format.luma_depth - format.pcm_luma_bits) < 65536
   pub chroma : value * 2 ^ (format.chroma_depth - format.pcm_chroma_bits) < 65536
 
--- the binary logarithm of the least side in places of a coding unit with such parts: a part has at least 8x4 or 4x8 luma
--- samples, or 8x8 of four
+-- the binary logarithm of the least side in places of a coding unit with such parts: a part has at least 8x4 or 4x8
+-- luma samples, or 8x8 of four
 abbrev pub least_size : PartMode → ℕ
 least_size Whole = 1
 least_size TwoNxN = 1
@@ -88,8 +88,8 @@ IsSound format (Delta delta) = ⊤
 IsSound format (Block block) = IsCoded block
 IsSound format (Level place value) = ⊤
 
--- the items behind a square by pulse code modulation begin with its samples: those of luma have as many bits as are read
--- of each, and so have those of chroma
+-- the items behind a square by pulse code modulation begin with its samples: those of luma have as many bits as are
+-- read of each, and so have those of chroma
 pub record HasPulses (format : UnitFormat) (square : Square) (items : List Item) : Type 0 where
   pub count : 24 * 4 ^ square.log2_size ≤ length items
   pub luma : (k : ℕ) → k < 16 * 4 ^ square.log2_size → sample_of (slice_index_or items k (Sample 0)) < 2 ^ format.pcm_luma_bits

@@ -38,16 +38,16 @@ block_constructed format all mode block items =
     constructed (depth_of format block.component) block.component (samples_of_place block.component * block.x) (samples_of_place block.component * block.y) (2 ^ block.log2_size)
     (residuals_behind format mode block (qp_at all block.x block.y) items)
 
--- the blocks of a transform unit of an intra coding unit are predicted; those of an inter one were with their prediction
--- units
+-- the blocks of a transform unit of an intra coding unit are predicted; those of an inter one were with their
+-- prediction units
 abbrev pub transform_predicted : UnitFormat → InterUnit → List Item → Building → Square → Known
 transform_predicted format inter all building square =
     if building.mode.intra
     then unit_predicted format inter.motion (luma_mode_at all square.x square.y) building.chroma_mode square building.known
     else building.known
 
--- an item of a unit of which all was read, with the items behind it: a transform unit's blocks are predicted from what is
--- known so far, and each of its coded blocks is constructed behind that
+-- an item of a unit of which all was read, with the items behind it: a transform unit's blocks are predicted from what
+-- is known so far, and each of its coded blocks is constructed behind that
 abbrev pub item_built : UnitFormat → InterUnit → List Item → Building → Item → List Item → Building
 item_built format inter all building (Unit unit) items = record { mode = mode_of unit; chroma_mode = building.chroma_mode; known = building.known }
 item_built format inter all building (Luma luma) items = building

@@ -1,10 +1,11 @@
 //! What the samples of a coding tree unit depend on.
 
 /// ScalingFactor (7.4.5) of the transform blocks of intra coding units, or of inter ones, row after row: those of 4x4
-/// samples for Y, Cb and Cr, of 8x8 and of 16x16 likewise, and those of 32x32 for Y. All are 16 where there are no scaling
-/// lists.
+/// samples for Y, Cb and Cr, of 8x8 and of 16x16 likewise, and those of 32x32 for Y. All are 16 where there are no
+/// scaling lists.
 #[derive(Clone, Copy, Debug, PartialEq, Eq)]
 pub struct ScalingFactors {
+    /// The factors, in that order.
     pub by_place: [u8; 2032],
 }
 

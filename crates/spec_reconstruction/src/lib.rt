@@ -1,5 +1,6 @@
-//! Reconstruction of a coding tree unit as the standard says it (H.265 8.4.4.1, 8.5.3.3, 8.6.1, 8.6.2, 8.6.5): its samples
-//! by what was read of it, by its motion and the pictures that it refers to, and by the samples that are known beside it.
+//! Reconstruction of a coding tree unit as the standard says it (H.265 8.4.4.1, 8.5.3.3, 8.6.1, 8.6.2, 8.6.5): its
+//! samples by what was read of it, by its motion and the pictures that it refers to, and by the samples that are known
+//! beside it.
 #![tactic(auto)]
 
 mod format;

@@ -105,7 +105,8 @@ msb_cycle_before long (suc i) = if i == long.num_long_term_sps then own_cycle lo
 abbrev pub msb_cycle : LongTermRefs → ℕ → ℕ
 msb_cycle long i = msb_cycle_before long (suc i)
 
--- the name of a picture by its least significant bits, or, where the cycle of the others is coded too, by all: pocLt (8-5)
+-- the name of a picture by its least significant bits, or, where the cycle of the others is coded too, by all: pocLt
+-- (8-5)
 abbrev pub name_by : ℕ → ℤ → ℕ → ℕ → Option ℕ → PictureName
 name_by max_lsb poc lsb cycle None = Lsb max_lsb lsb
 name_by max_lsb poc lsb cycle (Some _) = OrderCount (poc -ℤ pos (cycle * max_lsb) -ℤ pos (lsb_of max_lsb poc) +ℤ pos lsb)

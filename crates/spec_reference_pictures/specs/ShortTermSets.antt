@@ -82,8 +82,8 @@ moved delta (entry ∷ entries) = do
   others ← moved delta entries
   give (moved_entry delta entry flags ++ others)
 
--- the set that has these entries, given in falling order: those before the picture as they come, those after it from the
--- last on, and no entry at the picture itself (7-59, 7-60)
+-- the set that has these entries, given in falling order: those before the picture as they come, those after it from
+-- the last on, and no entry at the picture itself (7-59, 7-60)
 unfoldable pub sides : List ShortTermRef → StRps
 sides falling = record { negative = filter is_before falling; positive = reverse (filter is_after falling) }
 

@@ -13,6 +13,7 @@ pub struct ResidualBlock {
     pub y: u32,
     /// It has 2^`log2` columns and rows; 2 to 5.
     pub log2: u32,
+    /// The order of its levels: scanIdx.
     pub scan: Scan,
     /// cu_transquant_bypass_flag.
     pub bypass: bool,
@@ -25,7 +26,10 @@ pub struct ResidualBlock {
 /// A coded level, which isn't 0, with its column and row in the block: TransCoeffLevel.
 #[derive(Clone, Copy, Debug, PartialEq, Eq)]
 pub struct Level {
+    /// Its column, from 0 to 31.
     pub x: u8,
+    /// Its row, from 0 to 31.
     pub y: u8,
+    /// Its value, from -2^15 to 2^15 - 1.
     pub value: i16,
 }

@@ -47,6 +47,7 @@ pub struct LevelState {
 /// What is known of the levels of a sub-block before coeff_abs_level_remaining.
 #[derive(Clone, Copy, Debug, PartialEq, Eq)]
 pub struct Signs {
+    /// The coeff_abs_level_greater1_flag elements.
     pub greater1: Greater1Flags,
     /// coeff_abs_level_greater2_flag of the first level whose coeff_abs_level_greater1_flag is 1.
     pub greater2: bool,

@@ -16,8 +16,8 @@ pub record OffsetPlane : Type 0 where
   pub depth : ℕ
   -- the coding tree unit in a column and a row of such units
   pub unit : ℕ → ℕ → OffsetUnit
-  -- whether a sample stays as it was deblocked, by column and line: that of a coding unit with cu_transquant_bypass_flag,
-  -- or with pcm_flag where pcm_loop_filter_disabled_flag is 1
+  -- whether a sample stays as it was deblocked, by column and line: that of a coding unit with
+  -- cu_transquant_bypass_flag, or with pcm_flag where pcm_loop_filter_disabled_flag is 1
   pub kept : ℕ → ℕ → Bool
 
 -- the coding tree unit that a sample belongs to
@@ -29,8 +29,8 @@ unit_at plane x y = plane.unit (x / plane.ctb_size) (y / plane.ctb_size)
 abbrev pub meets : OffsetUnit → OffsetUnit → Bool
 meets unit other = unit.slice == other.slice || (if nat_lt unit.slice other.slice then other.across else unit.across)
 
--- whether a neighbour of a sample is inside the picture and may be compared with it. Its column and line are counted from
--- those before the sample's, so that 0, 1, 2 are before, at and behind it.
+-- whether a neighbour of a sample is inside the picture and may be compared with it. Its column and line are counted
+-- from those before the sample's, so that 0, 1, 2 are before, at and behind it.
 abbrev pub may_read : OffsetPlane → ℕ → ℕ → ℕ → ℕ → Bool
 may_read plane x y column line =
     ((nat_lt 0 (x + column) && nat_le (x + column) plane.width) && (nat_lt 0 (y + line) && nat_le (y + line) plane.height))

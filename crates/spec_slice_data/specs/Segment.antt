@@ -142,8 +142,8 @@ abbrev pub has_stored : PictureShape → SegmentShape → ℕ → Bool
 has_stored picture segment address = (nat_le 2 picture.width && nat_le picture.width address) && same_slice segment (address - picture.width + 1)
 
 -- the contexts that a unit begins with: at the start of a row with entropy coding sync those behind the second unit of
--- the row above, where it is in the slice, else the slice's first ones; at the start of another segment the slice's first
--- ones, or, of a dependent one, those at the end of the former segment
+-- the row above, where it is in the slice, else the slice's first ones; at the start of another segment the slice's
+-- first ones, or, of a dependent one, those at the end of the former segment
 unfoldable pub contexts_before : PictureShape → SegmentShape → ℕ → Between → List ℕ
 contexts_before picture segment address between =
     if begins_row picture address

@@ -1,4 +1,5 @@
-//! What the syntax of a coding tree unit depends on. Sizes are binary logarithms of sides in places of 4x4 luma samples.
+//! What the syntax of a coding tree unit depends on. Sizes are binary logarithms of sides in places of 4x4 luma
+//! samples.
 
 use ctu_records::Square;
 
@@ -53,11 +54,17 @@ pub struct CtuSyntax {
     pub log2_group: u8,
     /// QpBdOffsetY.
     pub qp_offset: u8,
+    /// cu_qp_delta_enabled_flag: whether quantization groups may tell a difference of their parameter.
     pub cu_qp_delta_enabled: bool,
+    /// transquant_bypass_enabled_flag: whether coding units hold cu_transquant_bypass_flag.
     pub transquant_bypass_enabled: bool,
+    /// transform_skip_enabled_flag: whether blocks of 4x4 samples may hold transform_skip_flag.
     pub transform_skip_enabled: bool,
+    /// sign_data_hiding_enabled_flag: whether the parity of a sub-block's levels may tell a sign.
     pub sign_data_hiding_enabled: bool,
+    /// What pulse code modulation depends on.
     pub pcm: PcmSyntax,
+    /// What inter coding units depend on.
     pub inter: InterSyntax,
     /// slice_sao_luma_flag.
     pub sao_luma: bool,
@@ -76,6 +83,7 @@ pub struct CtuSyntax {
 /// What a coding unit begins with (7.3.8.5).
 #[derive(Clone, Copy, Debug, PartialEq, Eq)]
 pub struct UnitStart {
+    /// Its coding block.
     pub square: Square,
     /// CtDepth.
     pub depth: u8,
@@ -90,7 +98,9 @@ pub struct UnitStart {
 /// What the transform tree of a coding unit depends on (7.3.8.8).
 #[derive(Clone, Copy, Debug, PartialEq, Eq)]
 pub struct UnitSyntax {
+    /// Its coding block.
     pub square: Square,
+    /// cu_transquant_bypass_flag.
     pub transquant_bypass: bool,
     /// Whether CuPredMode is MODE_INTRA.
     pub intra: bool,
@@ -103,7 +113,9 @@ pub struct UnitSyntax {
 /// cbf_cb and cbf_cr of a node of a transform tree.
 #[derive(Clone, Copy, Debug, PartialEq, Eq)]
 pub struct ChromaFlags {
+    /// cbf_cb: whether a Cb block of the node has levels.
     pub cb: bool,
+    /// cbf_cr: whether a Cr block of the node has levels.
     pub cr: bool,
 }
 
@@ -114,6 +126,7 @@ pub struct TransformBlock {
     pub component: u8,
     /// The first place of its transform unit; of a chroma block of 4x4 samples that of the unit that was split.
     pub x: u8,
+    /// The row of that place.
     pub y: u8,
     /// The binary logarithm of its side in samples of its component.
     pub log2_size: u8,

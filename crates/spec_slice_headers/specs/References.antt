@@ -88,8 +88,8 @@ long_term_entry sps candidates num_long_term_sps i =
 abbrev pub no_long_term : LongTermRefs
 no_long_term = record { num_long_term_sps = 0; entries = [] }
 
--- the long-term entries, where the sequence parameter set allows them. All entries of the set are as many as the decoded
--- picture buffer takes at most beside the picture
+-- the long-term entries, where the sequence parameter set allows them. All entries of the set are as many as the
+-- decoded picture buffer takes at most beside the picture
 unfoldable pub long_term_of : SpsFields → StRps → List LongTermCandidate → Header LongTermRefs
 long_term_of sps set candidates = do
   num_long_term_sps ← ue_or (nat_lt 0 (length candidates)) (length candidates) 0

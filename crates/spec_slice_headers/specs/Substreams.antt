@@ -4,7 +4,8 @@ use Rattle.std.specs.Prelude.{◌≡◌, ℕ, ◌+◌, ◌-◌, ◌≤◌, List,
 use Rattle.std.specs.List.{count_by}
 use Rattle.slice_types.specs.declared.substream.Substream.{Substream}
 
--- how many bytes of the payload stand before a place of the unit, where emulation prevention bytes stood at these places
+-- how many bytes of the payload stand before a place of the unit, where emulation prevention bytes stood at these
+-- places
 abbrev pub payload_before : List ℕ → ℕ → ℕ
 payload_before removed place = place - 2 - count_by (λ r. nat_lt r place) removed
 

@@ -38,8 +38,8 @@ impl<'a> UnitNames<'a> {
         None
     }
 
-    /// The bytes of a stream: its NAL units, each behind 00 00 00 01, or all its bytes behind `raw`. `NxUNIT` is a unit N
-    /// times.
+    /// The bytes of a stream: its NAL units, each behind 00 00 00 01, or all its bytes behind `raw`. `NxUNIT` is a unit
+    /// N times.
     pub(crate) fn stream_of(&self, alloc: Global, text: &str) -> Result<Vec<u8>, RowError> {
         let mut bytes = Vec::new(alloc);
         let mut is_raw = false;

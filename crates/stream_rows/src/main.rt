@@ -1,5 +1,5 @@
-//! Runs the program's public call on streams in memory, row by row of the files `runs.txt` and `plans.txt`, and prints each
-//! row that ends in another way than it says, then a sum. The crate's README.md says how a row reads.
+//! Runs the program's public call on streams in memory, row by row of the files `runs.txt` and `plans.txt`, and prints
+//! each row that ends in another way than it says, then a sum. The crate's README.md says how a row reads.
 #![tactic(auto)]
 
 mod byte_text;

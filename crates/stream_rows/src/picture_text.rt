@@ -5,8 +5,9 @@ use param_sets::picture_scaling_lists;
 use plan_types::{PicturePlan, SegmentPlan};
 use std::alloc::{AllocError, Global};
 
-/// The order count; the reference picture set (StCurrBefore, StCurrAfter, StFoll, LtCurr, LtFoll) and the marks, by places
-/// in the buffer; how many scaling lists there are and the sum of their factors; the lists and substreams of each segment.
+/// The order count; the reference picture set (StCurrBefore, StCurrAfter, StFoll, LtCurr, LtFoll) and the marks, by
+/// places in the buffer; how many scaling lists there are and the sum of their factors; the lists and substreams of
+/// each segment.
 pub(crate) fn picture_text(alloc: Global, picture: &PicturePlan) -> Result<String, AllocError> {
     let (poc, rps) = (picture.poc, &picture.rps);
     let mut text = format!(in alloc; "poc {poc}")?;

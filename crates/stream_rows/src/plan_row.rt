@@ -1,5 +1,5 @@
-//! Rows of `plans.txt`: a stream, how many of its pictures are planned, what stops the planning, and what is known of the
-//! last picture.
+//! Rows of `plans.txt`: a stream, how many of its pictures are planned, what stops the planning, and what is known of
+//! the last picture.
 
 ghost use Rattle.std.specs.Prelude.{◌≡◌, ◌<◌, false};
 

@@ -6,7 +6,9 @@ use std::io;
 /// Why the program stops before the last row.
 #[derive(Debug, Drop)]
 pub(crate) enum RowError {
+    /// There was no memory left.
     Memory,
+    /// Reading or writing failed.
     Io,
     /// A row isn't written as it is to be.
     Unreadable,

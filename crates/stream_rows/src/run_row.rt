@@ -121,8 +121,8 @@ fn words_of(alloc: Global, text: &str) -> Result<Vec<String>, RowError> {
     Ok(words)
 }
 
-/// Faulty ends: `by=N` for pieces of N bytes; `read=N`, `write=N` and `tell=N` for a failing call of the source, of the output
-/// and of the error sink, from 0; `-` for none.
+/// Faulty ends: `by=N` for pieces of N bytes; `read=N`, `write=N` and `tell=N` for a failing call of the source, of the
+/// output and of the error sink, from 0; `-` for none.
 fn ends_of(alloc: Global, text: &str) -> Result<Ends, RowError> {
     let mut ends = Ends {
         piece: None,

@@ -1,18 +1,18 @@
 //! Prints a line for each NAL unit of the byte stream on standard input: its number, `nal_unit_type`, `nuh_layer_id`,
-//! TemporalId, the bytes of its payload and how many emulation prevention bytes were removed; then the first broken rule
-//! or limit, where there is one. With the word `fields` on the command line the fields of each accepted parameter set
-//! follow its unit's line, a `name=value` a line, or `refused` and the rule or limit for which it isn't accepted.
+//! TemporalId, the bytes of its payload and how many emulation prevention bytes were removed; then the first broken
+//! rule or limit, where there is one. With the word `fields` on the command line the fields of each accepted parameter
+//! set follow its unit's line, a `name=value` a line, or `refused` and the rule or limit for which it isn't accepted.
 //!
-//! With the word `pictures` it prints a line for each planned picture instead, in decoding order: its number, its picture
-//! order count, its `nal_unit_type`, its width and its height inside the conformance window; with the word `slices` the
-//! fields of the picture's slice segment headers follow, and with the word `outputs` the pictures come in output order.
-//! With the word `trees` the coding trees of pictures come, a line each for what was read; with the word `rows`
-//! their samples behind their loop filters, a line each with the MD5 of a row of coding tree blocks.
+//! With the word `pictures` it prints a line for each planned picture instead, in decoding order: its number, its
+//! picture order count, its `nal_unit_type`, its width and its height inside the conformance window; with the word
+//! `slices` the fields of the picture's slice segment headers follow, and with the word `outputs` the pictures come in
+//! output order. With the word `trees` the coding trees of pictures come, a line each for what was read; with the word
+//! `rows` their samples behind their loop filters, a line each with the MD5 of a row of coding tree blocks.
 //! What stops the stream is told on the error stream then, and by the exit status: 2 where it breaks a rule, 3 where it
 //! meets a limit.
 //!
-//! Behind a word (`units` for none) may stand a file, and further words with a file each. Then the streams of these files are
-//! read in turn, each behind a line `==` and its name, and what stops one is printed behind its lines.
+//! Behind a word (`units` for none) may stand a file, and further words with a file each. Then the streams of these
+//! files are read in turn, each behind a line `==` and its name, and what stops one is printed behind its lines.
 #![tactic(auto)]
 
 ghost use Rattle.std.specs.Prelude.{◌≡◌, false};

@@ -6,7 +6,9 @@ use std::io::{self, ErrorKind};
 /// Why the trace stops early.
 #[derive(Debug, Drop)]
 pub(crate) enum TraceError {
+    /// There was no memory left.
     Memory,
+    /// Reading or writing failed.
     Io,
     /// A word on the command line isn't `units`, `fields`, `pictures`, `slices`, `outputs`, `trees` or `rows`.
     Usage,

@@ -11,9 +11,13 @@ use std::marker::Model;
 /// A part of a plane, in samples of its component.
 #[derive(Drop)]
 pub(crate) struct PlaneWindow {
+    /// Its first column in the plane.
     pub left: u32,
+    /// Its first row in the plane.
     pub top: u32,
+    /// How many columns it has.
     pub width: u32,
+    /// How many rows it has.
     pub height: u32,
 }
 
