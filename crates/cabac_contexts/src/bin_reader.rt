@@ -82,7 +82,7 @@ impl<'a> BinReader<'a> {
         self.interval.pcm_end().ok_or(DATA_END)
     }
 
-    /// The number that `n` bypass bins spell, the greatest digit first (9.3.3.5).
+    /// The number that `n` bypass bins spell, the greatest digit first (9.3.3.4).
     pub fn fixed(&mut self, n: u32) -> Result<u32, Breach>
         requires live { IsLive self.old.interval }
         requires few { n ≤ 32 }

@@ -206,7 +206,7 @@ pub fn sao(
     above: Sao,
 ) -> Result<Sao, Breach>
     requires { IsLive reader.old.interval }
-    ensures { Takes (λ x. x) result reader.old reader.new (sao syntax.now left above) }
+    ensures value { Takes (λ x. x) result reader.old reader.new (sao syntax.now left above) }
 {
     if !(syntax.sao_luma || syntax.sao_chroma) {
         return Ok(Sao {

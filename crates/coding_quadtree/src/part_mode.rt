@@ -1,4 +1,4 @@
-//! part_mode of inter coding units (7.3.8.5, 9.3.3.7).
+//! part_mode of inter coding units (7.3.8.5, 9.3.3.5).
 
 ghost use Rattle.std.specs.Prelude.{◌≡◌, ◌<◌};
 ghost use Rattle.spec_cabac.specs.Engine.{IsLive};

@@ -53,7 +53,7 @@ pub struct LumaMode {
     pub mode: u8,
 }
 
-/// A cu_qp_delta, and the coding unit whose Qp'Y it makes (7.3.8.11, 8.6.1).
+/// A cu_qp_delta, and the coding unit whose Qp'Y it makes (7.3.8.10, 8.6.1).
 #[derive(Clone, Copy, Debug, PartialEq, Eq)]
 pub struct QpDelta {
     /// The coding unit.

@@ -2,11 +2,11 @@
 
 ghost use Rattle.std.specs.Prelude.{◌≡◌};
 ghost use Rattle.picture_build.specs.Pictures.{buffer_of};
-ghost use Rattle.spec_decoder.specs.Decoder.{decoded_picture, told_by};
+ghost use Rattle.spec_decoder.specs.Decoder.{decoded_picture};
 ghost use Rattle.decoder.specs.Pictures.{DecodesAs, IsTold};
 
 use crate::writing::outcome_of;
-use hv_base::{Breach, Fault, Limit, Outcome, Stop};
+use hv_base::Outcome;
 use picture_buffer::{Bases, Picture};
 use picture_build::build_picture;
 use picture_trees::ReadError;
@@ -36,20 +36,6 @@ fn told(error: ReadError) -> Outcome
 {
     match error {
         ReadError::Memory => Outcome::Memory,
-        ReadError::Broken { breach, nal, ctu } => outcome_of(Some(stop_at(nal, ctu, breach))),
-    }
-}
-
-/// What the data of a NAL unit break or meet, at a coding tree unit.
-fn stop_at(nal: u32, ctu: u32, breach: Breach) -> Stop
-    ensures { result ≡ told_by nal ctu breach }
-{
-    match breach {
-        Breach::Fault(kind) => Stop::Fault(Fault {
-            kind,
-            nal,
-            ctu: Some(ctu),
-        }),
-        Breach::Limit(kind) => Stop::Limit(Limit { kind, nal }),
+        ReadError::Broken { breach, nal, ctu } => outcome_of(Some(breach.at(nal, Some(ctu)))),
     }
 }

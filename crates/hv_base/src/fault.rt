@@ -24,7 +24,7 @@ pub enum FaultKind {
     MissingSet,
     /// A sequence and a picture parameter set don't fit each other (7.4.3.3).
     SetMismatch,
-    /// The sequence parameter set changes inside a coded video sequence (7.4.3.2).
+    /// The sequence parameter set changes inside a coded video sequence (7.4.2.4.2).
     SpsChanged,
     /// The first picture of a sequence isn't an intra random access point (7.4.2.4.4).
     FirstPicture,
@@ -50,7 +50,8 @@ pub enum FaultKind {
     SliceEnd,
     /// `end_of_subset_one_bit` is 0 (7.4.9.1).
     SubsetEnd,
-    /// What follows the last coding tree unit isn't a 1 and zero bits (7.3.2.11, 7.3.2.12).
+    /// What follows the last coding tree unit of a segment, or of a substream, isn't a 1 and zero bits (7.3.2.10 to
+    /// 7.3.2.12).
     TrailingBits,
     /// A transform coefficient level doesn't fit 16 bits (7.4.9.11).
     CoeffRange,

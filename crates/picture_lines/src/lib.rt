@@ -5,9 +5,7 @@
 mod coded_lines;
 mod output_trace;
 mod picture_line;
-mod stopping;
 
 pub use coded_lines::{print_coded_picture, print_slice_segments};
 pub use output_trace::OutputTrace;
 pub use picture_line::PictureLine;
-pub use stopping::stop_at;

@@ -4,7 +4,7 @@ use crate::plane_rows::print_rows;
 use hv_base::Stop;
 use picture_buffer::Bases;
 use picture_build::build_picture;
-use picture_lines::{print_coded_picture, stop_at};
+use picture_lines::print_coded_picture;
 use picture_trees::ReadError;
 use plan_types::{PicturePlan, SegmentPlan};
 use slice_types::SliceType;
@@ -66,6 +66,6 @@ fn print_decoded<W: Write>(
             Ok(None)
         }
         Err(ReadError::Memory) => Err(io::Error::from(AllocError)),
-        Err(ReadError::Broken { breach, nal, ctu }) => Ok(Some(stop_at(breach, nal, ctu))),
+        Err(ReadError::Broken { breach, nal, ctu }) => Ok(Some(breach.at(nal, Some(ctu)))),
     }
 }

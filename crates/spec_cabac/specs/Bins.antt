@@ -93,7 +93,7 @@ times i (suc n) step x = do
   y ← step i x
   times (i + 1) n step y
 
--- FL binarization by bypass bins (9.3.3.5): the number that n of them spell after a value, the greatest digit first
+-- FL binarization by bypass bins (9.3.3.4): the number that n of them spell after a value, the greatest digit first
 unfoldable pub fixed_after : ℕ → ℕ → Tree ℕ
 fixed_after zero value = give value
 fixed_after (suc n) value = do

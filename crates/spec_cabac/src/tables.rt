@@ -78,8 +78,9 @@ pub fn next_state_mps(state: u32) -> u32
     u32::from(TRANS_IDX_MPS[state as usize])
 }
 
-/// What the entries of the tables have in common: the range of the less probable symbol falls with the state and grows
-/// with the range, a less probable symbol lowers the state, and a more probable one raises it by one, up to 62.
+/// What the entries of the tables have in common: the range of the less probable symbol doesn't grow with the state and
+/// doesn't fall with the range, a less probable symbol doesn't raise the state, and a more probable one raises it by
+/// one, up to 62.
 pub fn tables_keep_their_order()
     ensures falls { (state q : ℕ) → state < 62 → q < 4 → slice_index RANGE_TAB_LPS (4 * (state + 1) + q) ≤ slice_index RANGE_TAB_LPS (4 * state + q) }
     ensures grows { (state q : ℕ) → state < 63 → q < 3 → slice_index RANGE_TAB_LPS (4 * state + q) ≤ slice_index RANGE_TAB_LPS (4 * state + (q + 1)) }

@@ -1,10 +1,8 @@
 -- The sequential decoder, as a function of the bytes.
 use Rattle.std.specs.Prelude.{◌≡◌, ℕ, suc, Bool, List, [], ◌∷◌, ◌++◌, slice_get, Option, Some, None, Result, Ok, Err, ◌==◌, if◌then◌else◌}
 use Rattle.std.specs.List.{concat, list_any}
-use Rattle.hv_base.specs.declared.breach.Breach.{Breach}
-use Rattle.hv_base.specs.declared.breach.Breach.TheVariants as breach
 use Rattle.hv_base.specs.declared.refusal.Stop.{Stop}
-use Rattle.hv_base.specs.declared.refusal.Stop.TheVariants as stop
+use Rattle.hv_base.specs.Stops.{stopped_at}
 use Rattle.plan_types.specs.declared.picture_plan.PicturePlan.{PicturePlan}
 use Rattle.spec_pictures.specs.Planned.{Planned, planned_of}
 use Rattle.spec_picture_data.specs.Picture.{PictureBroken}
@@ -22,12 +20,8 @@ abbrev pub picture_out : DecodedPicture → List ℕ
 picture_out picture = picture_bytes picture.format picture.samples
 
 -- what is broken or met in the data of a picture
-abbrev pub told_by : ℕ → ℕ → Breach → Stop
-told_by nal ctu (breach.Fault kind) = stop.Fault (record { kind = kind; nal = nal; ctu = Some ctu })
-told_by nal ctu (breach.Limit kind) = stop.Limit (record { kind = kind; nal = nal })
-
 abbrev pub told : PictureBroken → Stop
-told broken = told_by broken.nal broken.ctu broken.breach
+told broken = stopped_at broken.nal (Some broken.ctu) broken.breach
 
 abbrev pub decoded_data : Result DecodedPicture PictureBroken → Result DecodedPicture Stop
 decoded_data (Ok picture) = Ok picture

@@ -19,7 +19,8 @@ pub fn filters_keep_equal_samples()
     ensures chroma { (q : ℕ) (a : ℤ) → q < 8 → chroma_taps q a a a a ≡ pos 64 *ℤ a }
 {}
 
-/// A luma sample depends on the lines that the vertical taps meet, which are those of `needed_rows`.
+/// A luma sample depends on the lines that the vertical taps meet: three before its own, shifted by the vector, to four
+/// behind it.
 pub fn luma_samples_depend_on_their_lines()
     ensures sample { (depth : ℕ) (reference other : ℤ → ℤ → ℕ) (across down : ℤ) (x y : ℕ)
         → ((column : ℤ) (tap : ℕ) → tap < 8 → reference column (tap_line y down tap) ≡ other column (tap_line y down tap))

@@ -6,9 +6,9 @@ use Rattle.hv_base.specs.declared.fault.FaultKind.{FaultKind}
 use Rattle.hv_base.specs.declared.fault.FaultKind.TheVariants as rule
 use Rattle.hv_base.specs.declared.fault.Fault.{Fault}
 use Rattle.hv_base.specs.declared.limit.LimitKind.TheVariants as bound
-use Rattle.hv_base.specs.declared.limit.Limit.{Limit}
 use Rattle.hv_base.specs.declared.refusal.Stop.{Stop}
 use Rattle.hv_base.specs.declared.refusal.Stop.TheVariants as stop
+use Rattle.hv_base.specs.Stops.{stopped_at}
 use Rattle.header_types.specs.declared.sps.SpsFields.{SpsFields}
 use Rattle.header_types.specs.declared.pps.PpsFields.{PpsFields}
 use Rattle.slice_types.specs.declared.slice.PictureKind.{PictureKind}
@@ -47,8 +47,7 @@ pub record Stepped : Type 0 where
 
 -- a broken rule or a limit at a unit
 abbrev pub stop_at : ℕ → Breach → Stop
-stop_at nal (breach.Fault kind) = stop.Fault (record { kind = kind; nal = nal; ctu = None })
-stop_at nal (breach.Limit kind) = stop.Limit (record { kind = kind; nal = nal })
+stop_at nal b = stopped_at nal None b
 
 -- what is known behind a unit that is read so, or what stops the stream there
 abbrev pub behind_read : {X : Type 0} → ℕ → Result X Breach → (X → Between) → Result Between Stop

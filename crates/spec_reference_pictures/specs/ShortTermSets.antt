@@ -135,7 +135,8 @@ abbrev pub KeepsOrder : Type 0
 KeepsOrder = (rules : FieldRules) (index count : ℕ) (former : List StRps) (greatest : ℕ) (bits : List Bool) (s : StRps) (left : List Bool)
     → All IsNearestFirst former → read rules (st_ref_pic_set index count former greatest) bits ≡ Ok (s, left) → IsNearestFirst s
 
--- a set that is read has few entries, at most 32768 further away than those of the sets read before
+-- a set that is read has at most 16 entries; where those of the sets read before are within 32768 n, they are within
+-- 32768 (n + 1)
 abbrev pub StaysNear : Type 0
 StaysNear = (rules : FieldRules) (index count : ℕ) (former : List StRps) (greatest : ℕ) (bits : List Bool) (s : StRps) (left : List Bool) (n : ℕ)
     → greatest ≤ 15 → 14 ≤ n → All (IsStRps n) former → read rules (st_ref_pic_set index count former greatest) bits ≡ Ok (s, left) → IsStRps (n + 1) s

@@ -8,7 +8,8 @@ pub fn sets_are_nearest_first()
     ensures { KeepsOrder }
 {}
 
-/// A set that is read has at most 16 entries, and none is more than 32768 further away than those of the sets before.
+/// A set that is read has at most 16 entries; where those of the sets read before are within 32768 n of the picture, n
+/// above 13, they are within 32768 (n + 1).
 pub fn sets_are_near()
     ensures { StaysNear }
 {}

@@ -1,4 +1,4 @@
--- Prediction units: prediction_unit (7.3.8.6) and mvd_coding (7.3.8.9), part_mode (9.3.3.7), and where cu_skip_flag,
+-- Prediction units: prediction_unit (7.3.8.6) and mvd_coding (7.3.8.9), part_mode (9.3.3.5), and where cu_skip_flag,
 -- pred_mode_flag and rqt_root_cbf stand (7.3.8.5).
 use Rattle.std.specs.Prelude.{ℕ, ◌+◌, ◌-◌, ◌==◌, ◌&&◌, not, nat_le, nat_lt, ℤ, pos, Bool, true, false, Option, Some, None, if◌then◌else◌}
 use Rattle.hv_base.specs.declared.breach.Breach.{Breach}

@@ -3,7 +3,7 @@
 use crate::motion_buffer::MotionBuffer;
 use crate::picture_units::TreeLines;
 use hv_base::Stop;
-use picture_lines::{print_coded_picture, stop_at};
+use picture_lines::print_coded_picture;
 use picture_motion::PictureMotion;
 use picture_trees::{ReadError, read_picture};
 use plan_types::PicturePlan;
@@ -75,7 +75,7 @@ fn print_units<W: Write>(
     let stop = match read_picture(alloc, picture, &mut lines) {
         Ok(()) => None,
         Err(ReadError::Memory) => return Err(io::Error::from(AllocError)),
-        Err(ReadError::Broken { breach, nal, ctu }) => Some(stop_at(breach, nal, ctu)),
+        Err(ReadError::Broken { breach, nal, ctu }) => Some(breach.at(nal, Some(ctu))),
     };
     let left = lines.finish(out)?;
     Ok((stop, left))
