@@ -1,6 +1,7 @@
 -- Which places may be used by another (6.4.1), by the order in which they are decoded (6.5.2).
 use Rattle.std.specs.Prelude.{ℕ, ◌+◌, ◌-◌, ◌*◌, ◌/◌, ◌%◌, ◌^◌, ℤ, pos, negsuc, Bool, false, ◌&&◌, nat_le, nat_lt}
 use Rattle.block_geometry.specs.declared.availability.SliceArea.{SliceArea}
+use Rattle.block_geometry.specs.CodingTreeBlocks.{ctb_place, is_from}
 
 -- the bits of a number below 16, each at the place of its square
 unfoldable pub spread : ℕ → ℕ
@@ -14,11 +15,11 @@ width_in_units area = (area.across + (2 ^ area.size - 1)) / 2 ^ area.size
 unfoldable pub unit_of_place : SliceArea → ℕ → ℕ → ℕ
 unit_of_place area x y = width_in_units area * (y / 2 ^ area.size) + x / 2 ^ area.size
 
--- the place of a place in the z-scan order of a picture: units by their addresses, and inside each the bits of column
+-- the place of a place in the z-scan order of a picture: units as they are decoded, and inside each the bits of column
 -- and row in turn
 unfoldable pub z_scan_order : SliceArea → ℕ → ℕ → ℕ
 z_scan_order area x y =
-    256 * unit_of_place area x y + (spread (x % 2 ^ area.size) + 2 * spread (y % 2 ^ area.size))
+    256 * ctb_place (unit_of_place area x y) + (spread (x % 2 ^ area.size) + 2 * spread (y % 2 ^ area.size))
 
 -- the first column, or row, of the block of so many places on a side that has a place
 abbrev pub block_start : ℕ → ℕ → ℕ
@@ -33,7 +34,7 @@ min_transform_order area x y = z_scan_order area (block_start area.min_transform
 abbrev pub is_usable : SliceArea → ℕ → ℕ → ℕ → ℕ → Bool
 is_usable area x y neighbour_x neighbour_y =
     (nat_lt neighbour_x area.across && nat_lt neighbour_y area.down)
-    && (nat_le area.first_unit (unit_of_place area neighbour_x neighbour_y)
+    && (is_from area.first_unit (unit_of_place area neighbour_x neighbour_y)
     && nat_le (min_transform_order area neighbour_x neighbour_y) (min_transform_order area x y))
 
 -- availableN: places left of the picture and above it have a coordinate below 0

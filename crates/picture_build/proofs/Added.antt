@@ -18,7 +18,8 @@ use Rattle.spec_inter_prediction.specs.declared.tables.SliceWeighting.{SliceWeig
 use Rattle.spec_motion.specs.declared.slice_motion.SliceMotion.{SliceMotion}
 use Rattle.spec_motion.specs.Vectors as motion
 use Rattle.spec_picture_data.specs.Picture.{TreeUnit}
-use Rattle.spec_picture_data.specs.Shapes.{address_of, picture_shape, slice_start}
+use Rattle.plan_types.specs.Segments.{address_of}
+use Rattle.spec_picture_data.specs.Shapes.{picture_shape, slice_start}
 use Rattle.spec_picture_motion.specs.Derived.{known_of_unit}
 use Rattle.spec_picture_motion.specs.Derived as derived
 use Rattle.spec_picture_motion.specs.Field.{Motions, first_column, first_row}

@@ -1,7 +1,8 @@
 //! Where slice segments begin.
 
 ghost use Rattle.std.specs.Prelude.{◌≡◌};
-ghost use Rattle.spec_picture_data.specs.Shapes.{address_of, slice_start};
+ghost use Rattle.plan_types.specs.Segments.{address_of};
+ghost use Rattle.spec_picture_data.specs.Shapes.{slice_start};
 
 use plan_types::{PicturePlan, SegmentPlan};
 

@@ -6,7 +6,8 @@ ghost use Rattle.ctu_motion.specs.Held.{held, held_beneath};
 ghost use Rattle.picture_buffer.specs.Motion.{HasPlaces, motions_of};
 ghost use Rattle.picture_motion.specs.Deriving.{derived_over, known_over};
 ghost use Rattle.spec_motion.specs.Units.{IsPlacedItem, unit_derived};
-ghost use Rattle.spec_picture_data.specs.Shapes.{address_of, picture_shape, slice_start};
+ghost use Rattle.plan_types.specs.Segments.{address_of};
+ghost use Rattle.spec_picture_data.specs.Shapes.{picture_shape, slice_start};
 ghost use Rattle.spec_picture_motion.specs.Field.{no_motions, unit_laid};
 ghost use Rattle.spec_picture_motion.specs.Slices.{slice_motion};
 

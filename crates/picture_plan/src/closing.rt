@@ -4,16 +4,16 @@ ghost use Rattle.std.specs.Prelude.{◌≡◌, ◌-◌, ◌/◌, ◌≤◌, None
 ghost use Rattle.header_types.specs.SequenceParameterSets.{highest_ordering};
 ghost use Rattle.spec_output_order.specs.OutputOrder.{size_of};
 ghost use Rattle.picture_plan.specs.Bounds.{IsWithinSize, KeepsFew};
+ghost use Rattle.plan_types.specs.Segments.{address_of, begins_at};
 ghost use Rattle.spec_pictures.specs.Closing.{
-  address_of,
   broken_at,
   broken_at_closing,
   broken_from,
   broken_in,
-  end_of,
   entry_points_fit,
   is_buffer_full,
   passes_row,
+  row_before,
   segment_breaks,
   slice_start,
 };
@@ -77,7 +77,7 @@ fn broken_from(width: u32, size: u32, segments: &[SegmentPlan]) -> Option<Fault>
     let mut start = 0;
     for i in 0..segments.len() {
         let segment = &segments[i];
-        let end = end_of(size, &segments[i + 1..]);
+        let end = begins_at(size, &segments[i + 1..]);
         start = slice_start(start, segment);
         if let Some(fault) = segment_breaks(width, start, end, segment) {
             return Some(fault);
@@ -86,9 +86,9 @@ fn broken_from(width: u32, size: u32, segments: &[SegmentPlan]) -> Option<Fault>
     None
 }
 
-/// The coding tree unit behind a segment's last, where these segments are later.
-fn end_of(size: u32, later: &[SegmentPlan]) -> u32
-    ensures { result ≡ end_of size later.now }
+/// The place in decoding order where the first of these segments begins, or the picture's end.
+fn begins_at(size: u32, later: &[SegmentPlan]) -> u32
+    ensures { result ≡ begins_at size later.now }
 {
     match later {
         [] => size,
@@ -163,7 +163,7 @@ fn entry_points_fit(width: u32, end: u32, segment: &SegmentPlan) -> bool
 /// How many rows behind its first have coding tree units of a segment.
 fn later_rows(width: u32, first: u32, end: u32) -> u32
     requires { 1 ≤ width }
-    ensures { result ≡ (end - 1) / width - first / width }
+    ensures { result ≡ row_before width end - first / width }
 {
     (end.saturating_sub(1) / width).saturating_sub(first / width)
 }

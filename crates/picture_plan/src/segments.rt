@@ -8,7 +8,7 @@ ghost use Rattle.spec_pictures.specs.Steps.{lists_of, segment_of, slice_number};
 
 use header_types::{DpbPicture, FieldList, Lists, Rps};
 use hv_base::Nal;
-use plan_types::SegmentPlan;
+use plan_types::{Payload, SegmentPlan};
 use ref_picture_sets::build_lists;
 use slice_headers::substreams;
 use slice_types::{SliceHeader, Substream};
@@ -31,7 +31,7 @@ pub(crate) fn segment_of(
         slice: slice_number(before, &header),
         lists: lists_of(dpb, &header, rps),
         header,
-        payload: nal.rbsp,
+        payload: Payload::new(nal.rbsp),
         removed: nal.removed,
         substreams,
     })

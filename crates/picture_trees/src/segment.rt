@@ -4,17 +4,16 @@ ghost use Rattle.std.specs.Prelude.{◌≡◌, ◌-◌, ◌^◌, ◌≤◌, ◌<
 ghost use Rattle.header_types.specs.SequenceParameterSets.{size_in_ctbs};
 ghost use Rattle.spec_slice_headers.specs.SliceFields.{slice_qp};
 ghost use Rattle.spec_cabac.specs.Contexts.{first_contexts};
-ghost use Rattle.spec_picture_data.specs.Shapes.{address_of, first_qp, qp_bd_offset, segment_shape, slice_start, substream_bytes};
+ghost use Rattle.plan_types.specs.Segments.{address_of};
+ghost use Rattle.spec_slice_headers.specs.Substreams.{bytes_of};
+ghost use Rattle.spec_picture_data.specs.Shapes.{first_qp, qp_bd_offset, segment_shape, slice_start};
 
 use crate::slice_syntax::init_type;
 use cabac_contexts::Contexts;
 use header_types::Pps;
-use plan_types::{PicturePlan, SegmentPlan};
+use plan_types::{Payload, PicturePlan, SegmentPlan};
 use slice_types::Substream;
 use std::marker::Model;
-
-/// The most bytes that a NAL unit has.
-const MOST_BYTES: usize = 67108864;
 
 /// A slice segment: where its units stand, what its slice begins with, and its substreams.
 #[derive(Drop)]
@@ -31,18 +30,18 @@ pub(crate) struct Segment<'a> {
     pub(crate) contexts: Contexts,
     /// dependent_slice_segment_flag.
     pub(crate) dependent: bool,
-    payload: &'a [u8],
+    payload: &'a Payload,
     ranges: &'a [Substream],
 }
 
 impl<'a> Model for Segment<'a> {
     ghost use Rattle.std.specs.Prelude.{map, ◌+◌, ◌≤◌};
-    ghost use Rattle.spec_picture_data.specs.Shapes.{substream_bytes};
     ghost use Rattle.spec_slice_data.specs.Segment.{SegmentShape};
+    ghost use Rattle.spec_slice_headers.specs.Substreams.{bytes_of};
 
     ghost Value = { SegmentShape };
 
-    ghost view = { λ s. record { first = s.first; count = s.count; slice = s.slice; qp = s.qp; contexts = s.contexts; dependent = s.dependent; substreams = map (substream_bytes s.payload.now) s.ranges.now } };
+    ghost view = { λ s. record { first = s.first; count = s.count; slice = s.slice; qp = s.qp; contexts = s.contexts; dependent = s.dependent; substreams = map (bytes_of s.payload.now) s.ranges.now } };
 
     ghost invariant = { λ s. s.first + s.count ≤ 262144 };
 }
@@ -70,7 +69,7 @@ impl<'a> Segment<'a> {
             qp: first_qp(offset, slice_qp),
             contexts: first_contexts(slice_qp, init_type(&header.slice)),
             dependent: header.segment.dependent_slice_segment_flag,
-            payload: segment.payload.as_slice(),
+            payload: &segment.payload,
             ranges: segment.substreams.as_slice(),
         }
     }
@@ -81,7 +80,7 @@ impl<'a> Segment<'a> {
         ensures short { length result.now < 2 ^ 60 }
     {
         if number < self.ranges.len() {
-            substream_bytes(self.payload, self.ranges[number])
+            bytes_of(self.payload.as_slice(), self.ranges[number])
         } else {
             &[]
         }
@@ -131,19 +130,18 @@ fn first_contexts(slice_qp: i64, init_type: u32) -> Contexts
     Contexts::init(slice_qp.clamp(0, 51) as i32, init_type)
 }
 
-/// The bytes of a substream.
-#[tactic(auto, unfolding(spec_picture_data::specs::Shapes::substream_bytes))]
-fn substream_bytes(payload: &[u8], range: Substream) -> &[u8]
-    ensures value { result.now ≡ substream_bytes payload.now range }
-    ensures short { length result.now < 2 ^ 60 }
+/// The bytes of a range of a payload.
+fn bytes_of(payload: &[u8], range: Substream) -> &[u8]
+    ensures value { result.now ≡ bytes_of payload.now range }
+    ensures short { length result.now ≤ length payload.now }
 {
-    let count = range.end.saturating_sub(range.start).min(MOST_BYTES);
-    front_of(behind(payload, range.start), count)
+    behind(front_of(payload, range.end), range.start)
 }
 
 /// The bytes from a place on: none where it is past the end.
 fn behind(bytes: &[u8], place: usize) -> &[u8]
-    ensures { result.now ≡ drop place bytes.now }
+    ensures value { result.now ≡ drop place bytes.now }
+    ensures short { length result.now ≤ length bytes.now }
 {
     if place < bytes.len() {
         &bytes[place..]
@@ -155,7 +153,7 @@ fn behind(bytes: &[u8], place: usize) -> &[u8]
 /// The first bytes, so many or fewer.
 fn front_of(bytes: &[u8], count: usize) -> &[u8]
     ensures value { result.now ≡ take count bytes.now }
-    ensures short { length result.now ≤ count }
+    ensures short { length result.now ≤ length bytes.now }
 {
     if bytes.len() <= count {
         bytes

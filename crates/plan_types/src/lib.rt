@@ -4,10 +4,12 @@
 
 mod between;
 mod outputs;
+mod payload;
 mod picture_plan;
 mod segment_plan;
 
 pub use between::Between;
 pub use outputs::Outputs;
+pub use payload::Payload;
 pub use picture_plan::PicturePlan;
 pub use segment_plan::SegmentPlan;

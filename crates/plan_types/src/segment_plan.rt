@@ -1,7 +1,8 @@
 //! A slice segment whose header is read.
 
+use crate::payload::Payload;
 use header_types::{FieldList, Lists};
-use hv_base::{Bytes, Places};
+use hv_base::Places;
 use slice_types::{SliceHeader, Substream};
 
 /// A slice segment: its header, and its NAL unit.
@@ -10,7 +11,7 @@ pub struct SegmentPlan {
     /// Its header, with the fields of its slice.
     pub header: SliceHeader,
     /// The unit's payload, behind the two bytes of its header. The segment's data begin at the header's `data_place`.
-    pub payload: Bytes,
+    pub payload: Payload,
     /// Where emulation prevention bytes stood, each counted in bytes from the unit's first.
     pub removed: Places,
     /// The number in the picture, from 0, of the segment that begins its slice: its own where it isn't a dependent one.

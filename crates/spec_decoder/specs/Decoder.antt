@@ -5,7 +5,8 @@ use Rattle.hv_base.specs.declared.refusal.Stop.{Stop}
 use Rattle.hv_base.specs.Stops.{stopped_at}
 use Rattle.plan_types.specs.declared.picture_plan.PicturePlan.{PicturePlan}
 use Rattle.spec_pictures.specs.Planned.{Planned, planned_of}
-use Rattle.spec_picture_data.specs.Picture.{PictureBroken}
+use Rattle.spec_picture_data.specs.Picture.{PictureBroken, Progress, picture_read}
+use Rattle.spec_picture_data.specs.Units.{addresses, picture_units, shared_units, with_segments}
 use Rattle.spec_decoded_pictures.specs.Decoded.{picture_decoded}
 use Rattle.spec_picture_samples.specs.Output.{picture_bytes}
 use Rattle.spec_picture_samples.specs.References.{DecodedPicture}
@@ -93,6 +94,15 @@ decoded ended bytes = decoded_plan (planned_of ended bytes)
 -- the bytes that sequential decoding writes
 abbrev pub bytes_of : Decoded → List ℕ
 bytes_of d = concat d.pictures
+
+-- what was read of a picture is all its coding tree units in decoding order, each of the segment that has it
+pub record AreAllUnits (p : PicturePlan) (read : Progress) : Type 0 where
+  pub units : addresses read.given ≡ picture_units p
+  pub segments : with_segments read.given ≡ shared_units p
+
+-- where no rule is broken in a picture's data, all its coding tree units are read
+abbrev pub HasAllUnits : PicturePlan → Type 0
+HasAllUnits p = (read : Progress) → picture_read p [] ≡ Ok read → AreAllUnits p read
 
 -- what is decoded of more input: the same pictures and then others, and nothing else where something was broken or met
 pub record Continues (short long : Decoded) : Type 0 where

@@ -4,7 +4,8 @@ use Rattle.hv_base.specs.declared.breach.Breach.{Breach}
 use Rattle.header_types.specs.SequenceParameterSets.{size_in_ctbs}
 use Rattle.plan_types.specs.declared.segment_plan.SegmentPlan.{SegmentPlan}
 use Rattle.plan_types.specs.declared.picture_plan.PicturePlan.{PicturePlan}
-use Rattle.spec_slice_data.specs.Segment.{Between, Broken, and_then, ctb_scan, unit_step, units_from}
+use Rattle.block_geometry.specs.CodingTreeBlocks.{ctb_scan}
+use Rattle.spec_slice_data.specs.Segment.{Between, Broken, and_then, unit_step, units_from}
 use Rattle.spec_picture_data.specs.Shapes.{end_of}
 use Rattle.spec_picture_data.specs.Picture.{PictureBroken, TreeUnit, Progress, Halt, SegmentAt, in_unit, then_segments, segments_data, picture_data, segment_at, with_unit, then_units, units_read, and_segments, segment_read, segments_read, picture_read, forgotten}
 

@@ -7,10 +7,13 @@ use Rattle.hv_base.specs.declared.breach.Breach.{Breach}
 use Rattle.header_types.specs.SequenceParameterSets.{size_in_ctbs}
 use Rattle.plan_types.specs.declared.segment_plan.SegmentPlan.{SegmentPlan}
 use Rattle.plan_types.specs.declared.picture_plan.PicturePlan.{PicturePlan}
-use Rattle.spec_slice_data.specs.Segment.{Between, ctb_scan, unit_step}
-use Rattle.spec_picture_data.specs.Shapes.{address_of, end_of, segment_shape}
+use Rattle.block_geometry.specs.CodingTreeBlocks.{ctb_scan}
+use Rattle.spec_slice_data.specs.Segment.{Between, unit_step}
+use Rattle.plan_types.specs.Segments.{address_of}
+use Rattle.spec_picture_data.specs.Shapes.{end_of, segment_shape}
 use Rattle.spec_picture_data.specs.Picture.{TreeUnit, Progress, Halt, SegmentAt, segment_at, segment_read, segments_read, picture_read, then_units, and_segments, unit_given, units_read, with_unit}
-use Rattle.spec_picture_data.specs.Units.{units_between, begins_at, segment_units, shared_units, picture_units, addresses, with_segments, Rise, AreInOrder}
+use Rattle.plan_types.specs.Segments.{AreInOrder, Rise, begins_at}
+use Rattle.spec_picture_data.specs.Units.{units_between, segment_units, shared_units, picture_units, addresses, with_segments}
 
 range-append : (a m n b : ℕ) → a + m ≡ b → range_with_len a m ++ range_with_len b n ≡ range_with_len a (m + n)
 range-append a zero n b e =

@@ -7,7 +7,8 @@ use Rattle.plan_types.specs.declared.picture_plan.PicturePlan.{PicturePlan}
 use Rattle.ctu_records.specs.Tree.{Ctu}
 use Rattle.spec_cabac.specs.Contexts.{first_contexts}
 use Rattle.spec_slice_data.specs.declared.syntax.CtuSyntax.{CtuSyntax}
-use Rattle.spec_slice_data.specs.Segment.{PictureShape, SegmentShape, Between, Broken, ctb_scan, segment_data, unit_of, unit_step}
+use Rattle.block_geometry.specs.CodingTreeBlocks.{ctb_scan}
+use Rattle.spec_slice_data.specs.Segment.{PictureShape, SegmentShape, Between, Broken, segment_data, unit_of, unit_step}
 use Rattle.spec_picture_data.specs.Shapes.{end_of, picture_shape, segment_shape, segment_syntax}
 
 -- before the first unit of a picture. The first segment isn't a dependent one, so nothing of this but that there are no

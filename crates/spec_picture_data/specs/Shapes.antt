@@ -1,18 +1,20 @@
 -- A planned picture and its slice segments as their data are read (6.3.1, 7.3.8.1, 7.4.3.2, 7.4.3.3, 7.4.7.1, 9.3.1).
 -- Sizes are binary logarithms of sides in places of 4x4 luma samples.
-use Rattle.std.specs.Prelude.{ℕ, ◌+◌, ◌-◌, ◌*◌, ◌/◌, ◌^◌, ℤ, pos, ◌+ℤ◌, Bool, true, false, List, [], ◌∷◌, map, take, drop, min, max, Option, Some, None, is_some, unwrap_or, slice_index_or, unsigned_abs, if◌then◌else◌}
+use Rattle.std.specs.Prelude.{ℕ, ◌+◌, ◌-◌, ◌*◌, ◌/◌, ◌^◌, ℤ, pos, ◌+ℤ◌, Bool, true, false, List, [], ◌∷◌, map, min, max, Option, Some, None, is_some, unwrap_or, slice_index_or, unsigned_abs, if◌then◌else◌}
 use Rattle.header_types.specs.declared.sps.SpsFields.{SpsFields}
 use Rattle.header_types.specs.declared.sps.PcmFormat.{PcmFormat}
 use Rattle.header_types.specs.declared.pps.PpsFields.{PpsFields}
 use Rattle.slice_types.specs.declared.slice.InterFields.{InterFields}
 use Rattle.slice_types.specs.declared.slice.SliceFields.{SliceFields}
 use Rattle.slice_types.specs.declared.slice.SliceType.{SliceType}
-use Rattle.slice_types.specs.declared.substream.Substream.{Substream}
+use Rattle.block_geometry.specs.CodingTreeBlocks.{ctb_place}
 use Rattle.header_types.specs.SequenceParameterSets.{ctb_log2, min_cb_log2, min_tb_log2, max_tb_log2, min_pcm_log2, max_pcm_log2, width_in_ctbs}
 use Rattle.plan_types.specs.declared.segment_plan.SegmentPlan.{SegmentPlan}
 use Rattle.plan_types.specs.declared.picture_plan.PicturePlan.{PicturePlan}
+use Rattle.plan_types.specs.Segments.{address_of}
 use Rattle.spec_slice_headers.specs.InterFields.{is_b}
 use Rattle.spec_slice_headers.specs.SliceFields.{slice_qp}
+use Rattle.spec_slice_headers.specs.Substreams.{bytes_of}
 use Rattle.spec_cabac.specs.Contexts.{clip3, first_contexts}
 use Rattle.spec_slice_data.specs.declared.syntax.CtuSyntax.{CtuSyntax}
 use Rattle.spec_slice_data.specs.declared.syntax.InterSyntax.{InterSyntax}
@@ -112,13 +114,6 @@ segment_syntax p s = slice_syntax p.sps p.pps s.header.slice
 abbrev pub first_qp : ℕ → ℤ → ℕ
 first_qp qp_offset slice_qp_y = unsigned_abs (clip3 (pos 0) (pos (51 + qp_offset)) (slice_qp_y +ℤ pos qp_offset))
 
--- the bytes of a substream. A NAL unit has at most 2^26 bytes
-unfoldable pub substream_bytes : List ℕ → Substream → List ℕ
-substream_bytes payload range = take (min (range.end - range.start) (2 ^ 26)) (drop range.start payload)
-
-abbrev pub address_of : SegmentPlan → ℕ
-address_of s = s.header.segment.slice_segment_address
-
 -- the segment that begins a segment's slice
 abbrev pub slice_start : PicturePlan → SegmentPlan → SegmentPlan
 slice_start p s = slice_index_or p.segments s.slice s
@@ -127,7 +122,7 @@ slice_start p s = slice_index_or p.segments s.slice s
 -- picture, and not before the segment does
 abbrev pub end_of : ℕ → ℕ → List SegmentPlan → ℕ
 end_of size first [] = max first size
-end_of size first (next ∷ later) = max first (min (address_of next) size)
+end_of size first (next ∷ later) = max first (min (ctb_place (address_of next)) size)
 
 -- a segment, from the place where its first unit stands to the one behind its last
 unfoldable pub segment_shape : PicturePlan → SegmentPlan → ℕ → ℕ → SegmentShape
@@ -138,5 +133,5 @@ segment_shape p s first behind = record {
   qp = first_qp (qp_bd_offset p.sps) (slice_qp p.pps s.header.slice.slice_qp_delta);
   contexts = first_contexts (slice_qp p.pps s.header.slice.slice_qp_delta) (init_type s.header.slice.slice_type s.header.slice.inter);
   dependent = s.header.segment.dependent_slice_segment_flag;
-  substreams = map (substream_bytes s.payload) s.substreams;
+  substreams = map (bytes_of s.payload) s.substreams;
 }

@@ -1,21 +1,15 @@
 -- The coding tree units of a planned picture and of its slice segments, by their addresses (6.3.1, 7.4.7.1).
-use Rattle.std.specs.Prelude.{◌≡◌, ℕ, suc, ◌-◌, ◌<◌, List, [], ◌∷◌, map, drop, length}
+use Rattle.std.specs.Prelude.{ℕ, suc, ◌-◌, List, map, drop, length}
 use Rattle.std.specs.List.{range_with_len, flat_map}
 use Rattle.header_types.specs.SequenceParameterSets.{size_in_ctbs}
-use Rattle.plan_types.specs.declared.segment_plan.SegmentPlan.{SegmentPlan}
 use Rattle.plan_types.specs.declared.picture_plan.PicturePlan.{PicturePlan}
-use Rattle.spec_slice_data.specs.Segment.{ctb_scan}
-use Rattle.spec_picture_data.specs.Shapes.{address_of}
+use Rattle.plan_types.specs.Segments.{begins_at}
+use Rattle.block_geometry.specs.CodingTreeBlocks.{ctb_scan}
 use Rattle.spec_picture_data.specs.Picture.{TreeUnit}
 
 -- the coding tree units from a place of the scan to the one before another
 abbrev pub units_between : ℕ → ℕ → List ℕ
 units_between first behind = map ctb_scan (range_with_len first (behind - first))
-
--- where the first of these segments begins, or, where there is none, the picture's end
-abbrev pub begins_at : ℕ → List SegmentPlan → ℕ
-begins_at size [] = size
-begins_at size (s ∷ later) = address_of s
 
 -- the coding tree units of the segment with this number: from where it begins to where the next one does, or to the
 -- picture's end
@@ -37,14 +31,3 @@ addresses units = map (λ unit. unit.ctu) units
 
 abbrev pub with_segments : List TreeUnit → List (ℕ × ℕ)
 with_segments units = map (λ unit. (unit.segment, unit.ctu)) units
-
--- each of these segments begins before the next one, and the last before the picture's end
-abbrev pub Rise : ℕ → List SegmentPlan → Type 0
-Rise size [] = Unit {0}
-Rise size (s ∷ later) = (address_of s < begins_at size later) × Rise size later
-
--- the first segment of a picture begins at its first coding tree unit, each later one behind the one before, and all
--- inside the picture
-pub record AreInOrder (p : PicturePlan) : Type 0 where
-  pub first : begins_at (size_in_ctbs p.sps) p.segments ≡ 0
-  pub rise : Rise (size_in_ctbs p.sps) p.segments

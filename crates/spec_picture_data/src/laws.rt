@@ -5,8 +5,10 @@ ghost use Rattle.std.specs.List.{range_with_len, flat_map};
 ghost use Rattle.plan_types.specs.declared.picture_plan.PicturePlan.{PicturePlan};
 ghost use Rattle.plan_types.specs.declared.segment_plan.SegmentPlan.{SegmentPlan};
 ghost use Rattle.spec_picture_data.specs.Picture.{Progress, TreeUnit, forgotten, picture_data, picture_read};
-ghost use Rattle.spec_picture_data.specs.Shapes.{address_of, end_of};
-ghost use Rattle.spec_picture_data.specs.Units.{AreInOrder, addresses, picture_units, segment_units, shared_units, with_segments};
+ghost use Rattle.plan_types.specs.Segments.{address_of};
+ghost use Rattle.spec_picture_data.specs.Shapes.{end_of};
+ghost use Rattle.plan_types.specs.Segments.{AreInOrder};
+ghost use Rattle.spec_picture_data.specs.Units.{addresses, picture_units, segment_units, shared_units, with_segments};
 
 /// Reading a picture's units, each handed over, is reading the data of its segments one after the other.
 pub fn picture_is_its_segments()

@@ -1,6 +1,7 @@
 -- What a coding tree unit adds to what the loop filters of its picture need (8.7.2, 8.7.3).
 use Rattle.std.specs.Prelude.{ℕ, ◌+◌, ◌-◌, ◌==◌, ℤ, pos, negsuc, Bool, false, ◌&&◌, ◌||◌, nat_le, nat_lt, List, Option, Some, None, if◌then◌else◌}
 use Rattle.std.specs.Int.{int_max, int_min}
+use Rattle.block_geometry.specs.CodingTreeBlocks.{is_from}
 use Rattle.ctu_records.specs.declared.item.Item.{Item}
 use Rattle.ctu_records.specs.declared.offset.ComponentOffset.{ComponentOffset}
 use Rattle.ctu_records.specs.declared.offset.Sao.{Sao}
@@ -16,7 +17,8 @@ use Rattle.spec_boundary_strengths.specs.Places.{unit_place}
 use Rattle.spec_boundary_strengths.specs.Strengths.{Beside}
 use Rattle.spec_deblocking.specs.declared.place.Place.{Place}
 use Rattle.spec_picture_data.specs.Picture.{TreeUnit}
-use Rattle.spec_picture_data.specs.Shapes.{address_of, picture_shape, qp_bd_offset, slice_start}
+use Rattle.plan_types.specs.Segments.{address_of}
+use Rattle.spec_picture_data.specs.Shapes.{picture_shape, qp_bd_offset, slice_start}
 use Rattle.spec_picture_motion.specs.Field.{Motions, first_column, first_row, has_place, is_of_unit}
 use Rattle.spec_sample_adaptive_offset.specs.declared.unit.OffsetUnit.{OffsetUnit}
 use Rattle.spec_slice_data.specs.Segment.{PictureShape, column_of, row_of}
@@ -32,7 +34,7 @@ is_across s = s.header.slice.slice_loop_filter_across_slices_enabled_flag
 
 -- whether the edges to a unit that was read before are filtered: it is of the same slice, or edges to others are too
 abbrev pub is_reached : PicturePlan → SegmentPlan → ℕ → Bool
-is_reached p s before = nat_le (slice_address p s) before || is_across s
+is_reached p s before = is_from (slice_address p s) before || is_across s
 
 -- whether the left side of the unit at an address is filtered, and its top: filterEdgeFlag (8.7.2.3)
 unfoldable pub is_left_filtered : PicturePlan → SegmentPlan → ℕ → Bool

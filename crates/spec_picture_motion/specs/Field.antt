@@ -1,6 +1,7 @@
 -- The motion of a picture by place, what of it is known beside a coding tree unit (6.4.1, 6.4.2), and what a later
 -- picture takes of it (8.5.3.2.8). A place is a block of 4x4 luma samples.
 use Rattle.std.specs.Prelude.{ℕ, ◌+◌, ◌-◌, ◌*◌, ◌/◌, ◌^◌, ◌==◌, ◌&&◌, ◌||◌, nat_le, nat_lt, Bool, Option, Some, None, if◌then◌else◌}
+use Rattle.block_geometry.specs.CodingTreeBlocks.{is_decoded_before, is_from}
 use Rattle.spec_motion.specs.declared.collocation.Collocated.{Collocated}
 use Rattle.spec_motion.specs.declared.collocation.CollocatedVector.{CollocatedVector}
 use Rattle.spec_motion.specs.declared.slice_motion.SliceMotion.{SliceMotion}
@@ -42,7 +43,7 @@ has_place picture x y = nat_lt x picture.across && nat_lt y picture.down
 -- it, and its unit is of the slice and was decoded before (6.4.1)
 unfoldable pub is_available : PictureShape → ℕ → ℕ → ℕ → ℕ → Bool
 is_available picture slice address x y =
-    has_place picture x y && (nat_le slice (unit_of_place picture x y) && nat_lt (unit_of_place picture x y) address)
+    has_place picture x y && (is_from slice (unit_of_place picture x y) && is_decoded_before (unit_of_place picture x y) address)
 
 -- without the pictures that the vectors point to
 abbrev pub vector_of : Option PlaceVector → Option Vector

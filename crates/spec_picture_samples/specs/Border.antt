@@ -1,5 +1,6 @@
 -- The samples of a picture, and those of them that are known beside a coding tree unit (6.4.1).
 use Rattle.std.specs.Prelude.{ℕ, ◌+◌, ◌-◌, ◌*◌, ◌/◌, ◌^◌, ◌&&◌, nat_le, nat_lt, Bool, Option, Some, None, if◌then◌else◌}
+use Rattle.block_geometry.specs.CodingTreeBlocks.{is_decoded_before, is_from}
 use Rattle.spec_slice_data.specs.Residual.{samples_of_place}
 use Rattle.spec_slice_data.specs.Segment.{PictureShape, column_of, row_of}
 use Rattle.spec_reconstruction.specs.Known.{Known}
@@ -42,7 +43,7 @@ has_sample picture c x y = nat_lt c 3 && (nat_lt x (width_of picture c) && nat_l
 -- it, and its unit is of the slice and was decoded before (6.4.1)
 unfoldable pub is_available : PictureShape → ℕ → ℕ → ℕ → ℕ → ℕ → Bool
 is_available picture slice address c x y =
-    has_sample picture c x y && (nat_le slice (unit_of_sample picture c x y) && nat_lt (unit_of_sample picture c x y) address)
+    has_sample picture c x y && (is_from slice (unit_of_sample picture c x y) && is_decoded_before (unit_of_sample picture c x y) address)
 
 -- a column or a line that is counted from 1 at a unit's first one lies in the picture, as far as its first edge goes
 abbrev pub is_inside : ℕ → ℕ → Bool

@@ -7,7 +7,8 @@ use Rattle.plan_types.specs.declared.segment_plan.SegmentPlan.{SegmentPlan}
 use Rattle.plan_types.specs.declared.picture_plan.PicturePlan.{PicturePlan}
 use Rattle.spec_slice_data.specs.Segment.{PictureShape}
 use Rattle.spec_picture_data.specs.Picture.{TreeUnit, PictureBroken, Progress, Halt, picture_read}
-use Rattle.spec_picture_data.specs.Shapes.{address_of, picture_shape, slice_start}
+use Rattle.plan_types.specs.Segments.{address_of}
+use Rattle.spec_picture_data.specs.Shapes.{picture_shape, slice_start}
 use Rattle.spec_picture_motion.specs.Derived.{known_of_unit}
 use Rattle.spec_picture_motion.specs.Derived as motion
 use Rattle.spec_picture_motion.specs.Field.{Motions, first_column, first_row, no_motions}

@@ -3,31 +3,27 @@ use Rattle.std.specs.Prelude.{ℕ, zero, suc, ◌+◌, ◌-◌, ◌/◌, ◌%◌
 use Rattle.hv_base.specs.declared.fault.FaultKind.{FaultKind}
 use Rattle.hv_base.specs.declared.fault.FaultKind.TheVariants as rule
 use Rattle.hv_base.specs.declared.fault.Fault.{Fault}
-use Rattle.slice_types.specs.declared.slice.SliceHeaderFields.{SliceHeaderFields}
+use Rattle.block_geometry.specs.CodingTreeBlocks.{ctb_scan}
 use Rattle.header_types.specs.SequenceParameterSets.{highest_ordering, width_in_ctbs, size_in_ctbs}
 use Rattle.spec_reference_pictures.specs.PictureOrderCount.{begins_anew}
 use Rattle.spec_slice_headers.specs.Substreams.{data_size}
 use Rattle.spec_output_order.specs.OutputOrder.{is_full_of_references}
 use Rattle.plan_types.specs.declared.segment_plan.SegmentPlan.{SegmentPlan}
 use Rattle.plan_types.specs.declared.picture_plan.PicturePlan.{PicturePlan}
+use Rattle.plan_types.specs.Segments.{address_of, begins_at}
 
--- a segment's first coding tree unit
-abbrev pub address_of : SegmentPlan → ℕ
-address_of s = s.header.segment.slice_segment_address
+-- the row of the last coding tree unit before a place of the scan
+abbrev pub row_before : ℕ → ℕ → ℕ
+row_before width end = ctb_scan (end - 1) / width
 
--- the coding tree unit behind a segment's last: the next segment's first, or the picture's end
-abbrev pub end_of : ℕ → List SegmentPlan → ℕ
-end_of size [] = size
-end_of size (next ∷ later) = address_of next
-
--- whether coding tree units from one inside a row (not its first) on reach a later row
+-- whether coding tree units from one inside a row (not its first) on, up to a place, reach a later row
 abbrev pub passes_row : ℕ → ℕ → ℕ → Bool
-passes_row width first end = not (first % width == 0) && nat_lt (first / width) ((end - 1) / width)
+passes_row width first end = not (first % width == 0) && nat_lt (first / width) (row_before width end)
 
 -- whether the entry points of a segment fit: one for each row but its first, and all of them inside the data
 abbrev pub entry_points_fit : ℕ → ℕ → SegmentPlan → Bool
 entry_points_fit width end s =
-    (length s.header.entry_points == (end - 1) / width - address_of s / width)
+    (length s.header.entry_points == row_before width end - address_of s / width)
     && nat_lt (sum s.header.entry_points) (data_size s.payload s.removed s.header.data_place)
 
 abbrev pub broken_at : FaultKind → SegmentPlan → Option Fault
@@ -37,7 +33,7 @@ broken_at kind s = Some (record { kind = kind; nal = s.header.nal; ctu = None })
 abbrev pub slice_start : ℕ → SegmentPlan → ℕ
 slice_start before s = if s.header.segment.dependent_slice_segment_flag then before else address_of s
 
--- the rule that a segment breaks which ends before `end`, with entropy coding sync: where it begins inside a row, or
+-- the rule that a segment breaks which ends before the place `end` of the scan, with entropy coding sync: where it begins inside a row, or
 -- its slice, which begins at `start`, does, it ends in that row; and its entry points fit
 abbrev pub segment_breaks : ℕ → ℕ → ℕ → SegmentPlan → Option Fault
 segment_breaks width start end s =
@@ -53,7 +49,7 @@ or_later (Some f) later = Some f
 abbrev pub broken_from : ℕ → ℕ → ℕ → List SegmentPlan → Option Fault
 broken_from width size before [] = None
 broken_from width size before (s ∷ later) =
-    or_later (segment_breaks width (slice_start before s) (end_of size later) s) (broken_from width size (slice_start before s) later)
+    or_later (segment_breaks width (slice_start before s) (begins_at size later) s) (broken_from width size (slice_start before s) later)
 
 -- the first rule that the slice segments of a picture break together
 unfoldable pub broken_in : PicturePlan → Option Fault

@@ -29,12 +29,12 @@ use Rattle.spec_reference_pictures.proofs.DerivedSets.{long_marked, set_is, shor
 use Rattle.spec_reference_pictures.proofs.Entries.{list_0_current, list_1_current}
 use Rattle.spec_slice_headers.specs.Context.{agrees, header_of}
 use Rattle.spec_slice_headers.specs.NamedSets.{Named, named_by}
-use Rattle.spec_pictures.specs.Closing.{address_of, broken_from, broken_in}
+use Rattle.spec_pictures.specs.Closing.{broken_from, broken_in}
 use Rattle.spec_pictures.specs.Steps.{context_of, lists_of, segment_of, with_segment}
-use Rattle.spec_plan_ranges.specs.Plans.{AreInOrder, AreReferences, BeginSlicesFrom, HaveRows, IsPlan}
+use Rattle.spec_plan_ranges.specs.Plans.{AreReferences, BeginSlicesFrom, HaveRows, IsPlan}
 use Rattle.spec_header_ranges.specs.Ranges.{HaveSlices, IsNamed}
 use Rattle.spec_plan_ranges.proofs.Places.{IsLater}
-use Rattle.spec_plan_ranges.proofs.Segments.{IsCut, cut_is, order_more, rows_are, slices_one_more}
+use Rattle.spec_plan_ranges.proofs.Segments.{BeginInOrder, IsCut, IsInside, cut_is, order_more, rise_inside, rows_are, slices_one_more}
 
 -- ---- references
 
@@ -87,8 +87,8 @@ pub record IsOpen (sets : Sets) (p : PicturePlan) : Type 0 where
   pub pps : IsPps p.pps
   pub there : AreThere p.rps
   pub headers : All (λ (s : SegmentPlan). IsSliceHeader s.header) p.segments
-  pub order : AreInOrder p.segments
-  pub inside : All (λ (s : SegmentPlan). address_of s < size_in_ctbs p.sps) p.segments
+  pub order : BeginInOrder p.segments
+  pub inside : All (IsInside (size_in_ctbs p.sps)) p.segments
   pub slices : BeginSlicesFrom 0 p.segments
   pub references : All (λ (s : SegmentPlan). IfSome s.lists (AreReferences (length p.rps.marks))) p.segments
   pub cut : All IsCut p.segments
@@ -97,7 +97,7 @@ pub slices_in_range : (sets : Sets) (p : PicturePlan) → IsOpen sets p → Have
 slices_in_range sets p is =
     All-weaker (λ (s : SegmentPlan). IsSliceHeader s.header) (λ (s : SegmentPlan). IsSliceFields s.header.slice) (λ s h. h.slice) p.segments is.headers
 
-some_segment : (segments : List SegmentPlan) → AreInOrder segments → 1 ≤ length segments
+some_segment : (segments : List SegmentPlan) → BeginInOrder segments → 1 ≤ length segments
 some_segment [] h = absurd h
 some_segment (s ∷ later) h = omega arith
 
@@ -109,13 +109,12 @@ rows_if false p cut e on = absurd cc
 -- a picture that is closed
 pub plan_is : (sets : Sets) (p : PicturePlan) → IsOpen sets p → broken_in p ≡ None → IsPlan p
 unfolding broken_in
-plan_is sets p is e = record {
+plan_is sets p is e = let rises = rise_inside (size_in_ctbs p.sps) p.segments is.order is.inside in record {
   sps = is.sps;
   pps = is.pps;
   headers = is.headers;
   some = some_segment p.segments is.order;
-  order = is.order;
-  inside = is.inside;
+  order = record { first = rises.0; rise = rises.1 };
   slices = is.slices;
   references = is.references;
   rows = rows_if p.pps.entropy_coding_sync_enabled_flag p is.cut e;
@@ -141,7 +140,7 @@ some_size sps is =
 -- one segment of the picture
 record IsOneOf (p : PicturePlan) (s : SegmentPlan) : Type 0 where
   header : IsSliceHeader s.header
-  inside : address_of s < size_in_ctbs p.sps
+  inside : IsInside (size_in_ctbs p.sps) s
   references : IfSome s.lists (AreReferences (length p.rps.marks))
   cut : IsCut s
 
@@ -171,8 +170,8 @@ opened_is sets former u h p is named there header at only =
       pps = is.pps;
       there = there;
       headers = subst (All (λ (s : SegmentPlan). IsSliceHeader s.header)) (sym only) (All-cons (λ (s : SegmentPlan). IsSliceHeader s.header) s [] one.header (All-nil _));
-      order = subst AreInOrder (sym only) (at, tt);
-      inside = subst (All (λ (s : SegmentPlan). address_of s < size_in_ctbs p.sps)) (sym only) (All-cons (λ (s : SegmentPlan). address_of s < size_in_ctbs p.sps) s [] one.inside (All-nil _));
+      order = subst BeginInOrder (sym only) (at, tt);
+      inside = subst (All (IsInside (size_in_ctbs p.sps))) (sym only) (All-cons (IsInside (size_in_ctbs p.sps)) s [] one.inside (All-nil _));
       slices = subst (BeginSlicesFrom 0) (sym only) (first_slice h.segment.dependent_slice_segment_flag, tt);
       references = subst (All (λ (s : SegmentPlan). IfSome s.lists (AreReferences (length p.rps.marks)))) (sym only) (All-cons (λ (s : SegmentPlan). IfSome s.lists (AreReferences (length p.rps.marks))) s [] one.references (All-nil _));
       cut = subst (All IsCut) (sym only) (All-cons IsCut s [] one.cut (All-nil IsCut));
@@ -180,7 +179,7 @@ opened_is sets former u h p is named there header at only =
 
 -- ---- a picture that goes on
 
-first_stays : (segments : List SegmentPlan) (s : SegmentPlan) → AreInOrder segments → slice_get segments 0 ≡ slice_get (segments ++ s ∷ []) 0
+first_stays : (segments : List SegmentPlan) (s : SegmentPlan) → BeginInOrder segments → slice_get segments 0 ≡ slice_get (segments ++ s ∷ []) 0
 first_stays [] s h = absurd h
 first_stays (first ∷ later) s h = refl
 
@@ -195,7 +194,7 @@ same_sets sets p (Some h) some id n names same named =
     let id_is : h.segment.slice_pic_parameter_set_id ≡ id = eqb-true _ _ same in
     some_same n (record { pps = p.pps; sps = p.sps }) (sym named ∙ ap (named_by sets) (sym id_is) ∙ names)
 
-some_first : (segments : List SegmentPlan) → AreInOrder segments → header_of (slice_get segments 0) ≡ None → ⊥
+some_first : (segments : List SegmentPlan) → BeginInOrder segments → header_of (slice_get segments 0) ≡ None → ⊥
 some_first [] h e = h
 some_first (s ∷ later) h e = absurd cc
 
@@ -214,7 +213,7 @@ continued_is sets former u h p is header later =
       there = is.there;
       headers = All-push (λ (s : SegmentPlan). IsSliceHeader s.header) p.segments s is.headers one.header;
       order = order_more p.segments s is.order later.above;
-      inside = All-push (λ (s : SegmentPlan). address_of s < size_in_ctbs p.sps) p.segments s is.inside one.inside;
+      inside = All-push (IsInside (size_in_ctbs p.sps)) p.segments s is.inside one.inside;
       slices = slices_one_more p.segments s h refl is.slices;
       references = All-push (λ (s : SegmentPlan). IfSome s.lists (AreReferences (length p.rps.marks))) p.segments s is.references one.references;
       cut = All-push IsCut p.segments s is.cut one.cut;

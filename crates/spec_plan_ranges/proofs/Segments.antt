@@ -9,11 +9,34 @@ use Rattle.slice_types.specs.declared.slice.SliceHeaderFields.{SliceHeaderFields
 use Rattle.plan_types.specs.declared.segment_plan.SegmentPlan.{SegmentPlan}
 use Rattle.spec_slice_headers.specs.Context.{address_of as address_in, header_of, last_address, last_segment, slice_of}
 use Rattle.spec_slice_headers.specs.Substreams.{data_size, ranges_from, substream_ranges, unit_place}
-use Rattle.spec_pictures.specs.Closing.{address_of, broken_at, broken_from, end_of, entry_points_fit, or_later, passes_row, slice_start}
+use Rattle.plan_types.specs.Segments.{Rise, address_of, begins_at}
+use Rattle.spec_pictures.specs.Closing.{broken_at, broken_from, entry_points_fit, or_later, passes_row, row_before, slice_start}
 use Rattle.spec_pictures.specs.Steps.{slice_number}
-use Rattle.spec_plan_ranges.specs.Plans.{AreInOrder, BeginSlicesFrom, HaveRows, RiseBehind}
+use Rattle.spec_plan_ranges.specs.Plans.{BeginSlicesFrom, HaveRows}
 
 -- ---- addresses
+
+-- segments begin behind a coding tree unit, each behind the one before
+abbrev RiseBehind : ℕ → List SegmentPlan → Type 0
+RiseBehind before [] = Unit {0}
+RiseBehind before (s ∷ later) = (before < address_of s) × RiseBehind (address_of s) later
+
+-- the first segment begins at the first coding tree unit, and each later one behind the one before
+abbrev pub BeginInOrder : List SegmentPlan → Type 0
+BeginInOrder [] = ⊥
+BeginInOrder (s ∷ later) = (address_of s ≡ 0) × RiseBehind (address_of s) later
+
+-- a segment begins inside a picture of so many coding tree units
+abbrev pub IsInside : ℕ → SegmentPlan → Type 0
+IsInside size s = address_of s < size
+
+rises : (size : ℕ) (s : SegmentPlan) (later : List SegmentPlan) → RiseBehind (address_of s) later → All (IsInside size) (s ∷ later) → Rise size (s ∷ later)
+rises size s [] h inside = (All-head (IsInside size) s [] inside, tt)
+rises size s (next ∷ later) h inside = (h.0, rises size next later h.1 (All-tail (IsInside size) s (next ∷ later) inside))
+
+pub rise_inside : (size : ℕ) (segments : List SegmentPlan) → BeginInOrder segments → All (IsInside size) segments → (begins_at size segments ≡ 0) × Rise size segments
+rise_inside size [] h inside = absurd h
+rise_inside size (s ∷ later) h inside = (h.0, rises size s later h.1 inside)
 
 -- the address of the last of these, or the one before them
 abbrev last_or : ℕ → List SegmentPlan → ℕ
@@ -34,7 +57,7 @@ last_is : (first : SegmentPlan) (later : List SegmentPlan) → last_address (fir
 last_is first [] = refl
 last_is first (s ∷ later) = ap (λ (o : Option SegmentPlan). address_in (header_of o)) (last_more first s later) ∙ last_is s later
 
-pub order_more : (segments : List SegmentPlan) (s : SegmentPlan) → AreInOrder segments → ((before : ℕ) → last_address segments ≡ Some before → before < address_of s) → AreInOrder (segments ++ s ∷ [])
+pub order_more : (segments : List SegmentPlan) (s : SegmentPlan) → BeginInOrder segments → ((before : ℕ) → last_address segments ≡ Some before → before < address_of s) → BeginInOrder (segments ++ s ∷ [])
 order_more [] s h above = absurd h
 order_more (first ∷ later) s h above = (h.0, rise_more (address_of first) later s h.1 (above (last_or (address_of first) later) (last_is first later)))
 
@@ -87,10 +110,10 @@ segment_keeps false false s later e = absurd cc
 pub rows_are : (width size before : ℕ) (segments : List SegmentPlan) → All IsCut segments → broken_from width size before segments ≡ None → HaveRows width size segments
 rows_are width size before [] cut e = tt
 rows_are width size before (s ∷ later) cut e =
-    let end = end_of size later in
+    let end = begins_at size later in
     let start = slice_start before s in
     let keeps = segment_keeps (passes_row width (address_of s) end || passes_row width start end) (entry_points_fit width end s) s (broken_from width size start later) e in
-    let parts = and_parts (length s.header.entry_points == (end - 1) / width - address_of s / width) (nat_lt (sum s.header.entry_points) (data_size s.payload s.removed s.header.data_place)) keeps.0 in
-    let count : length s.header.entry_points ≡ (end - 1) / width - address_of s / width = eqb-true _ _ parts.0 in
+    let parts = and_parts (length s.header.entry_points == row_before width end - address_of s / width) (nat_lt (sum s.header.entry_points) (data_size s.payload s.removed s.header.data_place)) keeps.0 in
+    let count : length s.header.entry_points ≡ row_before width end - address_of s / width = eqb-true _ _ parts.0 in
     let own : IsCut s = All-head IsCut s later cut in
     (omega (arith, own, count), rows_are width size start later (All-tail IsCut s later cut) keeps.1)

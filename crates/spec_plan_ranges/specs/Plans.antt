@@ -7,17 +7,8 @@ use Rattle.header_types.specs.SequenceParameterSets.{IsSps, size_in_ctbs, width_
 use Rattle.slice_types.specs.SliceHeaders.{IsSliceHeader}
 use Rattle.plan_types.specs.declared.picture_plan.PicturePlan.{PicturePlan}
 use Rattle.plan_types.specs.declared.segment_plan.SegmentPlan.{SegmentPlan}
-use Rattle.spec_pictures.specs.Closing.{address_of, end_of}
-
--- segments begin behind a coding tree unit, each behind the one before
-abbrev pub RiseBehind : ℕ → List SegmentPlan → Type 0
-RiseBehind before [] = Unit {0}
-RiseBehind before (s ∷ later) = (before < address_of s) × RiseBehind (address_of s) later
-
--- the first segment begins at the first coding tree unit, and each later one behind the one before
-abbrev pub AreInOrder : List SegmentPlan → Type 0
-AreInOrder [] = ⊥
-AreInOrder (s ∷ later) = (address_of s ≡ 0) × RiseBehind (address_of s) later
+use Rattle.plan_types.specs.Segments.{AreInOrder, address_of, begins_at}
+use Rattle.spec_pictures.specs.Closing.{row_before}
 
 -- the slice of each segment begins at it or at one before it, where the segments are numbered from here
 abbrev pub BeginSlicesFrom : ℕ → List SegmentPlan → Type 0
@@ -33,7 +24,7 @@ pub record AreReferences (size : ℕ) (l : Lists) : Type 0 where
 abbrev pub HaveRows : ℕ → ℕ → List SegmentPlan → Type 0
 HaveRows width size [] = Unit {0}
 HaveRows width size (s ∷ later) =
-    (length s.substreams ≡ (end_of size later - 1) / width - address_of s / width + 1) × HaveRows width size later
+    (length s.substreams ≡ row_before width (begins_at size later) - address_of s / width + 1) × HaveRows width size later
 
 -- a picture that is planned. The marks are of the pictures in the buffer before it
 pub record IsPlan (p : PicturePlan) : Type 0 where
@@ -41,8 +32,7 @@ pub record IsPlan (p : PicturePlan) : Type 0 where
   pub pps : IsPps p.pps
   pub headers : All (λ (s : SegmentPlan). IsSliceHeader s.header) p.segments
   pub some : 1 ≤ length p.segments
-  pub order : AreInOrder p.segments
-  pub inside : All (λ (s : SegmentPlan). address_of s < size_in_ctbs p.sps) p.segments
+  pub order : AreInOrder p
   pub slices : BeginSlicesFrom 0 p.segments
   pub references : All (λ (s : SegmentPlan). IfSome s.lists (AreReferences (length p.rps.marks))) p.segments
   pub rows : p.pps.entropy_coding_sync_enabled_flag ≡ true → HaveRows (width_in_ctbs p.sps) (size_in_ctbs p.sps) p.segments

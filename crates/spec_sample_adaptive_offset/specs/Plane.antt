@@ -1,5 +1,6 @@
 -- The samples of a component after sample adaptive offset, by place (8.7.3).
 use Rattle.std.specs.Prelude.{◌≡◌, ◌≤◌, ◌<◌, ℕ, ◌+◌, ◌-◌, ◌/◌, ◌^◌, ◌==◌, nat_lt, nat_le, Bool, ◌&&◌, ◌||◌, ℤ, List, if◌then◌else◌}
+use Rattle.block_geometry.specs.CodingTreeBlocks.{is_decoded_before}
 use Rattle.ctu_records.specs.declared.offset.ComponentOffset.{ComponentOffset}
 use Rattle.ctu_records.specs.declared.offset.ComponentOffset.TheVariants.{Off, Band, Edge}
 use Rattle.spec_sample_adaptive_offset.specs.declared.unit.OffsetUnit.{OffsetUnit}
@@ -27,7 +28,7 @@ unit_at plane x y = plane.unit (x / plane.ctb_size) (y / plane.ctb_size)
 -- whether samples of two coding tree units may be compared: those of one slice, and those of two slices where the flag
 -- of the slice that is later in decoding order is 1
 abbrev pub meets : OffsetUnit → OffsetUnit → Bool
-meets unit other = unit.slice == other.slice || (if nat_lt unit.slice other.slice then other.across else unit.across)
+meets unit other = unit.slice == other.slice || (if is_decoded_before unit.slice other.slice then other.across else unit.across)
 
 -- whether a neighbour of a sample is inside the picture and may be compared with it. Its column and line are counted
 -- from those before the sample's, so that 0, 1, 2 are before, at and behind it.

@@ -9,7 +9,8 @@ use Rattle.header_types.specs.SequenceParameterSets.{IsSps}
 use Rattle.plan_types.specs.declared.picture_plan.PicturePlan.{PicturePlan}
 use Rattle.plan_types.specs.declared.segment_plan.SegmentPlan.{SegmentPlan}
 use Rattle.spec_picture_data.specs.Picture.{TreeUnit, PictureBroken, Progress, Halt, picture_read}
-use Rattle.spec_picture_data.specs.Shapes.{address_of, picture_shape, slice_start}
+use Rattle.plan_types.specs.Segments.{address_of}
+use Rattle.spec_picture_data.specs.Shapes.{picture_shape, slice_start}
 use Rattle.spec_slice_data.specs.Segment.{PictureShape}
 use Rattle.spec_reconstruction.specs.Inter.{InterUnit}
 use Rattle.spec_reconstruction.specs.Known.{Known}

@@ -6,7 +6,8 @@ use Rattle.spec_cabac.specs.Bins.{State, read, bin_at}
 use Rattle.spec_formats.proofs.Agreement.{found, only}
 use Rattle.spec_slice_data.specs.declared.syntax.CtuSyntax.{CtuSyntax}
 use Rattle.spec_slice_data.specs.declared.syntax.End.{End}
-use Rattle.spec_slice_data.specs.Segment.{PictureShape, SegmentShape, Between, Broken, Bins, ctb_scan, before_unit, behind_unit, unit_at, read_unit, then_unit, unit_step, and_then, units_from, IsUnitSpelled, UnitsSpelled, IsSegmentSpelled}
+use Rattle.block_geometry.specs.CodingTreeBlocks.{ctb_scan}
+use Rattle.spec_slice_data.specs.Segment.{PictureShape, SegmentShape, Between, Broken, Bins, before_unit, behind_unit, unit_at, read_unit, then_unit, unit_step, and_then, units_from, IsUnitSpelled, UnitsSpelled, IsSegmentSpelled}
 
 -- what a step that wasn't refused gave, and what came of it
 record Stepped (r : Result Between Breach) (next : Between → Result Between Broken) (after : Between) : Type 0 where

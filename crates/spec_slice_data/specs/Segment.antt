@@ -3,6 +3,7 @@ use Rattle.std.specs.Prelude.{◌≡◌, ℕ, zero, suc, ◌+◌, ◌-◌, ◌*�
 use Rattle.hv_base.specs.declared.breach.Breach.{Breach}
 use Rattle.hv_base.specs.declared.breach.Breach.TheVariants as breach
 use Rattle.hv_base.specs.declared.fault.FaultKind.TheVariants as rule
+use Rattle.block_geometry.specs.CodingTreeBlocks.{ctb_place, ctb_scan, is_from}
 use Rattle.ctu_records.specs.declared.side.Side.{Side}
 use Rattle.ctu_records.specs.declared.records.Quantization.{Quantization}
 use Rattle.ctu_records.specs.Tree.{Ctu, coding_at, luma_mode_at, qp_at, side}
@@ -25,8 +26,8 @@ pub record PictureShape : Type 0 where
   pub size : ℕ
   pub sync : Bool
 
--- a slice segment: the address of its first unit, how many it has, the address of its slice's first unit, Qp'Y of its
--- slice, the contexts that its slice begins with, whether it is a dependent one, and the bytes of its substreams
+-- a slice segment: the place of its first unit in the scan, how many it has, the address of its slice's first unit, Qp'Y
+-- of its slice, the contexts that its slice begins with, whether it is a dependent one, and the bytes of its substreams
 pub record SegmentShape : Type 0 where
   pub first : ℕ
   pub count : ℕ
@@ -35,10 +36,6 @@ pub record SegmentShape : Type 0 where
   pub contexts : List ℕ
   pub dependent : Bool
   pub substreams : List (List ℕ)
-
--- the address of the unit that is decoded in this place (6.5.1)
-abbrev pub ctb_scan : ℕ → ℕ
-ctb_scan place = place
 
 -- between two units: the engine and the contexts; the contexts behind the second unit of a row; Qp'Y of the last coding
 -- unit; and what was read, unit after unit
@@ -57,11 +54,11 @@ no_group = record { last = 0; predicted = 0; qp = 0; coded = false }
 
 -- a unit that was read, by its address
 abbrev pub unit_of : PictureShape → Between → ℕ → Ctu
-unit_of picture between address = slice_index_or between.units address (nothing_read picture.size no_group)
+unit_of picture between address = slice_index_or between.units (ctb_place address) (nothing_read picture.size no_group)
 
 -- whether the units at and before an address down to this one are of one slice
 abbrev pub same_slice : SegmentShape → ℕ → Bool
-same_slice segment address = nat_le segment.slice address
+same_slice segment address = is_from segment.slice address
 
 abbrev pub column_of : PictureShape → ℕ → ℕ
 column_of picture address = address % picture.width
@@ -134,8 +131,12 @@ syntax_at common picture segment address =
 abbrev pub begins_row : PictureShape → ℕ → Bool
 begins_row picture address = picture.sync && column_of picture address == 0
 
+-- whether a unit is the first of its segment
+abbrev pub is_first : SegmentShape → ℕ → Bool
+is_first segment address = ctb_place address == segment.first
+
 abbrev pub begins_substream : PictureShape → SegmentShape → ℕ → Bool
-begins_substream picture segment address = address == segment.first || begins_row picture address
+begins_substream picture segment address = is_first segment address || begins_row picture address
 
 -- whether the second unit of the row above is in the same slice (9.3.1)
 abbrev pub has_stored : PictureShape → SegmentShape → ℕ → Bool
@@ -148,12 +149,12 @@ unfoldable pub contexts_before : PictureShape → SegmentShape → ℕ → Betwe
 contexts_before picture segment address between =
     if begins_row picture address
     then (if has_stored picture segment address then between.stored else segment.contexts)
-    else (if address == segment.first && not segment.dependent then segment.contexts else between.contexts)
+    else (if is_first segment address && not segment.dependent then segment.contexts else between.contexts)
 
 -- Qp'Y before a unit: the slice's at its first unit and, with entropy coding sync, at the start of a row (8.6.1)
 unfoldable pub qp_before : PictureShape → SegmentShape → ℕ → Between → ℕ
 qp_before picture segment address between =
-    if begins_row picture address || (address == segment.first && not segment.dependent) then segment.qp else between.last
+    if begins_row picture address || (is_first segment address && not segment.dependent) then segment.qp else between.last
 
 abbrev pub restarted : List ℕ → ℕ → Between → Option Engine → Result Between Breach
 restarted contexts last between None = Err data_end
@@ -161,7 +162,7 @@ restarted contexts last between (Some engine) = Ok (record { engine = engine; co
 
 -- the number in its segment of the substream that a unit begins
 abbrev pub substream_of : PictureShape → SegmentShape → ℕ → ℕ
-substream_of picture segment address = row_of picture address - row_of picture segment.first
+substream_of picture segment address = row_of picture address - row_of picture (ctb_scan segment.first)
 
 -- before a unit: the engine starts at each substream
 unfoldable pub before_unit : PictureShape → SegmentShape → ℕ → Between → Result Between Breach
@@ -199,13 +200,17 @@ behind_unit picture address between (Ok r) =
     else Err (breach.Fault rule.TrailingBits)
 
 abbrev pub is_last : SegmentShape → ℕ → Bool
-is_last segment address = address + 1 == segment.first + segment.count
+is_last segment address = ctb_place address + 1 == segment.first + segment.count
+
+-- the address of the unit that is decoded next
+abbrev pub next_unit : ℕ → ℕ
+next_unit address = ctb_scan (ctb_place address + 1)
 
 -- the elements of the unit at an address and what follows it
 abbrev pub unit_at : CtuSyntax → PictureShape → SegmentShape → ℕ → Between → Tree (Ctu × End)
 unit_at common picture segment address between =
     unit_and_end (syntax_at common picture segment address) (unit_of picture between (address - 1)).sao (unit_of picture between (address - picture.width)).sao
-    (is_last segment address) (begins_row picture (address + 1)) (unit_begins picture segment address between)
+    (is_last segment address) (begins_row picture (next_unit address)) (unit_begins picture segment address between)
 
 -- a unit, from what stands before it in its substream
 unfoldable pub read_unit : CtuSyntax → PictureShape → SegmentShape → ℕ → Between → Result Between Breach

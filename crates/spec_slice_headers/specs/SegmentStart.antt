@@ -4,6 +4,7 @@ use Rattle.std.specs.Bool.{beq}
 use Rattle.std.specs.Option.{option_eq}
 use Rattle.hv_base.specs.declared.fault.FaultKind.TheVariants as rule
 use Rattle.slice_types.specs.declared.slice.SegmentFields.{SegmentFields}
+use Rattle.block_geometry.specs.CodingTreeBlocks.{is_decoded_before}
 use Rattle.header_types.specs.SequenceParameterSets.{size_in_ctbs}
 use Rattle.spec_formats.specs.Format.{wanted, when◌then◌else◌}
 use Rattle.spec_formats.specs.Fields.{Header, ◌>>=◌, give, ranged, u, flag, ue_to, optional}
@@ -28,10 +29,10 @@ front c = do
     slice_segment_address = 0;
   })
 
--- whether an address is above the one before, where there is one
+-- whether an address is behind the one before in decoding order, where there is one
 abbrev pub is_above : Option ℕ → ℕ → Bool
 is_above None address = true
-is_above (Some before) address = nat_lt before address
+is_above (Some before) address = is_decoded_before before address
 
 -- dependent_slice_segment_flag and slice_segment_address of a segment that isn't the picture's first
 unfoldable pub later_place : Context → Named → SegmentFields → Header SegmentFields

@@ -17,7 +17,8 @@ use Rattle.plan_types.specs.declared.picture_plan.PicturePlan.{PicturePlan}
 use Rattle.spec_reconstruction.specs.declared.format.UnitFormat.{UnitFormat}
 use Rattle.spec_reconstruction.specs.Sound.{IsFormat, AreSound}
 use Rattle.spec_slice_data.specs.declared.syntax.PcmSyntax.{PcmSyntax}
-use Rattle.spec_slice_data.specs.Segment.{Between, ctb_scan, unit_step}
+use Rattle.block_geometry.specs.CodingTreeBlocks.{ctb_scan}
+use Rattle.spec_slice_data.specs.Segment.{Between, unit_step}
 use Rattle.spec_slice_headers.specs.SliceFields.{slice_qp}
 use Rattle.spec_picture_data.specs.Shapes.{picture_shape, qp_bd_offset, pcm_syntax, inter_syntax, slice_syntax, segment_syntax, first_qp, end_of, segment_shape}
 use Rattle.spec_picture_data.specs.Picture.{before_picture, TreeUnit, Progress, Halt, SegmentAt, segment_at, with_unit, then_units, units_read, and_segments, segment_read, segments_read, picture_read, unit_given}

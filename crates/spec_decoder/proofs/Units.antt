@@ -1,0 +1,13 @@
+-- Each picture that is decoded has all its coding tree units.
+use Rattle.std.proofs.Common.{◌≡◌, [], Ok}
+use Rattle.plan_types.specs.declared.picture_plan.PicturePlan.{PicturePlan}
+use Rattle.spec_plan_ranges.specs.Plans.{IsPlan}
+use Rattle.spec_picture_data.specs.Picture.{Progress, picture_read}
+use Rattle.spec_picture_data.proofs.Sharing.{units_of_picture, units_of_segments}
+use Rattle.spec_decoder.specs.Decoder.{HasAllUnits}
+
+pub has_all_units : (p : PicturePlan) → IsPlan p → HasAllUnits p
+has_all_units p is read e = record {
+  units = units_of_picture p [] read is.order e;
+  segments = units_of_segments p [] read is.order e;
+}
