@@ -5,7 +5,7 @@ use Rattle.spec_slice_headers.specs.NamedSets.{Named}
 use Rattle.spec_slice_headers.specs.References.{ShortTerm}
 use Rattle.spec_slice_headers.specs.SliceFields.{Filters}
 use Rattle.slice_fields.specs.declared.context.SegmentContext.{SegmentContext}
-use Rattle.slice_fields.specs.declared.named_sets.SliceSets.{SliceSets}
+use Rattle.slice_fields.specs.declared.context.SliceSets.{SliceSets}
 use Rattle.slice_fields.specs.declared.reference_rules.FrontFields.{FrontFields}
 use Rattle.slice_fields.specs.declared.references.ShortTermFields.{ShortTermFields}
 use Rattle.slice_fields.specs.declared.slice.FilterFields.{FilterFields}

@@ -1,4 +1,4 @@
-//! What a slice segment header is read under.
+//! What a slice segment header is read under, and what segments before it tell.
 
 ghost use Rattle.std.specs.Prelude.{◌≡◌, ◌≤◌, IfOk, IfSome, slice_get};
 ghost use Rattle.std.specs.Option.{option_copied};
@@ -9,7 +9,7 @@ ghost use Rattle.spec_slice_headers.specs.Context.{ceil_log2, first_of, flag_or,
 ghost use Rattle.slice_fields.specs.Views.{context_of};
 
 use header_fields::FieldReader;
-use header_types::{Former, Sets};
+use header_types::{Former, Pps, Sets, Sps};
 use hv_base::{BLA_W_LP, CRA_NUT, IDR_N_LP, Refusal};
 use plan_types::SegmentPlan;
 use slice_types::SliceHeaderFields;
@@ -30,6 +30,16 @@ pub struct SegmentContext<'a> {
     pub former: &'a Former,
     /// The slice segments of its picture before it.
     pub segments: &'a [SegmentPlan],
+}
+
+/// The parameter sets that a slice names: by slice_pic_parameter_set_id a picture parameter set, and by its
+/// pps_seq_parameter_set_id a sequence parameter set (7.4.7.1, 7.4.3.3).
+#[derive(Clone, Copy)]
+pub struct SliceSets<'a> {
+    /// The picture parameter set.
+    pub pps: &'a Pps,
+    /// The sequence parameter set.
+    pub sps: &'a Sps,
 }
 
 /// The first header of the picture, for a segment that isn't the first, with which its own has to agree (7.4.7.1); none
@@ -83,7 +93,7 @@ pub fn last_address(segments: &[SegmentPlan]) -> Option<u32>
     }
 }
 
-/// NoRaslOutputFlag of a unit of this type, where `first_in_sequence` says whether a sequence begins.
+/// NoRaslOutputFlag of a unit of this type, where `first_in_sequence` says whether a sequence begins (8.1).
 pub fn no_rasl_output_flag(nal_type: u8, first_in_sequence: bool) -> bool
     ensures { result ≡ no_rasl_output_flag nal_type first_in_sequence }
 {

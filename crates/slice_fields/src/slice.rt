@@ -8,9 +8,8 @@ ghost use Rattle.spec_slice_headers.specs.SliceFields.{kind_of, type_of, slice_t
 ghost use Rattle.slice_fields.specs.Ranges.{AreReferences};
 ghost use Rattle.slice_fields.specs.Views.{context_of, filters_of, joined, named_of};
 
-use crate::context::{SegmentContext, flag_or, no_rasl_output_flag};
+use crate::context::{SegmentContext, SliceSets, flag_or, no_rasl_output_flag};
 use crate::inter_fields::read_inter_fields;
-use crate::named_sets::SliceSets;
 use crate::reference_rules::{FrontFields, judge_references};
 use crate::references::read_references;
 use header_fields::FieldReader;

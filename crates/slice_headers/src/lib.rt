@@ -2,6 +2,7 @@
 #![tactic(auto)]
 
 mod entry_points;
+mod named_sets;
 mod segment_header;
 mod segment_start;
 

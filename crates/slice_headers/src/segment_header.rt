@@ -12,6 +12,7 @@ ghost use Rattle.spec_slice_headers.specs.NamedSets.{named_by};
 ghost use Rattle.spec_slice_headers.specs.SegmentHeader.{taken_fields, fields_of_slice, entry_point, entry_points, coded_extension, alignment, slice_segment_header, slice_header_of, unit_context};
 ghost use Rattle.slice_fields.specs.Views.{context_of, named_of};
 
+use crate::named_sets::read_named_sets;
 use crate::segment_start::{read_front, read_place};
 use header_fields::FieldReader;
 use header_types::{FieldList, Former, Sets, Sps};
@@ -19,8 +20,7 @@ use hv_base::{FaultKind, Nal, Refusal, SLICE_HEADER_RULES};
 use hv_bits::BitReader;
 use plan_types::SegmentPlan;
 use slice_fields::{
-    SegmentContext, SliceSets, first_of, kind_of, read_named_sets, read_slice_fields, slice_header,
-    ue_or,
+    SegmentContext, SliceSets, first_of, kind_of, read_slice_fields, slice_header, ue_or,
 };
 use slice_types::{SegmentFields, SliceFields, SliceHeader, SliceHeaderFields};
 use std::alloc::Global;

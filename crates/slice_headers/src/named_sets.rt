@@ -7,20 +7,10 @@ ghost use Rattle.spec_header_ranges.specs.Ranges.{IsNamed};
 ghost use Rattle.spec_slice_headers.specs.NamedSets.{named_by, named_sets, is_active};
 ghost use Rattle.slice_fields.specs.Views.{context_of, named_of};
 
-use crate::context::{SegmentContext, first_of, no_rasl_output_flag};
-use header_types::{Pps, Sets, Shared, Sps};
+use header_types::{Sets, Shared, Sps};
 use hv_base::{FaultKind, Refusal};
 use picture_parameter_sets::fits;
-
-/// The parameter sets that a slice names: by slice_pic_parameter_set_id a picture parameter set, and by its
-/// pps_seq_parameter_set_id a sequence parameter set (7.4.7.1, 7.4.3.3).
-#[derive(Clone, Copy)]
-pub struct SliceSets<'a> {
-    /// The picture parameter set.
-    pub pps: &'a Pps,
-    /// The sequence parameter set.
-    pub sps: &'a Sps,
-}
+use slice_fields::{SegmentContext, SliceSets, first_of, no_rasl_output_flag};
 
 /// The accepted picture parameter set of an id, and the accepted sequence parameter set that it names.
 fn named_by(sets: &Sets, id: u32) -> Option<SliceSets<'_>>
