@@ -1,16 +1,10 @@
-//! Reads slice segment headers (H.265 7.3.6, 7.4.7).
+//! Reads slice segment headers (H.265 7.3.6.1, 7.4.7.1), and cuts slice segment data into substreams.
 #![tactic(auto)]
 
-mod context;
 mod entry_points;
-mod inter_fields;
 mod named_sets;
-mod reference_rules;
-mod references;
 mod segment_header;
 mod segment_start;
-mod slice_fields;
-mod weights;
 
 pub use entry_points::{data_size, substreams};
 pub use segment_header::read_slice_header;

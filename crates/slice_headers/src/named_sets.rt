@@ -5,21 +5,12 @@ ghost use Rattle.std.specs.Option.{option_map};
 ghost use Rattle.spec_formats.specs.Fields.{Parses};
 ghost use Rattle.spec_header_ranges.specs.Ranges.{IsNamed};
 ghost use Rattle.spec_slice_headers.specs.NamedSets.{named_by, named_sets, is_active};
-ghost use Rattle.slice_headers.specs.Views.{context_of, named_of};
+ghost use Rattle.slice_fields.specs.Views.{context_of, named_of};
 
-use crate::context::{SegmentContext, first_of, no_rasl_output_flag};
-use header_types::{Pps, Sets, Shared, Sps};
+use header_types::{Sets, Shared, Sps};
 use hv_base::{FaultKind, Refusal};
 use picture_parameter_sets::fits;
-
-/// The parameter sets that a slice names.
-#[derive(Clone, Copy)]
-pub struct SliceSets<'a> {
-    /// The picture parameter set that its slice_pic_parameter_set_id names.
-    pub pps: &'a Pps,
-    /// The sequence parameter set that this one names.
-    pub sps: &'a Sps,
-}
+use slice_fields::{SegmentContext, SliceSets, first_of, no_rasl_output_flag};
 
 /// The accepted picture parameter set of an id, and the accepted sequence parameter set that it names.
 fn named_by(sets: &Sets, id: u32) -> Option<SliceSets<'_>>
@@ -43,8 +34,9 @@ fn is_active(active: &Option<Shared<Sps>>, sps: &Sps) -> bool
     }
 }
 
-/// The parameter sets behind slice_pic_parameter_set_id: they were accepted, they fit each other, the sequence
-/// parameter set changes only where a sequence begins, and each segment of a picture names the same ones.
+/// The parameter sets behind slice_pic_parameter_set_id (7.4.7.1): they were accepted, else `MissingSet`; they fit each
+/// other, else `SetMismatch`; the sequence parameter set changes only where a sequence begins, else `SpsChanged`; and
+/// each segment of a picture names the same ones, else `SliceMismatch`. The first rule that is broken is told.
 #[tactic(auto, unfolding(spec_slice_headers::specs::NamedSets::named_sets))]
 pub fn read_named_sets<'a>(
     context: SegmentContext<'a>,

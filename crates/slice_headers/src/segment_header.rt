@@ -10,17 +10,18 @@ ghost use Rattle.spec_header_ranges.specs.Ranges.{IsNamed};
 ghost use Rattle.spec_slice_headers.specs.Context.{first_of, slice_header};
 ghost use Rattle.spec_slice_headers.specs.NamedSets.{named_by};
 ghost use Rattle.spec_slice_headers.specs.SegmentHeader.{taken_fields, fields_of_slice, entry_point, entry_points, coded_extension, alignment, slice_segment_header, slice_header_of, unit_context};
-ghost use Rattle.slice_headers.specs.Views.{context_of, named_of};
+ghost use Rattle.slice_fields.specs.Views.{context_of, named_of};
 
-use crate::context::{SegmentContext, first_of, slice_header, ue_or};
-use crate::named_sets::{SliceSets, read_named_sets};
+use crate::named_sets::read_named_sets;
 use crate::segment_start::{read_front, read_place};
-use crate::slice_fields::{kind_of, read_slice_fields};
 use header_fields::FieldReader;
 use header_types::{FieldList, Former, Sets, Sps};
 use hv_base::{FaultKind, Nal, Refusal, SLICE_HEADER_RULES};
 use hv_bits::BitReader;
 use plan_types::SegmentPlan;
+use slice_fields::{
+    SegmentContext, SliceSets, first_of, kind_of, read_slice_fields, slice_header, ue_or,
+};
 use slice_types::{SegmentFields, SliceFields, SliceHeader, SliceHeaderFields};
 use std::alloc::Global;
 
@@ -68,7 +69,7 @@ fn read_entry_point<'a>(reader: &mut FieldReader<'a>, len: u32) -> Result<u64, R
 }
 
 /// So many entry points, of so many bits each.
-#[tactic(auto, using(crate::proofs::Items::goes_on, crate::proofs::Items::ends))]
+#[tactic(auto, using(slice_fields::proofs::Items::goes_on, slice_fields::proofs::Items::ends))]
 fn read_each_entry_point<'a>(
     alloc: Global,
     reader: &mut FieldReader<'a>,
@@ -101,7 +102,7 @@ fn read_entry_points<'a, 'b>(
 }
 
 /// So many bytes of the header's extension.
-#[tactic(auto, using(crate::proofs::Items::goes_on, crate::proofs::Items::ends))]
+#[tactic(auto, using(slice_fields::proofs::Items::goes_on, slice_fields::proofs::Items::ends))]
 fn read_extension_bytes<'a>(
     alloc: Global,
     reader: &mut FieldReader<'a>,

@@ -1,5 +1,5 @@
 use Rattle.spec_slice_headers.specs.SegmentHeader.{entry_point}
-use Rattle.slice_headers.proofs.Items.{stops}
+use Rattle.slice_fields.proofs.Items.{stops}
 use Rattle.slice_headers.proofs.segment_header.read_each_entry_point.Goals as goal
 
 pub returns-in_err-read_entry_point : goal.returns-in_err-read_entry_point

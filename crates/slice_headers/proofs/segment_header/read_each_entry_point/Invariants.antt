@@ -1,5 +1,5 @@
 use Rattle.spec_slice_headers.specs.SegmentHeader.{entry_point}
-use Rattle.slice_headers.proofs.Items.{AreRead}
+use Rattle.slice_fields.proofs.Items.{AreRead}
 use Rattle.slice_headers.proofs.segment_header.read_each_entry_point.Given as goal
 
 abbrev pub invariant-loop : goal.invariant-loop

@@ -1,5 +1,5 @@
 use Rattle.spec_formats.specs.Fields.{u}
-use Rattle.slice_headers.proofs.Items.{stops}
+use Rattle.slice_fields.proofs.Items.{stops}
 use Rattle.slice_headers.proofs.segment_header.read_extension_bytes.Goals as goal
 
 pub returns-in_err-u : goal.returns-in_err-u

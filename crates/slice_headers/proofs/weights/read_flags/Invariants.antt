@@ -1,6 +1,0 @@
-use Rattle.spec_formats.specs.Fields.{flag}
-use Rattle.slice_headers.proofs.Items.{AreRead}
-use Rattle.slice_headers.proofs.weights.read_flags.Given as goal
-
-abbrev pub invariant-loop : goal.invariant-loop
-invariant-loop l = AreRead flag l.count l.counter l.fn.reader l.flags l.reader
