@@ -110,6 +110,51 @@ fn is_refused(dpb: &mut Dpb) -> bool {
     }
 }
 
+/// Whether pictures 1 to 14 are placed behind picture 0 in a buffer of sixteen, and none goes out.
+fn are_kept_waiting(dpb: &mut Dpb) -> bool {
+    for i in 1..15 {
+        if !puts_out(dpb, picture(i as i32, false, 15, 15), &REFERENCES[..i], &[]) {
+            return false;
+        }
+    }
+    true
+}
+
+const REFERENCES: [Mark; 15] = [Mark::Short; 15];
+
+/// Whether sixteen pictures fill a buffer, and the first of them goes out behind the last.
+fn are_sixteen_placed(dpb: &mut Dpb) -> bool {
+    puts_out(dpb, picture(0, true, 15, 15), &[], &[])
+        && are_kept_waiting(dpb)
+        && puts_out(dpb, picture(15, false, 15, 15), &REFERENCES, &[0])
+        && dpb.pictures().len() == 16
+}
+
+/// Whether the others go out at the end.
+fn sixteen_wait(alloc: Global) -> bool {
+    match Dpb::new(alloc) {
+        Ok(dpb) => {
+            let mut dpb = dpb;
+            let places = [1, 2, 3, 4, 5, 6, 7, 8, 9, 10, 11, 12, 13, 14, 15];
+            are_sixteen_placed(&mut dpb) && is_flushed(&mut dpb, &places)
+        }
+        Err(_) => false,
+    }
+}
+
+/// Whether an IDR picture discards the others.
+fn sixteen_are_discarded(alloc: Global) -> bool {
+    match Dpb::new(alloc) {
+        Ok(dpb) => {
+            let mut dpb = dpb;
+            are_sixteen_placed(&mut dpb)
+                && puts_out(&mut dpb, picture(0, true, 15, 15), &[], &[])
+                && is_flushed(&mut dpb, &[0])
+        }
+        Err(_) => false,
+    }
+}
+
 #[test]
 fn pictures_go_out_by_their_order_counts(rt: HostRuntime) {
     assert!(rt; waiting_go_out_at_the_end(rt.alloc()));
@@ -123,4 +168,14 @@ fn an_idr_picture_discards_what_waits(rt: HostRuntime) {
 #[test]
 fn references_fill_the_buffer(rt: HostRuntime) {
     assert!(rt; is_full(rt.alloc()));
+}
+
+#[test]
+fn a_full_buffer_waits(rt: HostRuntime) {
+    assert!(rt; sixteen_wait(rt.alloc()));
+}
+
+#[test]
+fn a_full_buffer_is_discarded(rt: HostRuntime) {
+    assert!(rt; sixteen_are_discarded(rt.alloc()));
 }

@@ -1,4 +1,4 @@
-//! A flight of one small picture.
+//! A flight of one small picture, and one of three tall ones.
 
 use board_core::{Core, Event, needs};
 use flight_plan::{FlightPicture, FlightPlan};
@@ -72,4 +72,44 @@ fn is_run(alloc: Global) -> bool {
 #[test]
 fn the_core_runs_itself_to_the_end(rt: HostRuntime) {
     assert!(rt; is_run(rt.alloc()));
+}
+
+/// A flight of three pictures of 512 rows of one coding tree unit.
+fn tall_plan_of(alloc: Global) -> Result<FlightPlan, AllocError> {
+    let mut plan = FlightPlan::new(alloc);
+    for _ in 0..3 {
+        let picture = FlightPicture::new(1, 512, false, Vec::new(alloc), Vec::new(alloc));
+        if plan.takes(&picture) {
+            plan.push(picture)?;
+        }
+    }
+    Ok(plan)
+}
+
+/// How often a line may be drawn before anything else is done.
+fn draws(core: &mut Core) -> u32 {
+    let mut count = 0u32;
+    for _ in 0..10_000 {
+        if core.ready(Event::Draw) {
+            core.step(Event::Draw);
+            count = count.saturating_add(1);
+        }
+    }
+    count
+}
+
+/// Whether each of the lines of tall pictures is drawn: four for each of 3 * 512 rows.
+fn are_all_drawn(alloc: Global) -> bool {
+    let Ok(plan) = tall_plan_of(alloc) else {
+        return false;
+    };
+    match Core::new(alloc, &plan) {
+        Ok(mut core) => plan.units() == 6_144 && draws(&mut core) == 6_144,
+        Err(AllocError) => false,
+    }
+}
+
+#[test]
+fn the_lines_of_tall_pictures_are_drawn(rt: HostRuntime) {
+    assert!(rt; are_all_drawn(rt.alloc()));
 }
