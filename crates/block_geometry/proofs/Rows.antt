@@ -17,7 +17,8 @@ div-le-div k m n some h =
     le-div (m / k) n k some (omega arith)
 
 -- a line that isn't above another lies in no earlier row
-pub row_of_line-le : (height ctb_log2 : ℕ) (a b : ℤ) → a ≤ℤ b → row_of_line height ctb_log2 a ≤ row_of_line height ctb_log2 b
+pub row_of_line-le : (height ctb_log2 : ℕ) (a b : ℤ) → a ≤ℤ b
+    → row_of_line height ctb_log2 a ≤ row_of_line height ctb_log2 b
 row_of_line-le height ctb_log2 a b h =
     let zero : from_zero a ≤ from_zero b = from_zero-le a b h in
     let line : line_in height a ≤ line_in height b = omega arith in
@@ -27,7 +28,8 @@ row_of_line-le height ctb_log2 a b h =
 -- each tap of a line of the block reads a line from the first to the last
 pub taps_between : (height ctb_log2 y0 h y tap : ℕ) (my : ℤ) → y0 ≤ y → y < y0 + h → tap < 8
     → (row_of_line height ctb_log2 (pos y0 +ℤ int_shr my 2 -ℤ pos 3) ≤ row_of_line height ctb_log2 (tap_line y my tap))
-    × (row_of_line height ctb_log2 (tap_line y my tap) ≤ row_of_line height ctb_log2 (pos (y0 + h) +ℤ int_shr my 2 +ℤ pos 3))
+    × (row_of_line height ctb_log2 (tap_line y my tap)
+    ≤ row_of_line height ctb_log2 (pos (y0 + h) +ℤ int_shr my 2 +ℤ pos 3))
 taps_between height ctb_log2 y0 h y tap my low high few =
     let first : (pos y0 +ℤ int_shr my 2 -ℤ pos 3) ≤ℤ tap_line y my tap = omega (arith, ints) in
     let last : tap_line y my tap ≤ℤ (pos (y0 + h) +ℤ int_shr my 2 +ℤ pos 3) = omega (arith, ints) in

@@ -1,7 +1,8 @@
 //! Which places may be used by another (6.4.1). A place is a block of 4x4 luma samples.
 
 ghost use Rattle.std.specs.Prelude.{◌≡◌, ◌+◌, ◌*◌, ◌^◌, ◌<◌, ◌≤◌};
-ghost use Rattle.block_geometry.specs.Availability.{available, block_start, is_usable, min_transform_order, spread, unit_of_place, z_scan_order};
+ghost use Rattle.block_geometry.specs.Availability.{available, block_start, is_usable, min_transform_order, spread};
+ghost use Rattle.block_geometry.specs.Availability.{unit_of_place, z_scan_order};
 
 /// The picture of a slice, in places.
 #[derive(Clone, Copy, Debug, PartialEq, Eq)]

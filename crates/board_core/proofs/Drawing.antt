@@ -1,5 +1,6 @@
 -- The lines of a picture, one by one, in the order in which they are drawn.
-use Rattle.std.proofs.Common.{ℕ, ◌≡◌, ◌+◌, ◌-◌, ◌*◌, ◌<◌, ◌≤◌, ◌⊎◌, inl, inr, min, nat_lt, if◌then◌else◌, arith, refl, ap}
+use Rattle.std.proofs.Common.{ℕ, ◌≡◌, ◌+◌, ◌-◌, ◌*◌, ◌<◌, ◌≤◌, ◌⊎◌, inl, inr, min, nat_lt, if◌then◌else◌, arith, refl}
+use Rattle.std.proofs.Common.{ap}
 use Rattle.std.proofs.lemmas.Bool.{cases_Bool, ltb-true, ltb-false}
 use Rattle.hv_base.specs.declared.line.Phase.{Phase}
 use Rattle.hv_base.specs.declared.line.Phase.TheVariants.{B, V, H, S}
@@ -33,19 +34,24 @@ own_cases o d =
     ]
 
 -- no fewer lines are drawn before a later turn, or a later phase of one turn
-phase_later : (rows t u d e o : ℕ) → ((t < u) ⊎ ((t ≡ u) × (d ≤ e))) → phase_lines_before rows t d o ≤ phase_lines_before rows u e o
+phase_later : (rows t u d e o : ℕ) → ((t < u) ⊎ ((t ≡ u) × (d ≤ e)))
+    → phase_lines_before rows t d o ≤ phase_lines_before rows u e o
 unfolding own
 phase_later rows t u d e o later =
     elim (own_cases o d) [
       | inl (h, is) ↦
           elim (own_cases o e) [
-            | inl (_, at) ↦ elim later [ inl lt ↦ omega (arith, is, at, lt) | inr (same, _) ↦ omega (arith, is, at, same) ]
-            | inr (k, at) ↦ elim later [ inl lt ↦ omega (arith, is, at, lt) | inr (_, le) ↦ absurd (omega (arith, h, k, le)) ]
+            | inl (_, at) ↦
+                elim later [ inl lt ↦ omega (arith, is, at, lt) | inr (same, _) ↦ omega (arith, is, at, same) ]
+            | inr (k, at) ↦
+                elim later [ inl lt ↦ omega (arith, is, at, lt) | inr (_, le) ↦ absurd (omega (arith, h, k, le)) ]
           ]
       | inr (_, is) ↦
           elim (own_cases o e) [
-            | inl (_, at) ↦ elim later [ inl lt ↦ omega (arith, is, at, lt) | inr (same, _) ↦ omega (arith, is, at, same) ]
-            | inr (_, at) ↦ elim later [ inl lt ↦ omega (arith, is, at, lt) | inr (same, _) ↦ omega (arith, is, at, same) ]
+            | inl (_, at) ↦
+                elim later [ inl lt ↦ omega (arith, is, at, lt) | inr (same, _) ↦ omega (arith, is, at, same) ]
+            | inr (_, at) ↦
+                elim later [ inl lt ↦ omega (arith, is, at, lt) | inr (same, _) ↦ omega (arith, is, at, same) ]
           ]
     ]
 
@@ -106,10 +112,12 @@ four_of a b c d r p q s t = omega arith
 pub all_before : (rows : ℕ) → lines_before rows (rows + 3) 0 ≡ 4 * rows
 unfolding lines_before
 all_before rows =
-    four_of _ _ _ _ rows (all_of rows 0 (omega arith)) (all_of rows 1 (omega arith)) (all_of rows 2 (omega arith)) (all_of rows 3 (omega arith))
+    four_of _ _ _ _ rows (all_of rows 0 (omega arith)) (all_of rows 1 (omega arith)) (all_of rows 2 (omega arith))
+    (all_of rows 3 (omega arith))
 
 -- a line is drawn before all are
-pub lines_few : (rows row : ℕ) (phase : Phase) → row < rows → lines_before rows (row + delay phase) (delay phase) < 4 * rows
+pub lines_few : (rows row : ℕ) (phase : Phase) → row < rows
+    → lines_before rows (row + delay phase) (delay phase) < 4 * rows
 lines_few rows row phase h =
     let more = one_more rows row phase h in
     let turn : row + delay phase < rows + 3 = omega (arith, h, few_delays phase) in
@@ -135,7 +143,8 @@ next_turn rows turn =
     ap (λ t. min rows (t - 0) + min rows (t - 1) + min rows (t - 2) + min rows (t - 3)) e
 
 -- where one more line of a phase is drawn it has its line in the turn
-own_found : (rows turn d : ℕ) → min rows (turn + 0 - d) < min rows (turn + 1 - d) → (d ≤ turn) × (turn - d < rows) × (min rows (turn + 1 - d) ≡ min rows (turn + 0 - d) + 1)
+own_found : (rows turn d : ℕ) → min rows (turn + 0 - d) < min rows (turn + 1 - d)
+    → (d ≤ turn) × (turn - d < rows) × (min rows (turn + 1 - d) ≡ min rows (turn + 0 - d) + 1)
 own_found rows turn d h = (omega arith, omega arith, omega arith)
 
 grew_first : (a b c d e w : ℕ) → a + b + c + d ≤ w → w < e + b + c + d → a < e
@@ -163,17 +172,22 @@ stands_fourth : (a b c d e w : ℕ) → a + b + c + d ≤ w → w < a + b + c + 
 stands_fourth a b c d e w p q r = omega arith
 
 -- where one more line is drawn a phase has its line in the turn
-pub line_found : (rows turn within : ℕ) (phase : Phase) → lines_before rows turn (delay phase) ≤ within → within < lines_before rows turn (delay phase + 1)
+pub line_found : (rows turn within : ℕ) (phase : Phase) → lines_before rows turn (delay phase) ≤ within
+    → within < lines_before rows turn (delay phase + 1)
     → (delay phase ≤ turn) × (turn - delay phase < rows) × (lines_before rows turn (delay phase) ≡ within)
 unfolding lines_before
 line_found rows turn within B low high =
-    let own = own_found rows turn 0 (grew_first _ _ _ _ _ within low high) in (own.0, own.1, stands_first _ _ _ _ _ within low high own.2)
+    let own = own_found rows turn 0 (grew_first _ _ _ _ _ within low high) in
+    (own.0, own.1, stands_first _ _ _ _ _ within low high own.2)
 line_found rows turn within V low high =
-    let own = own_found rows turn 1 (grew_second _ _ _ _ _ within low high) in (own.0, own.1, stands_second _ _ _ _ _ within low high own.2)
+    let own = own_found rows turn 1 (grew_second _ _ _ _ _ within low high) in
+    (own.0, own.1, stands_second _ _ _ _ _ within low high own.2)
 line_found rows turn within H low high =
-    let own = own_found rows turn 2 (grew_third _ _ _ _ _ within low high) in (own.0, own.1, stands_third _ _ _ _ _ within low high own.2)
+    let own = own_found rows turn 2 (grew_third _ _ _ _ _ within low high) in
+    (own.0, own.1, stands_third _ _ _ _ _ within low high own.2)
 line_found rows turn within S low high =
-    let own = own_found rows turn 3 (grew_fourth _ _ _ _ _ within low high) in (own.0, own.1, stands_fourth _ _ _ _ _ within low high own.2)
+    let own = own_found rows turn 3 (grew_fourth _ _ _ _ _ within low high) in
+    (own.0, own.1, stands_fourth _ _ _ _ _ within low high own.2)
 
 -- phases differ in their delay
 pub same_phase : (p q : Phase) → delay p ≡ delay q → p ≡ q

@@ -1,5 +1,6 @@
 -- The items of lists that stand one after the other.
-use Rattle.std.proofs.Common.{ℕ, zero, suc, ◌≡◌, ◌+◌, ◌-◌, ◌<◌, ◌≤◌, List, [], ◌∷◌, ◌++◌, Option, Some, None, length, get_or, drop, drop-cons, min, arith, refl, ap, ◌∙◌}
+use Rattle.std.proofs.Common.{ℕ, zero, suc, ◌≡◌, ◌+◌, ◌-◌, ◌<◌, ◌≤◌, List, [], ◌∷◌, ◌++◌, Option, Some, None, length}
+use Rattle.std.proofs.Common.{get_or, drop, drop-cons, min, arith, refl, ap, ◌∙◌}
 use Rattle.std.specs.Prelude.{slice_get}
 use Rattle.std.specs.Option.{option_to_list}
 use Rattle.std.specs.List.{flat_map}
@@ -23,7 +24,8 @@ right_item [] ys i j h = ap (slice_get ys) (omega arith)
 right_item (x ∷ xs) ys zero j h = absurd (omega arith)
 right_item (x ∷ xs) ys (suc i) j h = right_item xs ys i j (omega arith)
 
-pub first_item : {X : Type 0} (o : Option X) (ys : List X) (i : ℕ) → i < length (option_to_list o) → slice_get (option_to_list o ++ ys) i ≡ o
+pub first_item : {X : Type 0} (o : Option X) (ys : List X) (i : ℕ) → i < length (option_to_list o)
+    → slice_get (option_to_list o ++ ys) i ≡ o
 first_item None ys i h = absurd (omega arith)
 first_item (Some x) ys zero h = refl
 first_item (Some x) ys (suc i) h = absurd (omega arith)
@@ -32,20 +34,26 @@ pub later_item : {X : Type 0} (o : Option X) (ys : List X) (i : ℕ) → length 
     → slice_get (option_to_list o ++ ys) i ≡ slice_get ys (i - length (option_to_list o))
 later_item o ys i h = right_item (option_to_list o) ys i (i - length (option_to_list o)) (omega arith)
 
-pub rest_item : {X : Type 0} (xs ys : List X) (i : ℕ) → length xs ≤ i → slice_get (xs ++ ys) i ≡ slice_get ys (i - length xs)
+pub rest_item : {X : Type 0} (xs ys : List X) (i : ℕ) → length xs ≤ i
+    → slice_get (xs ++ ys) i ≡ slice_get ys (i - length xs)
 rest_item xs ys i h = right_item xs ys i (i - length xs) (omega arith)
 
 -- the rows of a phase, counted
-pub row_count : (plan : FlightRows) (phase : Phase) (k first last : ℕ) → length (rows_needs plan phase k first last) ≡ min (last + 1) (picture_at plan k).rows - first
+pub row_count : (plan : FlightRows) (phase : Phase) (k first last : ℕ)
+    → length (rows_needs plan phase k first last) ≡ min (last + 1) (picture_at plan k).rows - first
 row_count plan phase k first last =
-    length-map-range_with_len (λ row. (line_of phase k row, full_count plan (line_of phase k row))) first (min (last + 1) (picture_at plan k).rows - first)
+    length-map-range_with_len (λ row. (line_of phase k row, full_count plan (line_of phase k row))) first
+    (min (last + 1) (picture_at plan k).rows - first)
 
-pub row_inside : (plan : FlightRows) (phase : Phase) (k first last i : ℕ) → i < length (rows_needs plan phase k first last)
+pub row_inside : (plan : FlightRows) (phase : Phase) (k first last i : ℕ)
+    → i < length (rows_needs plan phase k first last)
     → first + i < min (last + 1) (picture_at plan k).rows
 row_inside plan phase k first last i h = let e = row_count plan phase k first last in omega (arith, e, h)
 
-pub row_item : (plan : FlightRows) (phase : Phase) (k first last i : ℕ) → i < length (rows_needs plan phase k first last)
-    → slice_get (rows_needs plan phase k first last) i ≡ Some (line_of phase k (first + i), full_count plan (line_of phase k (first + i)))
+pub row_item : (plan : FlightRows) (phase : Phase) (k first last i : ℕ)
+    → i < length (rows_needs plan phase k first last)
+    → slice_get (rows_needs plan phase k first last) i
+    ≡ Some (line_of phase k (first + i), full_count plan (line_of phase k (first + i)))
 row_item plan phase k first last i h =
     let n : ℕ = min (last + 1) (picture_at plan k).rows - first in
     let f : ℕ → Line × ℕ = λ r. (line_of phase k r, full_count plan (line_of phase k r)) in
@@ -58,4 +66,5 @@ pub ranges_from : (f : RowRange → List (Line × ℕ)) (ranges : List RowRange)
     → flat_map f (drop k ranges) ≡ f (get_or ranges k d) ++ flat_map f (drop (k + 1) ranges)
 ranges_from f ranges k d h =
     let next : suc k ≡ k + 1 = omega arith in
-    ap (flat_map f) (drop-cons ranges k d h ∙ ap (λ n. get_or ranges k d ∷ drop n ranges) next) ∙ flat_map-cons f (get_or ranges k d) (drop (k + 1) ranges)
+    ap (flat_map f) (drop-cons ranges k d h ∙ ap (λ n. get_or ranges k d ∷ drop n ranges) next)
+    ∙ flat_map-cons f (get_or ranges k d) (drop (k + 1) ranges)

@@ -1,5 +1,6 @@
 -- Tickets and unit numbers stand in the order of lines.
-use Rattle.std.proofs.Common.{ℕ, ◌≡◌, ◌+◌, ◌-◌, ◌*◌, ◌<◌, ◌≤◌, ◌⊎◌, List, inl, inr, length, take, get_or, sum_by, arith, sym, ap, ◌∙◌, subst}
+use Rattle.std.proofs.Common.{ℕ, ◌≡◌, ◌+◌, ◌-◌, ◌*◌, ◌<◌, ◌≤◌, ◌⊎◌, List, inl, inr, length, take, get_or, sum_by, arith}
+use Rattle.std.proofs.Common.{sym, ap, ◌∙◌, subst}
 use Rattle.std.proofs.lemmas.Bool.{cases_lt, cases_order}
 use Rattle.std.proofs.lemmas.List.{get_or_past, get_or-take, length-take, take-take}
 use Rattle.std.proofs.lemmas.List.Sums.{sum_by_more_le}
@@ -7,7 +8,8 @@ use Rattle.flight_plan.specs.Flight.{FlightRows, PictureRows, picture_at, pictur
 use Rattle.hv_base.specs.declared.line.Line.{Line}
 use Rattle.hv_base.specs.declared.line.Phase.{Phase}
 use Rattle.hv_base.specs.declared.line.Phase.TheVariants.{B, V, H, S}
-use Rattle.board_core.specs.Places.{delay, full_count, IsDrawnBefore, IsLine, lines_before, lines_of, phase_start, phase_units, picture_lines, ticket_of, turn_of, unit_of}
+use Rattle.board_core.specs.Places.{delay, full_count, IsDrawnBefore, IsLine, lines_before, lines_of, phase_start}
+use Rattle.board_core.specs.Places.{phase_units, picture_lines, ticket_of, turn_of, unit_of}
 use Rattle.board_core.proofs.Drawing.{lines_few, lines_less, same_phase}
 
 -- what stands before an earlier picture, with what that picture has, stands before a later one
@@ -35,7 +37,8 @@ less_of_parts : (a b c d : ℕ) → a ≡ b → c < d → a + c < b + d
 less_of_parts a b c d e p = omega arith
 
 -- a line of an earlier picture has an earlier ticket
-pub earlier_ticket : (plan : FlightRows) (l m : Line) → IsLine plan l → l.picture < m.picture → ticket_of plan l < ticket_of plan m
+pub earlier_ticket : (plan : FlightRows) (l m : Line) → IsLine plan l → l.picture < m.picture
+    → ticket_of plan l < ticket_of plan m
 earlier_ticket plan l m line h =
     let inside = line_inside plan l line in
     let more = before_more picture_lines plan.pictures l.picture m.picture inside h in
@@ -49,12 +52,18 @@ pub earlier_turn : (plan : FlightRows) (l m : Line) → IsLine plan l → l.pict
 earlier_turn plan l m line same h =
     let rows : ℕ = (picture_at plan l.picture).rows in
     let less = lines_less rows l.row m.row l.phase m.phase line h in
-    let less_there : lines_before rows (turn_of l) (delay l.phase) < lines_before (picture_at plan m.picture).rows (turn_of m) (delay m.phase) =
-    subst (λ k. lines_before rows (turn_of l) (delay l.phase) < lines_before (picture_at plan k).rows (turn_of m) (delay m.phase)) same less in
-    let sums : sum_by picture_lines (take l.picture plan.pictures) ≡ sum_by picture_lines (take m.picture plan.pictures) = ap (λ p. sum_by picture_lines (take p plan.pictures)) same in
+    let less_there : lines_before rows (turn_of l) (delay l.phase)
+    < lines_before (picture_at plan m.picture).rows (turn_of m) (delay m.phase) =
+    subst (λ k. lines_before rows (turn_of l) (delay l.phase)
+    < lines_before (picture_at plan k).rows (turn_of m) (delay m.phase))
+    same less in
+    let sums : sum_by picture_lines (take l.picture plan.pictures)
+    ≡ sum_by picture_lines (take m.picture plan.pictures) =
+    ap (λ p. sum_by picture_lines (take p plan.pictures)) same in
     less_of_parts _ _ _ _ sums less_there
 
-pub drawn_before : (plan : FlightRows) (l m : Line) → IsLine plan l → IsDrawnBefore l m → ticket_of plan l < ticket_of plan m
+pub drawn_before : (plan : FlightRows) (l m : Line) → IsLine plan l → IsDrawnBefore l m
+    → ticket_of plan l < ticket_of plan m
 drawn_before plan l m line before =
     elim before [
       | inl h ↦ earlier_ticket plan l m line h
@@ -87,7 +96,8 @@ drawn_order l m =
           elim (cases_order (turn_of l) (turn_of m)) [
             | inl turn ↦
                 elim (cases_order (delay l.phase) (delay m.phase)) [
-                  | inl phase ↦ inl (same_fields l m (same_phase l.phase m.phase phase) picture (omega (arith, turn, phase)))
+                  | inl phase ↦
+                      inl (same_fields l m (same_phase l.phase m.phase phase) picture (omega (arith, turn, phase)))
                   | inr (inl h) ↦ inr (inl (inr (picture, inr (turn, h))))
                   | inr (inr h) ↦ inr (inr (inr (sym picture, inr (sym turn, h))))
                 ]
@@ -105,7 +115,8 @@ not_back : (a b : ℕ) → a < b → b < a → ⊥
 not_back a b p q = omega arith
 
 -- lines of one ticket are one line
-pub same_ticket : (plan : FlightRows) (l m : Line) → IsLine plan l → IsLine plan m → ticket_of plan l ≡ ticket_of plan m → l ≡ m
+pub same_ticket : (plan : FlightRows) (l m : Line) → IsLine plan l → IsLine plan m → ticket_of plan l ≡ ticket_of plan m
+    → l ≡ m
 same_ticket plan l m line_l line_m e =
     elim (drawn_order l m) [
       | inl same ↦ same
@@ -114,7 +125,8 @@ same_ticket plan l m line_l line_m e =
     ]
 
 -- a line with an earlier ticket is drawn before
-pub ticket_order : (plan : FlightRows) (l m : Line) → IsLine plan l → IsLine plan m → ticket_of plan l < ticket_of plan m → IsDrawnBefore l m
+pub ticket_order : (plan : FlightRows) (l m : Line) → IsLine plan l → IsLine plan m
+    → ticket_of plan l < ticket_of plan m → IsDrawnBefore l m
 ticket_order plan l m line_l line_m less =
     elim (drawn_order l m) [
       | inl same ↦ absurd (not_both _ _ (ap (ticket_of plan) same) less)
@@ -136,7 +148,8 @@ pub within_rows : (w rows r x : ℕ) → r < rows → x < w → r * w + x < rows
 within_rows w rows r x h inside = let low = lower_row w r rows x 0 h inside in omega arith
 
 -- the units of a phase end before those of a later one begin
-phase_end : (p q : Phase) (picture : PictureRows) → delay p < delay q → phase_start p picture + picture.rows * phase_units p picture ≤ phase_start q picture
+phase_end : (p q : Phase) (picture : PictureRows) → delay p < delay q
+    → phase_start p picture + picture.rows * phase_units p picture ≤ phase_start q picture
 phase_end B B picture h = absurd (omega arith)
 phase_end B V picture h = omega arith
 phase_end B H picture h = omega arith
@@ -155,7 +168,8 @@ phase_end S H picture h = absurd (omega arith)
 phase_end S S picture h = absurd (omega arith)
 
 -- they are units of the picture
-phase_inside : (p : Phase) (picture : PictureRows) → phase_start p picture + picture.rows * phase_units p picture ≤ picture_units picture
+phase_inside : (p : Phase) (picture : PictureRows)
+    → phase_start p picture + picture.rows * phase_units p picture ≤ picture_units picture
 phase_inside B picture = omega arith
 phase_inside V picture = omega arith
 phase_inside H picture = omega arith
@@ -166,13 +180,15 @@ less_in_phase s n k r p q = omega arith
 
 -- a line's unit is one of its picture
 pub within_picture : (plan : FlightRows) (l : Line) (x : ℕ) → IsLine plan l → x < full_count plan l
-    → phase_start l.phase (picture_at plan l.picture) + (l.row * full_count plan l + x) < picture_units (picture_at plan l.picture)
+    → phase_start l.phase (picture_at plan l.picture) + (l.row * full_count plan l + x)
+    < picture_units (picture_at plan l.picture)
 within_picture plan l x line inside =
     let low = within_rows (full_count plan l) (picture_at plan l.picture).rows l.row x line inside in
     less_in_phase _ _ _ _ low (phase_inside l.phase (picture_at plan l.picture))
 
 -- the units of a line of an earlier picture have lower numbers
-pub earlier_unit : (plan : FlightRows) (l m : Line) (x y : ℕ) → IsLine plan l → x < full_count plan l → l.picture < m.picture
+pub earlier_unit : (plan : FlightRows) (l m : Line) (x y : ℕ) → IsLine plan l → x < full_count plan l
+    → l.picture < m.picture
     → unit_of plan l x < unit_of plan m y
 earlier_unit plan l m x y line inside h =
     let more = before_more picture_units plan.pictures l.picture m.picture (line_inside plan l line) h in
@@ -182,34 +198,45 @@ less_with : (a b c e f : ℕ) → c < e → e ≤ f → a ≡ b → a + c < b + 
 less_with a b c e f p q r = omega arith
 
 -- so have those of an earlier phase of one picture
-pub earlier_phase : (plan : FlightRows) (l m : Line) (x y : ℕ) → IsLine plan l → x < full_count plan l → l.picture ≡ m.picture
+pub earlier_phase : (plan : FlightRows) (l m : Line) (x y : ℕ) → IsLine plan l → x < full_count plan l
+    → l.picture ≡ m.picture
     → delay l.phase < delay m.phase → unit_of plan l x < unit_of plan m y
 earlier_phase plan l m x y line inside same h =
     let picture : PictureRows = picture_at plan l.picture in
-    let first : units_of (take l.picture plan.pictures) ≡ units_of (take m.picture plan.pictures) = ap (λ p. units_of (take p plan.pictures)) same in
+    let first : units_of (take l.picture plan.pictures) ≡ units_of (take m.picture plan.pictures) =
+    ap (λ p. units_of (take p plan.pictures)) same in
     let low = within_rows (full_count plan l) picture.rows l.row x line inside in
     let less : phase_start l.phase picture + (l.row * full_count plan l + x) < phase_start m.phase picture =
     less_in_phase _ _ _ _ low (phase_end l.phase m.phase picture h) in
-    let there : phase_start m.phase picture ≡ phase_start m.phase (picture_at plan m.picture) = ap (λ p. phase_start m.phase (picture_at plan p)) same in
+    let there : phase_start m.phase picture ≡ phase_start m.phase (picture_at plan m.picture) =
+    ap (λ p. phase_start m.phase (picture_at plan p)) same in
     less_with _ _ _ _ _ less (omega (arith, there)) first
 
 less_rows : (a b s t c d : ℕ) → a ≡ b → s ≡ t → c < d → a + (s + c) < b + (t + d)
 less_rows a b s t c d p q r = omega arith
 
 -- and those of an earlier row of one phase
-pub earlier_row : (plan : FlightRows) (l m : Line) (x y : ℕ) → x < full_count plan l → l.picture ≡ m.picture → l.phase ≡ m.phase → l.row < m.row
+pub earlier_row : (plan : FlightRows) (l m : Line) (x y : ℕ) → x < full_count plan l → l.picture ≡ m.picture
+    → l.phase ≡ m.phase → l.row < m.row
     → unit_of plan l x < unit_of plan m y
 earlier_row plan l m x y inside same phase h =
-    let first : units_of (take l.picture plan.pictures) ≡ units_of (take m.picture plan.pictures) = ap (λ p. units_of (take p plan.pictures)) same in
+    let first : units_of (take l.picture plan.pictures) ≡ units_of (take m.picture plan.pictures) =
+    ap (λ p. units_of (take p plan.pictures)) same in
     let start : phase_start l.phase (picture_at plan l.picture) ≡ phase_start m.phase (picture_at plan m.picture) =
-    ap (λ p. phase_start p (picture_at plan l.picture)) phase ∙ ap (λ p. phase_start m.phase (picture_at plan p)) same in
-    let size : full_count plan l ≡ full_count plan m = ap (λ p. phase_units p (picture_at plan l.picture)) phase ∙ ap (λ p. phase_units m.phase (picture_at plan p)) same in
-    let low : l.row * full_count plan l + x < m.row * full_count plan l + y = lower_row (full_count plan l) l.row m.row x y h inside in
-    let less : l.row * full_count plan l + x < m.row * full_count plan m + y = subst (λ w. l.row * full_count plan l + x < m.row * w + y) size low in
+    ap (λ p. phase_start p (picture_at plan l.picture)) phase
+    ∙ ap (λ p. phase_start m.phase (picture_at plan p)) same in
+    let size : full_count plan l ≡ full_count plan m =
+    ap (λ p. phase_units p (picture_at plan l.picture)) phase
+    ∙ ap (λ p. phase_units m.phase (picture_at plan p)) same in
+    let low : l.row * full_count plan l + x < m.row * full_count plan l + y =
+    lower_row (full_count plan l) l.row m.row x y h inside in
+    let less : l.row * full_count plan l + x < m.row * full_count plan m + y =
+    subst (λ w. l.row * full_count plan l + x < m.row * w + y) size low in
     less_rows _ _ _ _ _ _ first start less
 
 -- a line's units are units of the flight
-pub unit_inside : (plan : FlightRows) (l : Line) (x : ℕ) → IsLine plan l → x < full_count plan l → unit_of plan l x < units_of plan.pictures
+pub unit_inside : (plan : FlightRows) (l : Line) (x : ℕ) → IsLine plan l → x < full_count plan l
+    → unit_of plan l x < units_of plan.pictures
 unit_inside plan l x line inside =
     let more = sum_by_more_le picture_units plan.pictures l.picture no_picture (line_inside plan l line) in
     less_in_all _ _ _ _ (within_picture plan l x line inside) more

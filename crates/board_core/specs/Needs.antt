@@ -1,5 +1,6 @@
 -- What must be counted before an event: lines, each with the count that it must have reached.
-use Rattle.std.specs.Prelude.{ℕ, ◌≡◌, ◌+◌, ◌-◌, ◌*◌, List, [], ◌∷◌, ◌++◌, Option, Some, None, min, map, nat_eq, slice_index_or, if◌then◌else◌}
+use Rattle.std.specs.Prelude.{ℕ, ◌≡◌, ◌+◌, ◌-◌, ◌*◌, List, [], ◌∷◌, ◌++◌, Option, Some, None, min, map, nat_eq}
+use Rattle.std.specs.Prelude.{slice_index_or, if◌then◌else◌}
 use Rattle.std.specs.List.{flat_map, range_with_len}
 use Rattle.flight_plan.specs.Flight.{FlightRows, IsTreeUnit, picture_at}
 use Rattle.hv_base.specs.declared.line.Line.{Line}
@@ -19,7 +20,10 @@ above_needs plan l x =
     if nat_eq l.row 0
     then []
     else
-    ((line_of B l.picture (l.row - 1), if (picture_at plan l.picture).sync then min (x + 2) (width_of plan l) else width_of plan l)
+    ((
+      line_of B l.picture (l.row - 1),
+      if (picture_at plan l.picture).sync then min (x + 2) (width_of plan l) else width_of plan l,
+    )
     ∷ [])
 
 -- a phase of the rows from first to last, as many as the picture has, with all units of each
@@ -53,7 +57,8 @@ range_needs plan range = reference_needs plan range.picture range.first range.la
 
 -- the rows that the coding tree unit x of a line reaches
 abbrev pub reach_needs : FlightRows → Line → ℕ → List (Line × ℕ)
-reach_needs plan l x = flat_map (range_needs plan) (slice_index_or (picture_at plan l.picture).reach (unit_in_picture plan l x) [])
+reach_needs plan l x =
+    flat_map (range_needs plan) (slice_index_or (picture_at plan l.picture).reach (unit_in_picture plan l x) [])
 
 -- what parsing the coding tree unit x of a line needs
 abbrev pub read_needs : FlightRows → Line → ℕ → List (Line × ℕ)
@@ -71,7 +76,8 @@ build_needs plan l x =
 abbrev pub phase_needs : FlightRows → Phase → ℕ → ℕ → List (Line × ℕ)
 phase_needs plan B picture row = []
 phase_needs plan V picture row = rows_needs plan B picture row row
-phase_needs plan H picture row = rows_needs plan V picture (row - 1) (row + 1) ++ rows_needs plan B picture (row - 1) (row + 1)
+phase_needs plan H picture row =
+    rows_needs plan V picture (row - 1) (row + 1) ++ rows_needs plan B picture (row - 1) (row + 1)
 phase_needs plan S picture row = rows_needs plan H picture (row - 1) (row + 1) ++ rows_needs plan B picture row row
 
 -- what a filter line needs

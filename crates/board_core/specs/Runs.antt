@@ -28,14 +28,17 @@ pub record IsSound (plan : FlightRows) (s : CoreState) : Type 0 where
   -- a count is at most that of the line's units
   pub in_range : (l : Line) → IsLine plan l → count_of plan s l ≤ full_count plan l
   -- a line that isn't drawn stands at 0 with nothing parsed
-  pub not_drawn : (l : Line) → IsLine plan l → s.drawn ≤ ticket_of plan l → (count_of plan s l ≡ 0) × (is_parsed plan s l ≡ false)
+  pub not_drawn : (l : Line) → IsLine plan l → s.drawn ≤ ticket_of plan l
+      → (count_of plan s l ≡ 0) × (is_parsed plan s l ≡ false)
   -- the needs of each counted unit are counted
   pub counted : (l : Line) → (x : ℕ) → IsLine plan l → x < count_of plan s l → AreCounted plan s (unit_needs plan l x)
   -- a parsed unit is the next of a B line, isn't bad, and what parsing it needs is counted
   pub parsed_phase : (l : Line) → IsLine plan l → is_parsed plan s l ≡ true → l.phase ≡ B
   pub parsed_left : (l : Line) → IsLine plan l → is_parsed plan s l ≡ true → count_of plan s l < full_count plan l
-  pub parsed_good : (l : Line) → IsLine plan l → is_parsed plan s l ≡ true → ¬ IsBad plan (unit_of plan l (count_of plan s l))
-  pub parsed_needs : (l : Line) → IsLine plan l → is_parsed plan s l ≡ true → AreCounted plan s (read_needs plan l (count_of plan s l))
+  pub parsed_good : (l : Line) → IsLine plan l → is_parsed plan s l ≡ true
+      → ¬ IsBad plan (unit_of plan l (count_of plan s l))
+  pub parsed_needs : (l : Line) → IsLine plan l → is_parsed plan s l ≡ true
+      → AreCounted plan s (read_needs plan l (count_of plan s l))
   -- no counted unit is bad
   pub good : (l : Line) → (x : ℕ) → IsLine plan l → x < count_of plan s l → ¬ IsBad plan (unit_of plan l x)
   -- the least fault is none or bad
@@ -43,7 +46,8 @@ pub record IsSound (plan : FlightRows) (s : CoreState) : Type 0 where
 
 -- no unit before the least fault is uncounted
 abbrev pub IsEnded : FlightRows → CoreState → Type 0
-IsEnded plan s = (l : Line) → (x : ℕ) → IsLine plan l → x < full_count plan l → IsBefore (unit_of plan l x) s.least → x < count_of plan s l
+IsEnded plan s = (l : Line) → (x : ℕ) → IsLine plan l → x < full_count plan l → IsBefore (unit_of plan l x) s.least
+    → x < count_of plan s l
 
 -- a job is unfinished while it has an uncounted unit before the least fault
 pub record IsUnfinished (plan : FlightRows) (s : CoreState) (l : Line) : Type 0 where

@@ -1,5 +1,6 @@
 -- The states of the core, when an event is ready, and what it does.
-use Rattle.std.specs.Prelude.{ℕ, ◌≡◌, ◌+◌, ◌<◌, ◌≤◌, Bool, true, false, List, Option, Some, None, min, replicate, slice_index_or, slice_set, All}
+use Rattle.std.specs.Prelude.{ℕ, ◌≡◌, ◌+◌, ◌<◌, ◌≤◌, Bool, true, false, List, Option, Some, None, min, replicate}
+use Rattle.std.specs.Prelude.{slice_index_or, slice_set, All}
 use Rattle.std.specs.List.{Contains}
 use Rattle.flight_plan.specs.Flight.{FlightRows}
 use Rattle.hv_base.specs.declared.line.Line.{Line}

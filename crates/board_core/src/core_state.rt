@@ -5,9 +5,11 @@ ghost use Rattle.std.specs.Option.{option_to_list};
 ghost use Rattle.flight_plan.specs.Flight.{IsTreeUnit};
 ghost use Rattle.hv_base.specs.declared.line.Line.{Line};
 ghost use Rattle.board_core.specs.Places.{full_count, IsLine, IsPlaceOf, lines_of, ticket_of};
-ghost use Rattle.board_core.specs.Needs.{build_needs, collocated_of, filter_needs, range_needs, reach_needs, read_needs, row_needs, rows_needs, span_needs};
+ghost use Rattle.board_core.specs.Needs.{build_needs, collocated_of, filter_needs, range_needs, reach_needs};
+ghost use Rattle.board_core.specs.Needs.{read_needs, row_needs, rows_needs, span_needs};
 ghost use Rattle.std.specs.List.{flat_map};
-ghost use Rattle.board_core.specs.States.{after, count_of, is_parsed, lesser, opening, AreCounted, IsBad, IsBuildable, IsFilterable, IsNext, IsReadable, IsReady};
+ghost use Rattle.board_core.specs.States.{after, count_of, is_parsed, lesser, opening, AreCounted, IsBad, IsBuildable};
+ghost use Rattle.board_core.specs.States.{IsFilterable, IsNext, IsReadable, IsReady};
 
 mod progress;
 
@@ -104,7 +106,8 @@ impl<'a> Core<'a> {
 
     fn build(&mut self, line: Line, x: u32)
         requires { IsBuildable self.old.plan self.old.state line x }
-        ensures { self.new ≡ record { plan = self.old.plan; state = after self.old.plan self.old.state (Event.Build line x) } }
+        ensures { self.new
+            ≡ record { plan = self.old.plan; state = after self.old.plan self.old.state (Event.Build line x) } }
     {
         let _full = self.places.full_count(line);
         let ticket = self.places.ticket(line);
@@ -114,7 +117,8 @@ impl<'a> Core<'a> {
 
     fn filter(&mut self, line: Line)
         requires { IsFilterable self.old.plan self.old.state line }
-        ensures { self.new ≡ record { plan = self.old.plan; state = after self.old.plan self.old.state (Event.Filter line) } }
+        ensures { self.new
+            ≡ record { plan = self.old.plan; state = after self.old.plan self.old.state (Event.Filter line) } }
     {
         let _pictures = self.plan().pictures();
         let ticket = self.places.ticket(line);

@@ -4,7 +4,8 @@ ghost use Rattle.hv_base.specs.declared.line.Line.{Line};
 ghost use Rattle.std.specs.Prelude.{ℕ, ◌≡◌, ◌+◌, ◌*◌, ◌≤◌, ◌↔◌, [], slice_index_or, IfSome, None};
 ghost use Rattle.std.specs.Option.{option_to_list};
 ghost use Rattle.flight_plan.specs.Flight.{picture_at, FlightRows, IsTreeUnit};
-ghost use Rattle.board_core.specs.Needs.{above_needs, collocated_of, filter_needs, read_needs, row_needs, span_needs, unit_in_picture, IsNeedsOf};
+ghost use Rattle.board_core.specs.Needs.{above_needs, collocated_of, filter_needs, read_needs, row_needs, span_needs};
+ghost use Rattle.board_core.specs.Needs.{unit_in_picture, IsNeedsOf};
 ghost use Rattle.board_core.specs.Places.{IsLine, IsPlaceOf, width_of};
 
 use crate::event::Event;
@@ -112,7 +113,8 @@ pub fn collocated_at(plan: &FlightPlan, line: Line, x: u32) -> Option<Reference>
 
 /// The row ranges that the coding tree unit `x` of a line reads.
 pub fn reach_at<'a>(plan: &'a FlightPlan, line: Line, x: u32) -> &'a [RowRange]
-    ensures { result.now ≡ slice_index_or (picture_at plan.now line.picture).reach (unit_in_picture plan.now line x) [] }
+    ensures { result.now
+        ≡ slice_index_or (picture_at plan.now line.picture).reach (unit_in_picture plan.now line x) [] }
 {
     match plan.pictures().get(line.picture as usize) {
         Some(found) => found.reach(

@@ -3,8 +3,10 @@
 
 ghost use Rattle.std.specs.Prelude.{◌≡◌, ◌<◌, ◌↔◌, IsTrue, IfOk, IfSome, None, length};
 ghost use Rattle.std.specs.Prelude.{ℕ, ◌≤◌, ◌+◌, ◌*◌, take, sum_by, slice_index, slice_index_or};
-ghost use Rattle.flight_plan.specs.Flight.{IsFlight, IsTreeUnit, no_picture, picture_units, picture_at, tree_units, units_of};
-ghost use Rattle.board_core.specs.Places.{full_count, IsLine, IsPlaceOf, lines_of, phase_start, picture_lines, ticket_of, unit_of, width_of};
+ghost use Rattle.flight_plan.specs.Flight.{IsFlight, IsTreeUnit, no_picture, picture_units, picture_at, tree_units};
+ghost use Rattle.flight_plan.specs.Flight.{units_of};
+ghost use Rattle.board_core.specs.Places.{full_count, IsLine, IsPlaceOf, lines_of, phase_start, picture_lines};
+ghost use Rattle.board_core.specs.Places.{ticket_of, unit_of, width_of};
 ghost use Rattle.board_core.specs.States.{IsBad};
 
 use crate::bad_units::bad_flags;
@@ -30,7 +32,8 @@ pub struct Places<'a> {
 }
 
 impl<'a> Model for Places<'a> {
-    ghost use Rattle.std.specs.Prelude.{ℕ, ◌≡◌, ◌<◌, ◌≤◌, ◌*◌, ◌^◌, ◌↔◌, false, true, length, take, sum_by, slice_index, slice_index_or};
+    ghost use Rattle.std.specs.Prelude.{ℕ, ◌≡◌, ◌<◌, ◌≤◌, ◌*◌, ◌^◌, ◌↔◌, false, true, length, take, sum_by};
+    ghost use Rattle.std.specs.Prelude.{slice_index, slice_index_or};
     ghost use Rattle.flight_plan.specs.Flight.{FlightRows, IsFlight, picture_units};
     ghost use Rattle.board_core.specs.Places.{picture_lines};
     ghost use Rattle.board_core.specs.States.{IsBad};
@@ -46,8 +49,10 @@ impl<'a> Model for Places<'a> {
         × (p.lines ≡ sum_by picture_lines p.plan.now.pictures)
         × (sum_by picture_lines p.plan.now.pictures ≤ 2048 * length p.plan.now.pictures)
         × (sum_by picture_units p.plan.now.pictures < 2 ^ 64)
-        × ((k : ℕ) → k < length p.plan.now.pictures → slice_index p.first_lines.items k ≡ sum_by picture_lines (take k p.plan.now.pictures))
-        × ((k : ℕ) → k < length p.plan.now.pictures → slice_index p.first_units.items k ≡ sum_by picture_units (take k p.plan.now.pictures))
+        × ((k : ℕ) → k < length p.plan.now.pictures
+        → slice_index p.first_lines.items k ≡ sum_by picture_lines (take k p.plan.now.pictures))
+        × ((k : ℕ) → k < length p.plan.now.pictures
+        → slice_index p.first_units.items k ≡ sum_by picture_units (take k p.plan.now.pictures))
         × ((u : ℕ) → (slice_index_or p.bad.items u false ≡ true) ↔ IsBad p.plan.now u) };
 }
 

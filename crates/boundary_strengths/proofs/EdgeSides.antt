@@ -13,20 +13,27 @@ chosen b r s e told = rw e told
 passed : (b : Bool) (s : ℕ) → b ≡ false → 0 ≡ (if b then s else 0)
 passed b s e = rw e refl
 
-pub strength_same : (r : ℕ) (coded t t' b b' c c' : Bool) (p p' q q' : Option PlaceMotion) → r ≡ strength coded p q → coded ≡ (t && (b || c)) → t ≡ t' → b ≡ b' → c ≡ c' → p ≡ p' → q ≡ q'
+pub strength_same : (r : ℕ) (coded t t' b b' c c' : Bool) (p p' q q' : Option PlaceMotion) → r ≡ strength coded p q
+    → coded ≡ (t && (b || c)) → t ≡ t' → b ≡ b' → c ≡ c' → p ≡ p' → q ≡ q'
     → r ≡ strength (t' && (b' || c')) p' q'
 strength_same r coded t t' b b' c c' p p' q q' er ec et eb ef ep eq = rw (← ep, ← eq, ← et, ← eb, ← ef, ← ec) er
 
 -- where there is an edge
-pub with_edge : (e f f' t t' p p' : Bool) (r s : ℕ) → e ≡ true → e ≡ (f && (t || p)) → f ≡ f' → t ≡ t' → p ≡ p' → r ≡ s → r ≡ (if f' && (t' || p') then s else 0)
-with_edge e f f' t t' p p' r s here is ef et ep told = chosen _ r s (sym (edge_same f f' t t' p p' ef et ep) ∙ (sym is ∙ here)) told
+pub with_edge : (e f f' t t' p p' : Bool) (r s : ℕ) → e ≡ true → e ≡ (f && (t || p)) → f ≡ f' → t ≡ t' → p ≡ p' → r ≡ s
+    → r ≡ (if f' && (t' || p') then s else 0)
+with_edge e f f' t t' p p' r s here is ef et ep told =
+    chosen _ r s (sym (edge_same f f' t t' p p' ef et ep) ∙ (sym is ∙ here)) told
 
 -- where there is none
-pub without_edge : (e f f' t t' p p' : Bool) (s : ℕ) → e ≡ false → e ≡ (f && (t || p)) → f ≡ f' → t ≡ t' → p ≡ p' → 0 ≡ (if f' && (t' || p') then s else 0)
-without_edge e f f' t t' p p' s none is ef et ep = passed _ s (sym (edge_same f f' t t' p p' ef et ep) ∙ (sym is ∙ none))
+pub without_edge : (e f f' t t' p p' : Bool) (s : ℕ) → e ≡ false → e ≡ (f && (t || p)) → f ≡ f' → t ≡ t' → p ≡ p'
+    → 0 ≡ (if f' && (t' || p') then s else 0)
+without_edge e f f' t t' p p' s none is ef et ep =
+    passed _ s (sym (edge_same f f' t t' p p' ef et ep) ∙ (sym is ∙ none))
 
 abbrev place_of : ℕ → ℕ → Bool → ℤ → Bool → UnitPlace
-place_of left top coded qp kept = record { left_strength = left; top_strength = top; coded = coded; qp_y = qp; kept = kept }
+place_of left top coded qp kept =
+    record { left_strength = left; top_strength = top; coded = coded; qp_y = qp; kept = kept }
 
-pub place_same : (l l' t t' : ℕ) (c c' k k' : Bool) (q q' : ℤ) → l ≡ l' → t ≡ t' → c ≡ c' → q ≡ q' → k ≡ k' → place_of l t c q k ≡ place_of l' t' c' q' k'
+pub place_same : (l l' t t' : ℕ) (c c' k k' : Bool) (q q' : ℤ) → l ≡ l' → t ≡ t' → c ≡ c' → q ≡ q' → k ≡ k'
+    → place_of l t c q k ≡ place_of l' t' c' q' k'
 place_same l l' t t' c c' k k' q q' el et ec eq ek = rw (el, et, ec, eq, ek) refl

@@ -1,7 +1,8 @@
 //! When the motion on both sides of an edge differs (8.7.2.4).
 
 ghost use Rattle.std.specs.Prelude.{◌≡◌, ◌≤◌};
-ghost use Rattle.spec_boundary_strengths.specs.Motion.{are_apart, differ, differ_by_two, motion_strength, one_apart, same_picture, vectors};
+ghost use Rattle.spec_boundary_strengths.specs.Motion.{are_apart, differ, differ_by_two, motion_strength, one_apart};
+ghost use Rattle.spec_boundary_strengths.specs.Motion.{same_picture, vectors};
 
 use picture_buffer::{PlaceMotion, PlaceVector};
 use spec_boundary_strengths::Vectors;

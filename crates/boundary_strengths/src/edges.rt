@@ -3,7 +3,8 @@
 ghost use Rattle.std.specs.Prelude.{◌≡◌, ℕ, ◌+◌, ◌<◌, ◌≤◌, Bool, ◌&&◌, ◌||◌, List, Option};
 ghost use Rattle.ctu_records.specs.declared.item.Item.{Item};
 ghost use Rattle.picture_buffer.specs.declared.place_motion.PlaceMotion.{PlaceMotion};
-ghost use Rattle.spec_boundary_strengths.specs.Strengths.{coded_around, is_filtered, left_strength, strength, top_strength};
+ghost use Rattle.spec_boundary_strengths.specs.Strengths.{coded_around, is_filtered, left_strength, strength};
+ghost use Rattle.spec_boundary_strengths.specs.Strengths.{top_strength};
 ghost use Rattle.boundary_strengths.specs.Held.{AreMarked, beside_of};
 
 use crate::apart::motion_strength;
@@ -22,7 +23,8 @@ pub(crate) fn left_strength<V: PlaceMotions>(
 ) -> u8
     requires x { x < 16 }
     requires y { y < 16 }
-    ensures { (pcm_disabled : Bool) (items : List Item) → AreMarked pcm_disabled items marks.now → result ≡ left_strength (beside_of sides.now (V.motion_at view.now)) items x y }
+    ensures { (pcm_disabled : Bool) (items : List Item) → AreMarked pcm_disabled items marks.now
+        → result ≡ left_strength (beside_of sides.now (V.motion_at view.now)) items x y }
 {
     let transform = marks.transform_left[16 * y + x];
     let prediction = marks.prediction_left[16 * y + x];
@@ -48,7 +50,8 @@ pub(crate) fn top_strength<V: PlaceMotions>(
 ) -> u8
     requires x { x < 16 }
     requires y { y < 16 }
-    ensures { (pcm_disabled : Bool) (items : List Item) → AreMarked pcm_disabled items marks.now → result ≡ top_strength (beside_of sides.now (V.motion_at view.now)) items x y }
+    ensures { (pcm_disabled : Bool) (items : List Item) → AreMarked pcm_disabled items marks.now
+        → result ≡ top_strength (beside_of sides.now (V.motion_at view.now)) items x y }
 {
     let transform = marks.transform_top[16 * y + x];
     let prediction = marks.prediction_top[16 * y + x];
@@ -90,7 +93,8 @@ fn is_coded(transform: bool, before: bool, behind: bool) -> bool
 fn coded_around(marks: &Marks, sides: &UnitSides, column: usize, row: usize) -> bool
     requires column { column ≤ 16 }
     requires row { row ≤ 16 }
-    ensures { (pcm_disabled : Bool) (items : List Item) (motion : ℕ → ℕ → Option PlaceMotion) → AreMarked pcm_disabled items marks.now → result ≡ coded_around (beside_of sides.now motion) items column row }
+    ensures { (pcm_disabled : Bool) (items : List Item) (motion : ℕ → ℕ → Option PlaceMotion)
+        → AreMarked pcm_disabled items marks.now → result ≡ coded_around (beside_of sides.now motion) items column row }
 {
     if column == 0 || row == 0 {
         sides.coded(column, row)

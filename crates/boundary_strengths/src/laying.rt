@@ -1,6 +1,7 @@
 //! Values by place in 16 rows of 16.
 
-ghost use Rattle.std.specs.Prelude.{◌≡◌, ℕ, Bool, false, ◌+◌, ◌*◌, ◌^◌, ◌<◌, ◌≤◌, ◌&&◌, ◌||◌, cond, min, nat_le, nat_lt, length, slice_index_or};
+ghost use Rattle.std.specs.Prelude.{◌≡◌, ℕ, Bool, false, ◌+◌, ◌*◌, ◌^◌, ◌<◌, ◌≤◌, ◌&&◌, ◌||◌, cond, min, nat_le};
+ghost use Rattle.std.specs.Prelude.{nat_lt, length, slice_index_or};
 ghost use Rattle.ctu_records.specs.Places.{by_place};
 ghost use Rattle.ctu_records.specs.Prediction.{is_inside};
 ghost use Rattle.spec_boundary_strengths.specs.Edges.{stands_left, stands_top};
@@ -10,7 +11,8 @@ use ctu_records::{Rectangle, Square};
 /// One value in so many cells from one on.
 fn fill<T: Copy>(cells: &mut [T], first: usize, count: usize, value: T)
     requires { first + count ≤ length cells.old }
-    ensures { (q : ℕ) (d : T) → slice_index_or cells.new q d ≡ cond (nat_le first q && nat_lt q (first + count)) value (slice_index_or cells.old q d) }
+    ensures { (q : ℕ) (d : T) → slice_index_or cells.new q d
+        ≡ cond (nat_le first q && nat_lt q (first + count)) value (slice_index_or cells.old q d) }
 {
     for k in first..first + count {
         cells[k] = value;
@@ -22,7 +24,10 @@ fn fill_block<T: Copy>(cells: &mut [T], x: usize, y: usize, width: usize, height
     requires count { length cells.old ≡ 256 }
     requires x { x + width ≤ 16 }
     requires y { y + height ≤ 16 }
-    ensures { (i j : ℕ) (d : T) → i < 16 → j < 16 → by_place d cells.new i j ≡ cond ((nat_le x i && nat_lt i (x + width)) && (nat_le y j && nat_lt j (y + height))) value (by_place d cells.old i j) }
+    ensures { (i j : ℕ) (d : T) → i < 16 → j < 16
+        → by_place d cells.new i j
+        ≡ cond ((nat_le x i && nat_lt i (x + width)) && (nat_le y j && nat_lt j (y + height))) value
+        (by_place d cells.old i j) }
 {
     for row in y..y + height {
         fill(cells, 16 * row + x, width, value);
@@ -33,7 +38,8 @@ fn fill_block<T: Copy>(cells: &mut [T], x: usize, y: usize, width: usize, height
 #[tactic(auto, using(crate::proofs::Cells::cut_block))]
 pub(crate) fn lay_block<T: Copy>(cells: &mut [T], block: Rectangle, value: T)
     requires count { length cells.old ≡ 256 }
-    ensures { (i j : ℕ) (d : T) → i < 16 → j < 16 → by_place d cells.new i j ≡ cond (is_inside block i j) value (by_place d cells.old i j) }
+    ensures { (i j : ℕ) (d : T) → i < 16 → j < 16
+        → by_place d cells.new i j ≡ cond (is_inside block i j) value (by_place d cells.old i j) }
 {
     let x = usize::from(block.x);
     let y = usize::from(block.y);
@@ -47,7 +53,8 @@ pub(crate) fn lay_block<T: Copy>(cells: &mut [T], block: Rectangle, value: T)
 /// Marks the places at the left side of a block.
 pub(crate) fn mark_left(marks: &mut [bool], block: Rectangle)
     requires count { length marks.old ≡ 256 }
-    ensures { (i j : ℕ) → i < 16 → j < 16 → by_place false marks.new i j ≡ (by_place false marks.old i j || stands_left block i j) }
+    ensures { (i j : ℕ) → i < 16 → j < 16
+        → by_place false marks.new i j ≡ (by_place false marks.old i j || stands_left block i j) }
 {
     let side = Rectangle {
         x: block.x,
@@ -61,7 +68,8 @@ pub(crate) fn mark_left(marks: &mut [bool], block: Rectangle)
 /// Marks the places at its top.
 pub(crate) fn mark_top(marks: &mut [bool], block: Rectangle)
     requires count { length marks.old ≡ 256 }
-    ensures { (i j : ℕ) → i < 16 → j < 16 → by_place false marks.new i j ≡ (by_place false marks.old i j || stands_top block i j) }
+    ensures { (i j : ℕ) → i < 16 → j < 16
+        → by_place false marks.new i j ≡ (by_place false marks.old i j || stands_top block i j) }
 {
     let side = Rectangle {
         x: block.x,

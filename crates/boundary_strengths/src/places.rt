@@ -25,7 +25,11 @@ pub fn unit_places<V: PlaceMotions>(
     places: &mut [UnitPlace; 256],
 )
     requires offset { sides.now.qp_bd_offset ≤ 48 }
-    ensures { All IsPlacedItem records.now.items → ((i j : ℕ) → qp_at records.now.items i j ≤ 127) → (x y : ℕ) (d : UnitPlace) → x < 16 → y < 16 → by_place d places.new x y ≡ unit_place (beside_of sides.now (V.motion_at view.now)) sides.now.pcm_loop_filter_disabled sides.now.qp_bd_offset records.now.items x y }
+    ensures { All IsPlacedItem records.now.items → ((i j : ℕ) → qp_at records.now.items i j ≤ 127)
+        → (x y : ℕ) (d : UnitPlace) → x < 16 → y < 16
+        → by_place d places.new x y
+        ≡ unit_place (beside_of sides.now (V.motion_at view.now)) sides.now.pcm_loop_filter_disabled
+        sides.now.qp_bd_offset records.now.items x y }
 {
     let marks = marks_of(records.items(), sides.pcm_loop_filter_disabled);
     for k in 0..256usize {
@@ -45,7 +49,11 @@ fn place<V: PlaceMotions>(
     requires x { x < 16 }
     requires y { y < 16 }
     requires offset { sides.now.qp_bd_offset ≤ 48 }
-    ensures { AreMarked sides.now.pcm_loop_filter_disabled records.now.items marks.now → qp_at records.now.items x y ≤ 127 → result ≡ unit_place (beside_of sides.now (V.motion_at view.now)) sides.now.pcm_loop_filter_disabled sides.now.qp_bd_offset records.now.items x y }
+    ensures { AreMarked sides.now.pcm_loop_filter_disabled records.now.items marks.now
+        → qp_at records.now.items x y ≤ 127
+        → result
+        ≡ unit_place (beside_of sides.now (V.motion_at view.now)) sides.now.pcm_loop_filter_disabled
+        sides.now.qp_bd_offset records.now.items x y }
 {
     let left = left_strength(marks, sides, view, x, y);
     let top = top_strength(marks, sides, view, x, y);

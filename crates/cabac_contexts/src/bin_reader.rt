@@ -2,7 +2,8 @@
 
 ghost use Rattle.std.specs.Prelude.{◌≡◌, ◌+◌, ◌^◌, ◌<◌, ◌≤◌, IfOk, false};
 ghost use Rattle.spec_cabac.specs.Engine.{IsLive};
-ghost use Rattle.spec_cabac.specs.Bins.{decision, bypass, terminate, pcm_start, sample, pcm_end, fixed, ones, exp_golomb};
+ghost use Rattle.spec_cabac.specs.Bins.{decision, bypass, terminate, pcm_start, sample, pcm_end, fixed, ones};
+ghost use Rattle.spec_cabac.specs.Bins.{exp_golomb};
 ghost use Rattle.cabac_contexts.specs.Takes.{Reaches, Takes};
 
 use crate::contexts::Contexts;

@@ -48,5 +48,6 @@ impl Contexts {
 
 /// The words of contexts have those contexts.
 pub fn packed_contexts_are_unpacked()
-    ensures { (contexts : List ℕ) → length contexts ≡ 154 → All (λ value. value < 126) contexts → unpacked (packed contexts) ≡ contexts }
+    ensures { (contexts : List ℕ) → length contexts ≡ 154 → All (λ value. value < 126) contexts
+        → unpacked (packed contexts) ≡ contexts }
 {}

@@ -1,8 +1,10 @@
 //! The interval of arithmetic decoding, and the bins and samples that it gives.
 
-ghost use Rattle.std.specs.Prelude.{◌≡◌, ◌+◌, ◌-◌, ◌*◌, ◌^◌, ◌<◌, ◌≤◌, ◌∷◌, [], length, slice_index, IfSome, OnSome, false};
+ghost use Rattle.std.specs.Prelude.{◌≡◌, ◌+◌, ◌-◌, ◌*◌, ◌^◌, ◌<◌, ◌≤◌, ◌∷◌, [], length, slice_index, IfSome, OnSome};
+ghost use Rattle.std.specs.Prelude.{false};
 ghost use Rattle.spec_bits.specs.Bits.{bits, Finds, Gives};
-ghost use Rattle.spec_cabac.specs.Engine.{Engine, IsLive, start_at, doublings, renormalized_at, decision_at, bypass_at, terminate_at, number_at, pcm_start_at, sample_at, pcm_end_at, is_trailing};
+ghost use Rattle.spec_cabac.specs.Engine.{Engine, IsLive, start_at, doublings, renormalized_at, decision_at, bypass_at};
+ghost use Rattle.spec_cabac.specs.Engine.{terminate_at, number_at, pcm_start_at, sample_at, pcm_end_at, is_trailing};
 ghost use Rattle.cabac_engine.specs.Steps.{Steps, state_of};
 
 use crate::places::{is_stop, number_at};
@@ -56,7 +58,8 @@ impl<'a> Interval<'a> {
     pub fn decision(&mut self, context: &mut u8) -> Option<bool>
         requires live { IsLive self.old }
         requires context { context.old < 126 }
-        ensures value { Gives result (self.old, context.old) (self.new, context.new) (decision_at (self.old, context.old)) }
+        ensures value { Gives result (self.old, context.old) (self.new, context.new)
+            (decision_at (self.old, context.old)) }
         ensures live { OnSome result (IsLive self.new) }
         ensures context { context.new < 126 }
     {
@@ -167,7 +170,8 @@ impl<'a> Interval<'a> {
         requires high { slice_index state 0 ≤ 510 }
         requires below { slice_index state 1 < slice_index state 0 }
         requires left { slice_index state 2 ≤ 8 * length bytes.now }
-        ensures value { (engine : Engine) → engine.bits ≡ bits bytes.now → engine.at ≤ length engine.bits → state ≡ state_of engine → result ≡ engine }
+        ensures value { (engine : Engine) → engine.bits ≡ bits bytes.now → engine.at ≤ length engine.bits
+            → state ≡ state_of engine → result ≡ engine }
         ensures live { IsLive result }
     {
         Interval {

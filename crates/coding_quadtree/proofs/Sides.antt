@@ -4,6 +4,8 @@ use Rattle.std.proofs.lemmas.List.FromFn.{fill_by_all}
 use Rattle.ctu_records.specs.declared.side.Side.{Side}
 use Rattle.ctu_records.specs.Tree.{no_side, side}
 
-pub side_by_place : (places : List Side) (count : ℕ) (f : ℕ → Side) → length places ≡ 16 → ((k : ℕ) → k < 16 → get_or places k no_side ≡ (if nat_lt k count then f k else no_side)) → places ≡ side count f
+pub side_by_place : (places : List Side) (count : ℕ) (f : ℕ → Side) → length places ≡ 16
+    → ((k : ℕ) → k < 16 → get_or places k no_side ≡ (if nat_lt k count then f k else no_side)) → places ≡ side count f
 unfolding side
-side_by_place places count f full each = fill_by_all (λ k. if nat_lt k count then f k else no_side) places 16 no_side full each
+side_by_place places count f full each =
+    fill_by_all (λ k. if nat_lt k count then f k else no_side) places 16 no_side full each

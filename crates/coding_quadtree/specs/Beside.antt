@@ -44,7 +44,8 @@ abbrev pub above_sao : CtuSyntax → UnitPlace → (ℕ → Sao) → Sao
 above_sao syntax place sao_at = sao_where syntax.has_above (sao_at (place.address - place.width))
 
 -- the places on the left and above that are available were read, and the units there
-pub record IsCovered (syntax : CtuSyntax) (place : UnitPlace) (covers : ℕ → ℕ → Bool) (covers_unit : ℕ → Bool) : Type 0 where
+pub record IsCovered (syntax : CtuSyntax) (place : UnitPlace) (covers : ℕ → ℕ → Bool)
+    (covers_unit : ℕ → Bool) : Type 0 where
   pub x : place.x < 65536
   pub y : place.y < 65536
   pub left : (k : ℕ) → k < on_left syntax place → covers (place.x - 1) (place.y + 4 * k) ≡ true

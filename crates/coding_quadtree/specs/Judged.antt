@@ -22,7 +22,10 @@ judged (Ok r) = if judged_end r.0.1 r.1.0 then Ok r else Err (breach.Fault rule.
 -- a unit at a place and what follows it, over a view of the units before it, with its end judged
 abbrev pub over_view : CtuSyntax → UnitPlace → (ℕ → ℕ → Side) → (ℕ → Sao) → State → Result ((Ctu × End) × State) Breach
 over_view syntax place side_at sao_at s =
-    judged (read (unit_and_end syntax (left_sao syntax place sao_at) (above_sao syntax place sao_at) place.is_last place.ends_subset (ctu_begins syntax place side_at)) s)
+    judged (read
+    (unit_and_end syntax (left_sao syntax place sao_at) (above_sao syntax place sao_at) place.is_last place.ends_subset
+    (ctu_begins syntax place side_at))
+    s)
 
 -- a call answered what follows a unit and left the unit and the state behind it, as reading gives them; or the first
 -- rule broken

@@ -14,7 +14,8 @@ Leaves (Err e) value after read = read ≡ Err e
 
 -- the records are what this format reads, and bins may be asked behind it; or the first rule broken
 abbrev pub Fills : {X : Type 0} → Result X Breach → Ctu → BinReader → BinReader → Tree Ctu → Type 0
-Fills result records old new format = Leaves result records (state_of new) (read format (state_of old)) × OnOk result (IsLive new.interval)
+Fills result records old new format =
+    Leaves result records (state_of new) (read format (state_of old)) × OnOk result (IsLive new.interval)
 
 -- a unit's records have at most so many items more
 abbrev pub Grows : {X : Type 0} → Result X Breach → Ctu → Ctu → ℕ → Type 0

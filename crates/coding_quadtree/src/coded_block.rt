@@ -3,7 +3,8 @@
 ghost use Rattle.std.specs.Prelude.{◌≡◌, ◌+◌, ◌*◌, ◌^◌, ◌≤◌, length};
 ghost use Rattle.ctu_records.specs.Tree.{room};
 ghost use Rattle.spec_cabac.specs.Engine.{IsLive};
-ghost use Rattle.spec_slice_data.specs.Residual.{coded_block, residual_block, scan_of, scan_of_mode, with_level, with_residual};
+ghost use Rattle.spec_slice_data.specs.Residual.{coded_block, residual_block, scan_of, scan_of_mode, with_level};
+ghost use Rattle.spec_slice_data.specs.Residual.{with_residual};
 ghost use Rattle.spec_slice_data.specs.Transform.{block_where};
 ghost use Rattle.coding_quadtree.specs.Leaves.{Fills, Grows};
 
@@ -122,7 +123,8 @@ fn coded_block(
     requires least { 2 ≤ block.log2_size }
     requires greatest { block.log2_size ≤ 5 }
     requires room { length records.old.items + (1 + 4 ^ block.log2_size) ≤ room }
-    ensures value { Fills result records.new reader.old reader.new (coded_block of.now.syntax of.now.unit block records.old) }
+    ensures value { Fills result records.new reader.old reader.new
+        (coded_block of.now.syntax of.now.unit block records.old) }
     ensures room { Grows result records.old records.new (1 + 4 ^ block.log2_size) }
 {
     read_residual(reader, residual_block(of, block), levels)?;
@@ -143,7 +145,8 @@ pub fn block_where(
     requires least { 2 ≤ block.log2_size }
     requires greatest { block.log2_size ≤ 5 }
     requires room { length records.old.items + (1 + 4 ^ block.log2_size) ≤ room }
-    ensures value { Fills result records.new reader.old reader.new (block_where of.now.syntax of.now.unit coded block records.old) }
+    ensures value { Fills result records.new reader.old reader.new
+        (block_where of.now.syntax of.now.unit coded block records.old) }
     ensures room { Grows result records.old records.new (1 + 4 ^ block.log2_size) }
 {
     if coded {

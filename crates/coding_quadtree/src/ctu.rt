@@ -86,7 +86,9 @@ fn unit_and_end(
     requires syntax { IsSyntax syntax.now }
     requires least { syntax.now.log2_min_coding ≤ records.old.size }
     requires empty { records.old.items ≡ [] }
-    ensures value { Follows result records.new (state_of reader.new) (read (unit_and_end syntax.now left above place.now.is_last place.now.ends_subset records.old) (state_of reader.old)) }
+    ensures value { Follows result records.new (state_of reader.new)
+        (read (unit_and_end syntax.now left above place.now.is_last place.now.ends_subset records.old)
+        (state_of reader.old)) }
     ensures live { IfOk result (λ follows. follows ≡ end.More → IsLive reader.new.interval) }
 {
     coding_tree_unit(reader, records, levels, syntax, left, above)?;
@@ -110,7 +112,8 @@ pub fn read_ctu<V: Neighbours>(
     requires least { syntax.now.log2_min_coding ≤ place.now.size }
     requires size { place.now.size ≤ 4 }
     requires covered { IsCovered syntax.now place.now (V.covers view.old) (V.covers_unit view.old) }
-    ensures value { Follows result records.new (state_of reader.new) (over_view syntax.now place.now (V.side_at view.old) (V.sao_at view.old) (state_of reader.old)) }
+    ensures value { Follows result records.new (state_of reader.new)
+        (over_view syntax.now place.now (V.side_at view.old) (V.sao_at view.old) (state_of reader.old)) }
     ensures live { IfOk result (λ follows. follows ≡ end.More → IsLive reader.new.interval) }
     ensures sides { V.side_at view.new ≡ V.side_at view.old }
     ensures offsets { V.sao_at view.new ≡ V.sao_at view.old }

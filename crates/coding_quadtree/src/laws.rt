@@ -16,5 +16,10 @@ ghost use Rattle.coding_quadtree.specs.Next.{IsNext, StepsTo};
 /// Where a view tells of the units before one what was read of them, [`read_ctu`](crate::read_ctu) is the next step of
 /// reading the slice segment.
 pub fn unit_is_the_next_step()
-    ensures { (common : CtuSyntax) (picture : PictureShape) (segment : SegmentShape) (address : ℕ) (between : Between) (syntax : CtuSyntax) (place : UnitPlace) (side_at : ℕ → ℕ → Side) (sao_at : ℕ → Sao) → IsNext common picture segment address between syntax place side_at sao_at → (result : Result End Breach) (ctu : Ctu) (after : State) → Follows result ctu after (over_view syntax place side_at sao_at (between.engine, between.contexts)) → StepsTo picture address between result ctu after (read_unit common picture segment address between) }
+    ensures { (common : CtuSyntax) (picture : PictureShape) (segment : SegmentShape) (address : ℕ) (between : Between)
+        (syntax : CtuSyntax) (place : UnitPlace) (side_at : ℕ → ℕ → Side) (sao_at : ℕ → Sao)
+        → IsNext common picture segment address between syntax place side_at sao_at
+        → (result : Result End Breach) (ctu : Ctu) (after : State)
+        → Follows result ctu after (over_view syntax place side_at sao_at (between.engine, between.contexts))
+        → StepsTo picture address between result ctu after (read_unit common picture segment address between) }
 {}

@@ -3,7 +3,10 @@
 ghost use Rattle.std.specs.Prelude.{◌≡◌, ◌+◌, ◌-◌, ◌*◌, ◌^◌, ◌<◌, ◌≤◌, length, IfOk};
 ghost use Rattle.ctu_records.specs.Tree.{IsPlaced, luma_mode_at, room};
 ghost use Rattle.spec_cabac.specs.Engine.{IsLive};
-ghost use Rattle.spec_slice_data.specs.Modes.{candidate, candidates, chroma_mode, chroma_modes, intra_chroma_pred_mode, listed_mode, luma_block, luma_blocks, luma_mode, luma_modes, luma_quarters, luma_whole, prev_intra_luma_pred_flag, passed, remaining, third_candidate};
+ghost use Rattle.spec_slice_data.specs.Modes.{candidate, candidates, chroma_mode, chroma_modes, intra_chroma_pred_mode};
+ghost use Rattle.spec_slice_data.specs.Modes.{listed_mode, luma_block, luma_blocks, luma_mode, luma_modes};
+ghost use Rattle.spec_slice_data.specs.Modes.{luma_quarters, luma_whole, prev_intra_luma_pred_flag, passed, remaining};
+ghost use Rattle.spec_slice_data.specs.Modes.{third_candidate};
 ghost use Rattle.cabac_contexts.specs.Takes.{Takes};
 ghost use Rattle.coding_quadtree.specs.Leaves.{Fills, Grows};
 
@@ -149,7 +152,8 @@ fn luma_blocks(
     requires some { 0 < square.log2_size }
     requires placed { IsPlaced square }
     requires room { length records.old.items + 4 ≤ room }
-    ensures value { Fills result records.new reader.old reader.new (luma_blocks square flag_0 flag_1 flag_2 flag_3 records.old) }
+    ensures value { Fills result records.new reader.old reader.new
+        (luma_blocks square flag_0 flag_1 flag_2 flag_3 records.old) }
     ensures room { Grows result records.old records.new 4 }
 {
     luma_block(reader, records, upper_left(square), flag_0)?;

@@ -4,7 +4,8 @@ ghost use Rattle.std.specs.Prelude.{◌≡◌, ◌+◌, ◌<◌, ◌≤◌, leng
 ghost use Rattle.ctu_records.specs.Prediction.{part_block};
 ghost use Rattle.ctu_records.specs.Tree.{IsPlaced, room};
 ghost use Rattle.spec_cabac.specs.Engine.{IsLive};
-ghost use Rattle.spec_slice_data.specs.Inter.{is_merged, last_two, later_parts, merge_idx, merged, motion, part_count, prediction_unit, rqt_root_cbf, with_part};
+ghost use Rattle.spec_slice_data.specs.Inter.{is_merged, last_two, later_parts, merge_idx, merged, motion, part_count};
+ghost use Rattle.spec_slice_data.specs.Inter.{prediction_unit, rqt_root_cbf, with_part};
 ghost use Rattle.cabac_contexts.specs.Takes.{Takes};
 ghost use Rattle.coding_quadtree.specs.Leaves.{Fills, Grows};
 
@@ -81,7 +82,8 @@ fn prediction_unit(
     requires depth { start.now.depth ≤ 3 }
     requires part { part < 4 }
     requires room { length records.old.items + 1 ≤ room }
-    ensures value { Fills result records.new reader.old reader.new (prediction_unit inter.now start.now mode part records.old) }
+    ensures value { Fills result records.new reader.old reader.new
+        (prediction_unit inter.now start.now mode part records.old) }
     ensures room { Grows result records.old records.new 1 }
 {
     let block = part_block(start.square, mode, part);

@@ -2,7 +2,9 @@
 
 ghost use Rattle.std.specs.Prelude.{◌≡◌, ◌≤◌, ◌<◌, IfOk};
 ghost use Rattle.spec_cabac.specs.Engine.{IsLive};
-ghost use Rattle.spec_slice_data.specs.Offset.{band, band_offset, class_of, class_where, edge, kind_of, like_component, merge_flag, offsets, own_component, own_sao, sao, sao_offset_abs, sao_or_above, sao_type_idx, signed};
+ghost use Rattle.spec_slice_data.specs.Offset.{band, band_offset, class_of, class_where, edge, kind_of, like_component};
+ghost use Rattle.spec_slice_data.specs.Offset.{merge_flag, offsets, own_component, own_sao, sao, sao_offset_abs};
+ghost use Rattle.spec_slice_data.specs.Offset.{sao_or_above, sao_type_idx, signed};
 ghost use Rattle.cabac_contexts.specs.Takes.{Takes};
 
 use crate::bins::truncated;

@@ -2,7 +2,8 @@
 
 ghost use Rattle.std.specs.Prelude.{◌≡◌, ◌<◌};
 ghost use Rattle.spec_cabac.specs.Engine.{IsLive};
-ghost use Rattle.spec_slice_data.specs.Inter.{beside_or_four, beside_parts, may_have_four, more_parts, part_mode, two_parts};
+ghost use Rattle.spec_slice_data.specs.Inter.{beside_or_four, beside_parts, may_have_four, more_parts, part_mode};
+ghost use Rattle.spec_slice_data.specs.Inter.{two_parts};
 ghost use Rattle.cabac_contexts.specs.Takes.{Takes};
 
 use cabac_contexts::BinReader;

@@ -74,7 +74,8 @@ pub fn coding_quadtree(
     requires least { syntax.now.log2_min_coding ≤ square.log2_size }
     requires depth { depth + square.log2_size ≤ 4 }
     requires room { length records.old.items + 64 * 4 ^ square.log2_size ≤ room }
-    ensures value { Fills result records.new reader.old reader.new (coding_quadtree syntax.now square.log2_size depth square records.old) }
+    ensures value { Fills result records.new reader.old reader.new
+        (coding_quadtree syntax.now square.log2_size depth square records.old) }
     ensures room { Grows result records.old records.new (64 * 4 ^ square.log2_size) }
 {
     if u32::from(square.x) >= syntax.right || u32::from(square.y) >= syntax.lower {
@@ -106,7 +107,8 @@ pub fn coding_tree_unit(
     requires syntax { IsSyntax syntax.now }
     requires least { syntax.now.log2_min_coding ≤ records.old.size }
     requires empty { records.old.items ≡ [] }
-    ensures value { Fills result records.new reader.old reader.new (coding_tree_unit syntax.now left above records.old) }
+    ensures value { Fills result records.new reader.old reader.new
+        (coding_tree_unit syntax.now left above records.old) }
 {
     let offsets = sao(reader, syntax, left, above)?;
     records.set_sao(offsets);

@@ -3,7 +3,8 @@
 ghost use Rattle.std.specs.Prelude.{◌≡◌, ℕ, ◌+◌, ◌-◌, ◌*◌, ◌/◌, ◌^◌, ◌<◌, ◌≤◌, true, length, IfOk};
 ghost use Rattle.ctu_records.specs.Tree.{IsPlaced, room};
 ghost use Rattle.spec_cabac.specs.Engine.{IsLive};
-ghost use Rattle.spec_slice_data.specs.Quantization.{cu_qp_delta, cu_qp_delta_abs, delta_where, group_at, grouped, is_delta, qp_of};
+ghost use Rattle.spec_slice_data.specs.Quantization.{cu_qp_delta, cu_qp_delta_abs, delta_where, group_at, grouped};
+ghost use Rattle.spec_slice_data.specs.Quantization.{is_delta, qp_of};
 ghost use Rattle.cabac_contexts.specs.Takes.{Takes};
 ghost use Rattle.coding_quadtree.specs.Leaves.{Fills, Grows};
 

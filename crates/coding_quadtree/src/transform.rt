@@ -4,7 +4,9 @@ ghost use Rattle.std.specs.Prelude.{◌≡◌, ℕ, ◌+◌, ◌-◌, ◌*◌, �
 ghost use Rattle.ctu_records.specs.Tree.{IsPlaced, room};
 ghost use Rattle.spec_cabac.specs.Engine.{IsLive};
 ghost use Rattle.spec_slice_data.specs.Syntax.{IsSyntax};
-ghost use Rattle.spec_slice_data.specs.Transform.{cbf_chroma, cbf_luma, cbf_luma_at, chroma_blocks, chroma_flags, chroma_of, luma_of, max_depth, split_transform_flag, transform_blocks, transform_tree, transform_unit};
+ghost use Rattle.spec_slice_data.specs.Transform.{cbf_chroma, cbf_luma, cbf_luma_at, chroma_blocks, chroma_flags};
+ghost use Rattle.spec_slice_data.specs.Transform.{chroma_of, luma_of, max_depth, split_transform_flag};
+ghost use Rattle.spec_slice_data.specs.Transform.{transform_blocks, transform_tree, transform_unit};
 ghost use Rattle.cabac_contexts.specs.Takes.{Takes};
 ghost use Rattle.coding_quadtree.specs.Leaves.{Fills, Grows};
 
@@ -60,7 +62,8 @@ fn split_transform_flag(
 ) -> Result<bool, Breach>
     requires live { IsLive reader.old.interval }
     requires syntax { IsSyntax of.now.syntax }
-    ensures value { Takes (λ x. x) result reader.old reader.new (split_transform_flag of.now.syntax of.now.unit n depth) }
+    ensures value { Takes (λ x. x) result reader.old reader.new
+        (split_transform_flag of.now.syntax of.now.unit n depth) }
     ensures small { IfOk result (λ split. split ≡ false → n ≤ 3) }
 {
     let (syntax, unit) = (&of.syntax, &of.unit);
@@ -116,7 +119,8 @@ fn chroma_blocks(
     requires least { 1 ≤ node.square.log2_size }
     requires greatest { node.square.log2_size ≤ 3 }
     requires room { length records.old.items + (2 + 8 * 4 ^ node.square.log2_size) ≤ room }
-    ensures value { Fills result records.new reader.old reader.new (chroma_blocks of.now.syntax of.now.unit node.flags node.square records.old) }
+    ensures value { Fills result records.new reader.old reader.new
+        (chroma_blocks of.now.syntax of.now.unit node.flags node.square records.old) }
     ensures room { Grows result records.old records.new (2 + 8 * 4 ^ node.square.log2_size) }
 {
     let cb = TransformBlock {
@@ -144,7 +148,8 @@ fn chroma_of(
     requires placed { IsPlaced node.square }
     requires greatest { node.square.log2_size ≤ 3 }
     requires room { length records.old.items + (26 + 8 * 4 ^ node.square.log2_size) ≤ room }
-    ensures value { Fills result records.new reader.old reader.new (chroma_of of.now.syntax of.now.unit node.flags node.square records.old) }
+    ensures value { Fills result records.new reader.old reader.new
+        (chroma_of of.now.syntax of.now.unit node.flags node.square records.old) }
     ensures room { Grows result records.old records.new (26 + 8 * 4 ^ node.square.log2_size) }
 {
     let square = node.square;
@@ -177,7 +182,8 @@ fn luma_of(
     requires placed { IsPlaced square }
     requires greatest { square.log2_size ≤ 3 }
     requires room { length records.old.items + (1 + 16 * 4 ^ square.log2_size) ≤ room }
-    ensures value { Fills result records.new reader.old reader.new (luma_of of.now.syntax of.now.unit coded square records.old) }
+    ensures value { Fills result records.new reader.old reader.new
+        (luma_of of.now.syntax of.now.unit coded square records.old) }
     ensures room { Grows result records.old records.new (1 + 16 * 4 ^ square.log2_size) }
 {
     let block = TransformBlock {
@@ -206,7 +212,8 @@ fn transform_blocks(
     requires placed { IsPlaced node.square }
     requires greatest { node.square.log2_size ≤ 3 }
     requires room { length records.old.items + (28 + 24 * 4 ^ node.square.log2_size) ≤ room }
-    ensures value { Fills result records.new reader.old reader.new (transform_blocks of.now.syntax of.now.unit cbf_luma node.flags node.square records.old) }
+    ensures value { Fills result records.new reader.old reader.new
+        (transform_blocks of.now.syntax of.now.unit cbf_luma node.flags node.square records.old) }
     ensures room { Grows result records.old records.new (28 + 24 * 4 ^ node.square.log2_size) }
 {
     let coded = cbf_luma || (node.flags.cb || node.flags.cr);
@@ -261,7 +268,8 @@ fn transform_unit(
     requires placed { IsPlaced node.square }
     requires greatest { node.square.log2_size ≤ 3 }
     requires room { length records.old.items + (29 + 24 * 4 ^ node.square.log2_size) ≤ room }
-    ensures value { Fills result records.new reader.old reader.new (transform_unit of.now.syntax of.now.unit node.flags node.depth node.square records.old) }
+    ensures value { Fills result records.new reader.old reader.new
+        (transform_unit of.now.syntax of.now.unit node.flags node.depth node.square records.old) }
     ensures room { Grows result records.old records.new (29 + 24 * 4 ^ node.square.log2_size) }
 {
     let cbf_luma = cbf_luma_at(reader, &of.unit, node.flags, node.depth)?;
@@ -290,7 +298,8 @@ pub fn transform_tree(
     requires placed { IsPlaced node.square }
     requires depth { node.depth + node.square.log2_size ≤ 4 }
     requires room { length records.old.items + 56 * 4 ^ node.square.log2_size ≤ room }
-    ensures value { Fills result records.new reader.old reader.new (transform_tree of.now.syntax of.now.unit node.flags node.square.log2_size node.depth node.square records.old) }
+    ensures value { Fills result records.new reader.old reader.new
+        (transform_tree of.now.syntax of.now.unit node.flags node.square.log2_size node.depth node.square records.old) }
     ensures room { Grows result records.old records.new (56 * 4 ^ node.square.log2_size) }
 {
     let square = node.square;

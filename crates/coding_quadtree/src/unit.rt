@@ -4,7 +4,9 @@ ghost use Rattle.std.specs.Prelude.{◌≡◌, ℕ, ◌+◌, ◌-◌, ◌*◌, �
 ghost use Rattle.ctu_records.specs.Tree.{IsPlaced, room};
 ghost use Rattle.spec_cabac.specs.Engine.{IsLive};
 ghost use Rattle.spec_slice_data.specs.Syntax.{IsSyntax};
-ghost use Rattle.spec_slice_data.specs.Tree.{begun_unit, coding_unit, inter_syntax, inter_unit, intra_body, intra_syntax, intra_unit, is_split, parts_and_tree, pcm_flag, pcm_sample, pcm_samples, pcm_unit, skipped_unit, unit_body, unit_tree};
+ghost use Rattle.spec_slice_data.specs.Tree.{begun_unit, coding_unit, inter_syntax, inter_unit, intra_body};
+ghost use Rattle.spec_slice_data.specs.Tree.{intra_syntax, intra_unit, is_split, parts_and_tree, pcm_flag, pcm_sample};
+ghost use Rattle.spec_slice_data.specs.Tree.{pcm_samples, pcm_unit, skipped_unit, unit_body, unit_tree};
 ghost use Rattle.cabac_contexts.specs.Takes.{Reaches, Takes, state_of};
 ghost use Rattle.spec_cabac.specs.Bins.{read};
 ghost use Rattle.coding_quadtree.specs.Leaves.{Fills, Grows, Leaves};
@@ -28,7 +30,8 @@ use spec_slice_data::{ChromaFlags, CtuSyntax, PcmSyntax, UnitStart, UnitSyntax};
 fn pcm_sample(reader: &mut BinReader<'_>, records: &mut Records, bits: u8) -> Result<(), Breach>
     requires bits { bits ≤ 16 }
     requires room { length records.old.items + 1 ≤ room }
-    ensures value { (i : ℕ) → Leaves result records.new (state_of reader.new) (read (pcm_sample bits i records.old) (state_of reader.old)) }
+    ensures value { (i : ℕ)
+        → Leaves result records.new (state_of reader.new) (read (pcm_sample bits i records.old) (state_of reader.old)) }
     ensures room { Grows result records.old records.new 1 }
 {
     let value = reader.sample(u32::from(bits))?;
@@ -45,7 +48,8 @@ fn pcm_samples(
 ) -> Result<(), Breach>
     requires bits { bits ≤ 16 }
     requires room { length records.old.items + count ≤ room }
-    ensures value { Leaves result records.new (state_of reader.new) (read (pcm_samples bits count records.old) (state_of reader.old)) }
+    ensures value { Leaves result records.new (state_of reader.new)
+        (read (pcm_samples bits count records.old) (state_of reader.old)) }
     ensures room { Grows result records.old records.new count }
 {
     for i in 0..count {
@@ -251,7 +255,8 @@ fn parts_and_tree(
     requires placed { IsPlaced start.now.square }
     requires depth { start.now.depth ≤ 3 }
     requires room { length records.old.items + (4 + 56 * 4 ^ start.now.square.log2_size) ≤ room }
-    ensures value { Fills result records.new reader.old reader.new (parts_and_tree syntax.now start.now mode records.old) }
+    ensures value { Fills result records.new reader.old reader.new
+        (parts_and_tree syntax.now start.now mode records.old) }
     ensures room { Grows result records.old records.new (4 + 56 * 4 ^ start.now.square.log2_size) }
 {
     let inter = &syntax.inter;

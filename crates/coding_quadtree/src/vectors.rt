@@ -2,7 +2,9 @@
 
 ghost use Rattle.std.specs.Prelude.{◌≡◌, ◌+◌, ◌<◌, ◌≤◌, true, false};
 ghost use Rattle.spec_cabac.specs.Engine.{IsLive};
-ghost use Rattle.spec_slice_data.specs.Inter.{abs_mvd_greater1_flag, difference, difference_size, difference_where, inter_pred_idc, is_difference, mvd_coding, one_list, one_or_both, some_difference, vector_in, vector_where, vectors};
+ghost use Rattle.spec_slice_data.specs.Inter.{abs_mvd_greater1_flag, difference, difference_size, difference_where};
+ghost use Rattle.spec_slice_data.specs.Inter.{inter_pred_idc, is_difference, mvd_coding, one_list, one_or_both};
+ghost use Rattle.spec_slice_data.specs.Inter.{some_difference, vector_in, vector_where, vectors};
 ghost use Rattle.spec_slice_data.specs.Offset.{signed};
 ghost use Rattle.cabac_contexts.specs.Takes.{Takes};
 

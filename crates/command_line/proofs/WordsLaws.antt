@@ -1,6 +1,8 @@
 -- From what clap answers to which words are taken.
-use Rattle.std.proofs.Common.{◌≡◌, ◌≢◌, true, List, [], ◌∷◌, ℕ, Option, None, option_map, option_and_then, refl, sym, ap, ap₂, subst, ◌∙◌, inl, inr}
-use Rattle.clap.specs.Words.{App, HasKind, HasMatchesOf, Kinds, fault_of, is_simple, is_simple_and_free, kind_of, subcommand_of, subcommand_rows_of}
+use Rattle.std.proofs.Common.{◌≡◌, ◌≢◌, true, List, [], ◌∷◌, ℕ, Option, None, option_map, option_and_then, refl, sym}
+use Rattle.std.proofs.Common.{ap, ap₂, subst, ◌∙◌, inl, inr}
+use Rattle.clap.specs.Words.{App, HasKind, HasMatchesOf, Kinds, fault_of, is_simple, is_simple_and_free, kind_of}
+use Rattle.clap.specs.Words.{subcommand_of, subcommand_rows_of}
 use Rattle.clap.specs.declared.error.Error.{Error}
 use Rattle.clap.specs.declared.error.kind.ErrorKind.TheVariants as kind
 use Rattle.clap.specs.declared.parser.matches.ArgMatches.{ArgMatches}
@@ -25,7 +27,8 @@ unfolding faults_of matches_of
 taken a words m same kinds rows =
     let none : fault_of program_command words ≡ [] =
     ap (λ (x : App). fault_of x words) (sym same) ∙ kinds (ap is_simple_and_free same ∙ is_exact) in
-    let found = ap (λ (x : App). subcommand_of x words) (sym same) ∙ sym (rows (ap is_simple same ∙ has_exact_matches)).1 in
+    let found =
+    ap (λ (x : App). subcommand_of x words) (sym same) ∙ sym (rows (ap is_simple same ∙ has_exact_matches)).1 in
     ap₂ (λ k r. unless_refused k (option_and_then options_of (option_map (λ p. p.1) r))) none found
 
 none_taken : (kinds : Kinds) (e : Error) (options : Option Options) → HasKind kinds e → kind_of e ≢ kind.OutOfMemory

@@ -1,7 +1,10 @@
 -- The command line: which words are taken, and what they ask for.
-use Rattle.std.specs.Prelude.{ℕ, ◌+◌, ◌-◌, ◌*◌, ◌&&◌, Bool, true, false, List, [], ◌∷◌, ◌++◌, not, map, codes, bytes_eq, Option, Some, None, option_map, option_and_then, if◌then◌else◌, nat_le, string_bytes, String}
+use Rattle.std.specs.Prelude.{ℕ, ◌+◌, ◌-◌, ◌*◌, ◌&&◌, Bool, true, false, List, [], ◌∷◌, ◌++◌, not, map, codes, bytes_eq}
+use Rattle.std.specs.Prelude.{Option, Some, None, option_map, option_and_then, if◌then◌else◌, nat_le, string_bytes}
+use Rattle.std.specs.Prelude.{String}
 use Rattle.std.specs.Global.{Global}
-use Rattle.clap.specs.Words.{App, Kinds, Row, Rule, fault_of, first_of, new_app, new_rule, subcommand_of, with_rule, with_subcommand}
+use Rattle.clap.specs.Words.{App, Kinds, Row, Rule, fault_of, first_of, new_app, new_rule, subcommand_of, with_rule}
+use Rattle.clap.specs.Words.{with_subcommand}
 use Rattle.clap.specs.Simple.{on_top}
 use Rattle.clap.specs.declared.builder.action.ArgAction.TheVariants.{SetTrue}
 use Rattle.clap.specs.declared.builder.value_parser.ValueParser.TheVariants as vp
@@ -81,7 +84,8 @@ unless_refused (kind ∷ kinds) options = None
 -- what the words ask for; nothing where they are a faulty command line
 abbrev pub words_taken : List (String Global) → Option Options
 words_taken words =
-    unless_refused (faults_of (map string_bytes words)) (option_and_then options_of (matches_of (map string_bytes words)))
+    unless_refused (faults_of (map string_bytes words))
+    (option_and_then options_of (matches_of (map string_bytes words)))
 
 -- the line that a faulty command line is answered by
 abbrev pub usage_line : List ℕ

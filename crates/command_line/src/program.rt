@@ -44,7 +44,8 @@ pub fn run<R: Threads + Wait + Sync, S: Source, O: Sink, E: Sink, G: Gate + Sync
         → Tells (change_of E.contents E.faults err.old err.new) (outcome_line Outcome.Memory) }
 
     // Else there is an outcome that the status and the line tell, and for which the headline holds.
-    ensures decodes { (options : Options) → words_taken words.now ≡ Some options → (o : Outcome) × (result.0 ≡ status_of o)
+    ensures decodes { (options : Options) → words_taken words.now ≡ Some options
+        → (o : Outcome) × (result.0 ≡ status_of o)
         × Headline (change_of S.left S.faults src.old src.new) (change_of O.contents O.faults out.old out.new) o
         × IsComplete (change_of S.left S.faults src.old src.new) (change_of O.contents O.faults out.old out.new) o
         × Tells (change_of E.contents E.faults err.old err.new) (outcome_line o) }

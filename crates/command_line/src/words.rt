@@ -1,10 +1,12 @@
 //! The words of the command line.
 
-ghost use Rattle.std.specs.Prelude.{◌≡◌, ◌≢◌, ◌-◌, ◌≤◌, None, Some, Err, IfOk, IfSome, false, option_and_then, option_map};
+ghost use Rattle.std.specs.Prelude.{◌≡◌, ◌≢◌, ◌-◌, ◌≤◌, None, Some, Err, IfOk, IfSome, false, option_and_then};
+ghost use Rattle.std.specs.Prelude.{option_map};
 ghost use Rattle.clap.specs.Words.{app_of, first_of, found_of, kind_of, rows_of, rule_of, subcommand_rows_of};
 ghost use Rattle.clap.specs.declared.builder.command.Command.TheViews.{out-Command};
 ghost use Rattle.decoder.specs.Options.{IsInRange};
-ghost use Rattle.command_line.specs.Words.{decode_command, flag_rule, is_digit, is_first_digit, is_set, number_given, number_of, number_rule, options_of, program_command, words_taken};
+ghost use Rattle.command_line.specs.Words.{decode_command, flag_rule, is_digit, is_first_digit, is_set, number_given};
+ghost use Rattle.command_line.specs.Words.{number_of, number_rule, options_of, program_command, words_taken};
 
 use clap::builder::ValueParser;
 use clap::error::ErrorKind;

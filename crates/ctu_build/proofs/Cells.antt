@@ -1,5 +1,7 @@
 -- Cells, what is known in them, and how they are changed.
-use Rattle.std.proofs.Common.{◌≡◌, ℕ, ◌+◌, ◌-◌, ◌*◌, ◌<◌, ◌≤◌, ◌==◌, ◌&&◌, cond, nat_le, nat_lt, Bool, true, false, ℤ, List, ◌∷◌, [], Option, Some, None, inl, inr, length, get_or, replicate, take, drop, ap, ◌∙◌, refl, arith, if◌then◌else◌, unwrap_or}
+use Rattle.std.proofs.Common.{◌≡◌, ℕ, ◌+◌, ◌-◌, ◌*◌, ◌<◌, ◌≤◌, ◌==◌, ◌&&◌, cond, nat_le, nat_lt, Bool, true, false, ℤ}
+use Rattle.std.proofs.Common.{List, ◌∷◌, [], Option, Some, None, inl, inr, length, get_or, replicate, take, drop, ap}
+use Rattle.std.proofs.Common.{◌∙◌, refl, arith, if◌then◌else◌, unwrap_or}
 use Rattle.std.proofs.Math.ListN.{get_or-eq_default}
 use Rattle.std.proofs.lemmas.Bool.{cases_lt}
 use Rattle.std.proofs.lemmas.Bool.Decides.{nat_tests}
@@ -15,7 +17,8 @@ same_at n k d = elim (cases_lt k n) [
 ]
 
 -- cells of which none was used
-pub are_new : (n : ℕ) (values : List ℕ) (known : List Bool) → values ≡ replicate n 0 → known ≡ replicate n false → AreCells values known 0
+pub are_new : (n : ℕ) (values : List ℕ) (known : List Bool) → values ≡ replicate n 0 → known ≡ replicate n false
+    → AreCells values known 0
 are_new n values known v k = record {
   few = omega arith;
   zeros = λ c i j hc hi hj none. rw v (same_at n (cell c i j) 0);
@@ -23,7 +26,9 @@ are_new n values known v k = record {
 }
 
 -- in which nothing is known
-pub nothing_held : (cells : Cells) → ((c i j : ℕ) → c < 3 → i < 129 → j < 65 → get_or cells.known (cell c i j) false ≡ false) → (c i j : ℕ) → held cells c i j ≡ None
+pub nothing_held : (cells : Cells)
+    → ((c i j : ℕ) → c < 3 → i < 129 → j < 65 → get_or cells.known (cell c i j) false ≡ false)
+    → (c i j : ℕ) → held cells c i j ≡ None
 unfolding held
 nothing_held cells none c i j = let z = none c i j in grind (arith, nat_tests)
 
@@ -31,40 +36,54 @@ pub new_held : (n : ℕ) (cells : Cells) → cells.known ≡ replicate n false �
 new_held n cells e = nothing_held cells (λ c i j hc hi hj. rw e (same_at n (cell c i j) false))
 
 -- cells that become known, of lines before one
-pub are_laid : (values values' : List ℕ) (known known' : List Bool) (lines lines' : ℕ) (inside : ℕ → ℕ → ℕ → Bool) (sample : ℕ → ℕ → ℕ → ℕ)
+pub are_laid : (values values' : List ℕ) (known known' : List Bool) (lines lines' : ℕ) (inside : ℕ → ℕ → ℕ → Bool)
+    (sample : ℕ → ℕ → ℕ → ℕ)
     → AreCells values known lines → lines' ≤ 65 → lines ≤ lines' → ((c i j : ℕ) → inside c i j ≡ true → j < lines')
-    → ((c i j : ℕ) → c < 3 → i < 129 → j < 65 → get_or known' (cell c i j) false ≡ cond (inside c i j) true (get_or known (cell c i j) false))
-    → ((c i j : ℕ) → c < 3 → i < 129 → j < 65 → get_or values' (cell c i j) 0 ≡ cond (inside c i j) (sample c i j) (get_or values (cell c i j) 0))
+    → ((c i j : ℕ) → c < 3 → i < 129 → j < 65
+    → get_or known' (cell c i j) false ≡ cond (inside c i j) true (get_or known (cell c i j) false))
+    → ((c i j : ℕ) → c < 3 → i < 129 → j < 65
+    → get_or values' (cell c i j) 0 ≡ cond (inside c i j) (sample c i j) (get_or values (cell c i j) 0))
     → AreCells values' known' lines'
 are_laid values values' known known' lines lines' inside sample are few more lies marks lays = record {
   few = few;
-  zeros = λ c i j hc hi hj none. let m = marks c i j hc hi hj in let l = lays c i j hc hi hj in let z = are.zeros c i j hc hi hj in grind (arith, nat_tests);
-  unused = λ c i j hc hi hj le. let m = marks c i j hc hi hj in let u = are.unused c i j hc hi hj in let n = lies c i j in grind (arith, nat_tests);
+  zeros = λ c i j hc hi hj none. let m = marks c i j hc hi hj in
+      let l = lays c i j hc hi hj in let z = are.zeros c i j hc hi hj in grind (arith, nat_tests);
+  unused = λ c i j hc hi hj le. let m = marks c i j hc hi hj in
+      let u = are.unused c i j hc hi hj in let n = lies c i j in grind (arith, nat_tests);
 }
 
 -- what residuals leave where no sample is known
-none_added : (b k : Bool) (depth : ℕ) (r : ℤ) (v v' : ℕ) → v' ≡ cond b (added depth k r v) v → k ≡ false → v ≡ 0 → v' ≡ 0
+none_added : (b k : Bool) (depth : ℕ) (r : ℤ) (v v' : ℕ) → v' ≡ cond b (added depth k r v) v → k ≡ false → v ≡ 0
+    → v' ≡ 0
 unfolding added
 none_added false k depth r v v' e none zero = e ∙ zero
 none_added true k depth r v v' e none zero = rw (e, none) zero
 
 -- cells whose known samples are changed
-pub are_added : (values values' : List ℕ) (known : List Bool) (lines depth : ℕ) (inside : ℕ → ℕ → ℕ → Bool) (residual : ℕ → ℕ → ℤ)
+pub are_added : (values values' : List ℕ) (known : List Bool) (lines depth : ℕ) (inside : ℕ → ℕ → ℕ → Bool)
+    (residual : ℕ → ℕ → ℤ)
     → AreCells values known lines
-    → ((c i j : ℕ) → c < 3 → i < 129 → j < 65 → get_or values' (cell c i j) 0 ≡ cond (inside c i j) (added depth (get_or known (cell c i j) false) (residual i j) (get_or values (cell c i j) 0)) (get_or values (cell c i j) 0))
+    → ((c i j : ℕ) → c < 3 → i < 129 → j < 65
+    → get_or values' (cell c i j) 0
+    ≡ cond (inside c i j) (added depth (get_or known (cell c i j) false) (residual i j) (get_or values (cell c i j) 0))
+    (get_or values (cell c i j) 0))
     → AreCells values' known lines
 are_added values values' known lines depth inside residual are adds = record {
   few = are.few;
-  zeros = λ c i j hc hi hj none. none_added (inside c i j) _ depth (residual i j) _ _ (adds c i j hc hi hj) none (are.zeros c i j hc hi hj none);
+  zeros = λ c i j hc hi hj none. none_added (inside c i j) _ depth (residual i j) _ _ (adds c i j hc hi hj) none
+      (are.zeros c i j hc hi hj none);
   unused = are.unused;
 }
 
 -- what is known in a cell that was laid, and in one that a residual was added to
-pub in_laid : (b k k' : Bool) (v v' x : ℕ) → k' ≡ cond b true k → v' ≡ cond b x v → (if k' then Some v' else None) ≡ cond b (Some x) (if k then Some v else None)
+pub in_laid : (b k k' : Bool) (v v' x : ℕ) → k' ≡ cond b true k → v' ≡ cond b x v
+    → (if k' then Some v' else None) ≡ cond b (Some x) (if k then Some v else None)
 in_laid false k k' v v' x e f = rw (e, f) refl
 in_laid true k k' v v' x e f = rw (e, f) refl
 
-pub in_added : (b k : Bool) (v v' depth : ℕ) (r : ℤ) → v' ≡ cond b (added depth k r v) v → (if k then Some v' else None) ≡ cond b (with_residual depth r (if k then Some v else None)) (if k then Some v else None)
+pub in_added : (b k : Bool) (v v' depth : ℕ) (r : ℤ) → v' ≡ cond b (added depth k r v) v
+    → (if k then Some v' else None)
+    ≡ cond b (with_residual depth r (if k then Some v else None)) (if k then Some v else None)
 unfolding added
 in_added false k v v' depth r e = rw e refl
 in_added true false v v' depth r e = refl
@@ -72,48 +91,73 @@ in_added true true v v' depth r e = rw e refl
 
 -- cells that become known, by place
 pub held_laid : (old new : Cells) (values values' : List ℕ) (known known' : List Bool) (c i j x : ℕ) (inside : Bool)
-    → old.values ≡ values → old.known ≡ known → new.values ≡ values' → new.known ≡ known' → (inside ≡ true → (c < 3) × ((i < 129) × (j < 65)))
+    → old.values ≡ values → old.known ≡ known → new.values ≡ values' → new.known ≡ known'
+    → (inside ≡ true → (c < 3) × ((i < 129) × (j < 65)))
     → (c < 3 → i < 129 → j < 65 → get_or known' (cell c i j) false ≡ cond inside true (get_or known (cell c i j) false))
     → (c < 3 → i < 129 → j < 65 → get_or values' (cell c i j) 0 ≡ cond inside x (get_or values (cell c i j) 0))
     → held new c i j ≡ cond inside (Some x) (held old c i j)
 unfolding held
-held_laid old new values values' known known' c i j x inside ov ok nv nk lies marks lays = rw (ov, ok, nv, nk) (grind (arith, nat_tests))
+held_laid old new values values' known known' c i j x inside ov ok nv nk lies marks lays =
+    rw (ov, ok, nv, nk) (grind (arith, nat_tests))
 
 -- a line of cells
-pub line_held : (values : List ℕ) (known : List Bool) (lines c i j : ℕ) (cells : Cells) → AreCells values known lines → cells.values ≡ values → cells.known ≡ known → c < 3 → i < 129 → j < 65
+pub line_held : (values : List ℕ) (known : List Bool) (lines c i j : ℕ) (cells : Cells) → AreCells values known lines
+    → cells.values ≡ values → cells.known ≡ known → c < 3 → i < 129 → j < 65
     → get_or values (cell c i j) 0 ≡ unwrap_or (held cells c i j) 0
 unfolding held
-line_held values known lines c i j cells are v k hc hi hj = let z = are.zeros c i j hc hi hj in rw (v, k) (grind (arith, nat_tests))
+line_held values known lines c i j cells are v k hc hi hj =
+    let z = are.zeros c i j hc hi hj in rw (v, k) (grind (arith, nat_tests))
 
 -- a line of cells from a column on, by place
 line_inside : (c column line n i j k : ℕ) → column + n ≤ 129 → c < 3 → line < 65 → i < 3 → j < 129 → k < 65
-    → (nat_le (cell c column line) (cell i j k) && nat_lt (cell i j k) (cell c column line + n)) ≡ ((i == c) && ((k == line) && (nat_le column j && nat_lt j (column + n))))
+    → (nat_le (cell c column line) (cell i j k) && nat_lt (cell i j k) (cell c column line + n))
+    ≡ ((i == c) && ((k == line) && (nat_le column j && nat_lt j (column + n))))
 line_inside c column line n i j k fits hc hl hi hj hk = grind (arith, nat_tests)
 
 cond_at : (b : Bool) (f : ℕ → ℕ) (m n z : ℕ) → (b ≡ true → m ≡ n) → cond b (f m) z ≡ cond b (f n) z
 cond_at true f m n z e = ap f (e refl)
 cond_at false f m n z e = refl
 
-line_place : (c column line n i j k : ℕ) → ((i == c) && ((k == line) && (nat_le column j && nat_lt j (column + n)))) ≡ true → cell i j k - cell c column line ≡ j - column
+line_place : (c column line n i j k : ℕ)
+    → ((i == c) && ((k == line) && (nat_le column j && nat_lt j (column + n)))) ≡ true
+    → cell i j k - cell c column line ≡ j - column
 line_place c column line n i j k is = grind (arith, nat_tests)
 
-pub line_marked : (known known' : List Bool) (c column line n first : ℕ) → first ≡ cell c column line → column + n ≤ 129 → c < 3 → line < 65
+pub line_marked : (known known' : List Bool) (c column line n first : ℕ) → first ≡ cell c column line → column + n ≤ 129
+    → c < 3 → line < 65
     → ((q : ℕ) → get_or known' q false ≡ cond (nat_le first q && nat_lt q (first + n)) true (get_or known q false))
-    → (i j k : ℕ) → i < 3 → j < 129 → k < 65 → get_or known' (cell i j k) false ≡ cond ((i == c) && ((k == line) && (nat_le column j && nat_lt j (column + n)))) true (get_or known (cell i j k) false)
+    → (i j k : ℕ) → i < 3 → j < 129 → k < 65
+    → get_or known' (cell i j k) false
+    ≡ cond ((i == c) && ((k == line) && (nat_le column j && nat_lt j (column + n)))) true
+    (get_or known (cell i j k) false)
 line_marked known known' c column line n first at fits hc hl marks i j k hi hj hk =
-    marks (cell i j k) ∙ ap (λ (f : ℕ). cond (nat_le f (cell i j k) && nat_lt (cell i j k) (f + n)) true (get_or known (cell i j k) false)) at ∙ ap (λ (b : Bool). cond b true (get_or known (cell i j k) false)) (line_inside c column line n i j k fits hc hl hi hj hk)
+    marks (cell i j k)
+    ∙ ap (λ (f : ℕ). cond (nat_le f (cell i j k) && nat_lt (cell i j k) (f + n)) true (get_or known (cell i j k) false))
+    at
+    ∙ ap (λ (b : Bool). cond b true (get_or known (cell i j k) false))
+    (line_inside c column line n i j k fits hc hl hi hj hk)
 
-pub line_copied : (values values' samples : List ℕ) (c column line first : ℕ) → first ≡ cell c column line → column + length samples ≤ 129 → c < 3 → line < 65
-    → ((q : ℕ) → get_or values' q 0 ≡ cond (nat_le first q && nat_lt q (first + length samples)) (get_or samples (q - first) 0) (get_or values q 0))
-    → (i j k : ℕ) → i < 3 → j < 129 → k < 65 → get_or values' (cell i j k) 0 ≡ cond ((i == c) && ((k == line) && (nat_le column j && nat_lt j (column + length samples)))) (get_or samples (j - column) 0) (get_or values (cell i j k) 0)
+pub line_copied : (values values' samples : List ℕ) (c column line first : ℕ) → first ≡ cell c column line
+    → column + length samples ≤ 129 → c < 3 → line < 65
+    → ((q : ℕ)
+    → get_or values' q 0
+    ≡ cond (nat_le first q && nat_lt q (first + length samples)) (get_or samples (q - first) 0) (get_or values q 0))
+    → (i j k : ℕ) → i < 3 → j < 129 → k < 65
+    → get_or values' (cell i j k) 0
+    ≡ cond ((i == c) && ((k == line) && (nat_le column j && nat_lt j (column + length samples))))
+    (get_or samples (j - column) 0) (get_or values (cell i j k) 0)
 line_copied values values' samples c column line first at fits hc hl copies i j k hi hj hk =
     copies (cell i j k)
-    ∙ ap (λ (f : ℕ). cond (nat_le f (cell i j k) && nat_lt (cell i j k) (f + length samples)) (get_or samples (cell i j k - f) 0) (get_or values (cell i j k) 0)) at
-    ∙ ap (λ (b : Bool). cond b (get_or samples (cell i j k - cell c column line) 0) (get_or values (cell i j k) 0)) (line_inside c column line (length samples) i j k fits hc hl hi hj hk)
+    ∙ ap (λ (f : ℕ). cond (nat_le f (cell i j k) && nat_lt (cell i j k) (f + length samples))
+    (get_or samples (cell i j k - f) 0) (get_or values (cell i j k) 0))
+    at
+    ∙ ap (λ (b : Bool). cond b (get_or samples (cell i j k - cell c column line) 0) (get_or values (cell i j k) 0))
+    (line_inside c column line (length samples) i j k fits hc hl hi hj hk)
     ∙ cond_at _ (λ m. get_or samples m 0) _ _ _ (line_place c column line (length samples) i j k)
 
 -- cells of which those of the lines in use are cleared
-pub none_left : (known first second third : List Bool) (values : List ℕ) (lines count : ℕ) → AreCells values known lines → count ≡ 129 * lines
+pub none_left : (known first second third : List Bool) (values : List ℕ) (lines count : ℕ) → AreCells values known lines
+    → count ≡ 129 * lines
     → ((q : ℕ) → get_or first q false ≡ cond (nat_le 0 q && nat_lt q (0 + count)) false (get_or known q false))
     → ((q : ℕ) → get_or second q false ≡ cond (nat_le 8385 q && nat_lt q (8385 + count)) false (get_or first q false))
     → ((q : ℕ) → get_or third q false ≡ cond (nat_le 16770 q && nat_lt q (16770 + count)) false (get_or second q false))
@@ -126,7 +170,8 @@ none_left known first second third values lines count are e a b d c i j hc hi hj
     let z = d (cell c i j) in
     grind (arith, nat_tests)
 
-pub zeros_left : (values first second third : List ℕ) (known : List Bool) (lines count : ℕ) → AreCells values known lines → count ≡ 129 * lines
+pub zeros_left : (values first second third : List ℕ) (known : List Bool) (lines count : ℕ)
+    → AreCells values known lines → count ≡ 129 * lines
     → ((q : ℕ) → get_or first q 0 ≡ cond (nat_le 0 q && nat_lt q (0 + count)) 0 (get_or values q 0))
     → ((q : ℕ) → get_or second q 0 ≡ cond (nat_le 8385 q && nat_lt q (8385 + count)) 0 (get_or first q 0))
     → ((q : ℕ) → get_or third q 0 ≡ cond (nat_le 16770 q && nat_lt q (16770 + count)) 0 (get_or second q 0))
@@ -150,22 +195,32 @@ are_cleared values known zeros none = record {
 }
 
 -- where the cells of a line are
-pub line_bounds : (c column line n i j k : ℕ) → column + n ≤ 129 → c < 3 → line < 65 → ((i == c) && ((k == line) && (nat_le column j && nat_lt j (column + n)))) ≡ true → (i < 3) × ((j < 129) × (k < 65))
-line_bounds c column line n i j k fits hc hl is = (grind (arith, nat_tests), (grind (arith, nat_tests), grind (arith, nat_tests)))
+pub line_bounds : (c column line n i j k : ℕ) → column + n ≤ 129 → c < 3 → line < 65
+    → ((i == c) && ((k == line) && (nat_le column j && nat_lt j (column + n)))) ≡ true
+    → (i < 3) × ((j < 129) × (k < 65))
+line_bounds c column line n i j k fits hc hl is =
+    (grind (arith, nat_tests), (grind (arith, nat_tests), grind (arith, nat_tests)))
 
-pub line_lines : (c column line n lines : ℕ) → line + 1 ≤ lines → (i j k : ℕ) → ((i == c) && ((k == line) && (nat_le column j && nat_lt j (column + n)))) ≡ true → k < lines
+pub line_lines : (c column line n lines : ℕ) → line + 1 ≤ lines
+    → (i j k : ℕ) → ((i == c) && ((k == line) && (nat_le column j && nat_lt j (column + n)))) ≡ true → k < lines
 line_lines c column line n lines more i j k is = grind (arith, nat_tests)
 
-pub place_lines : (place : Place) (n lines : ℕ) → place.y + 1 + n ≤ lines → (c i j : ℕ) → inside_of place n c i j ≡ true → j < lines
+pub place_lines : (place : Place) (n lines : ℕ) → place.y + 1 + n ≤ lines → (c i j : ℕ) → inside_of place n c i j ≡ true
+    → j < lines
 place_lines place n lines more c i j is = grind (arith, nat_tests)
 
 -- a part of the cells that is a line
-pub line_part : (values : List ℕ) (c line first n j : ℕ) → first ≡ cell c 0 line → j < n → get_or (take n (drop first values)) j 0 ≡ get_or values (cell c j line) 0
+pub line_part : (values : List ℕ) (c line first n j : ℕ) → first ≡ cell c 0 line → j < n
+    → get_or (take n (drop first values)) j 0 ≡ get_or values (cell c j line) 0
 line_part values c line first n j at lt =
-    get_or-take n (drop first values) j 0 lt ∙ get_or-drop first values j 0 ∙ ap (λ (q : ℕ). get_or values q 0) (omega (arith, at))
+    get_or-take n (drop first values) j 0 lt ∙ get_or-drop first values j 0
+    ∙ ap (λ (q : ℕ). get_or values q 0) (omega (arith, at))
 
 -- a line of one sample
 pub put_one : (c column line value i j k : ℕ) (old new : Option ℕ)
-    → new ≡ (if (i == c) && ((k == line) && (nat_le column j && nat_lt j (column + 1))) then Some (get_or (value ∷ []) (j - column) 0) else old)
+    → new
+    ≡ (if (i == c) && ((k == line) && (nat_le column j && nat_lt j (column + 1)))
+    then Some (get_or (value ∷ []) (j - column) 0)
+    else old)
     → new ≡ (if (i == c) && ((j == column) && (k == line)) then Some value else old)
 put_one c column line value i j k old new told = grind (arith, nat_tests)

@@ -1,7 +1,8 @@
 -- The parts of coding units.
 use Rattle.std.proofs.Common.{◌≤◌, arith}
 use Rattle.ctu_records.specs.declared.prediction.PartMode.{PartMode}
-use Rattle.ctu_records.specs.declared.prediction.PartMode.TheVariants.{Whole, TwoNxN, Nx2N, NxN, TwoNxnU, TwoNxnD, NLx2N, NRx2N}
+use Rattle.ctu_records.specs.declared.prediction.PartMode.TheVariants.{Whole, TwoNxN, Nx2N, NxN, TwoNxnU, TwoNxnD}
+use Rattle.ctu_records.specs.declared.prediction.PartMode.TheVariants.{NLx2N, NRx2N}
 use Rattle.ctu_records.specs.declared.prediction.PredictionUnit.{PredictionUnit}
 use Rattle.spec_motion.specs.Derivation.{IsPlaced}
 use Rattle.spec_reconstruction.specs.Sound.{IsPrediction}

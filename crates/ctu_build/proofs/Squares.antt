@@ -1,5 +1,6 @@
 -- Samples and residuals of a block by place.
-use Rattle.std.proofs.Common.{◌≡◌, ℕ, ◌+◌, ◌*◌, ◌%◌, ◌^◌, ◌<◌, ◌≤◌, true, false, ℤ, Some, List, get_or, ap, ◌∙◌, ◌-◌, refl, arith}
+use Rattle.std.proofs.Common.{◌≡◌, ℕ, ◌+◌, ◌*◌, ◌%◌, ◌^◌, ◌<◌, ◌≤◌, true, false, ℤ, Some, List, get_or, ap, ◌∙◌, ◌-◌}
+use Rattle.std.proofs.Common.{refl, arith}
 use Rattle.std.specs.List.{All}
 use Rattle.std.proofs.lemmas.Int.{ints}
 use Rattle.ctu_records.specs.declared.item.CodedBlock.{CodedBlock}
@@ -30,63 +31,101 @@ use Rattle.ctu_build.proofs.Changes.{changed_same}
 pub below_square : (n x y : ℕ) → x < n → y < n → n * y + x < n * n
 below_square n x y hx hy = let le : n * (y + 1) ≤ n * n = mul-le-mul_left n (omega arith) in grind arith
 
-pub laid_same : (c x y n : ℕ) (f g : ℕ → ℕ → ℕ) (known : Known) → ((i j : ℕ) → i < n → j < n → f i j ≡ g i j) → laid c x y n f known ≡ laid c x y n g known
+pub laid_same : (c x y n : ℕ) (f g : ℕ → ℕ → ℕ) (known : Known) → ((i j : ℕ) → i < n → j < n → f i j ≡ g i j)
+    → laid c x y n f known ≡ laid c x y n g known
 laid_same c x y n f g known same =
-    changed_same c x y n (λ i j before. Some (f i j)) (λ i j before. Some (g i j)) known (λ i j before hi hj. ap (λ (v : ℕ). Some v) (same i j hi hj))
+    changed_same c x y n (λ i j before. Some (f i j)) (λ i j before. Some (g i j)) known
+    (λ i j before hi hj. ap (λ (v : ℕ). Some v) (same i j hi hj))
 
-pub constructed_same : (depth c x y n : ℕ) (f g : ℕ → ℕ → ℤ) (known : Known) → ((i j : ℕ) → i < n → j < n → f i j ≡ g i j) → constructed depth c x y n f known ≡ constructed depth c x y n g known
+pub constructed_same : (depth c x y n : ℕ) (f g : ℕ → ℕ → ℤ) (known : Known)
+    → ((i j : ℕ) → i < n → j < n → f i j ≡ g i j)
+    → constructed depth c x y n f known ≡ constructed depth c x y n g known
 constructed_same depth c x y n f g known same =
-    changed_same c x y n (λ i j before. with_residual depth (f i j) before) (λ i j before. with_residual depth (g i j) before) known (λ i j before hi hj. ap (λ (v : ℤ). with_residual depth v before) (same i j hi hj))
+    changed_same c x y n (λ i j before. with_residual depth (f i j) before)
+    (λ i j before. with_residual depth (g i j) before) known
+    (λ i j before hi hj. ap (λ (v : ℤ). with_residual depth v before) (same i j hi hj))
 
 pub levels_are_residuals : (levels : List ℤ) → All Is16 levels → All IsResidual levels
 levels_are_residuals levels all = λ i d lt. let v = all i d lt in (omega (arith, ints, v), omega (arith, ints, v))
 
 -- the place of a block, and its depth, in the words of the block
 placed : (format : UnitFormat) (block : CodedBlock) (place : Place) (depth : ℕ) (f g : ℕ → ℕ → ℤ) (before after : Known)
-    → after ≡ constructed depth place.c place.x place.y (2 ^ place.log2) f before → place ≡ place_of block → depth ≡ depth_of format block.component
+    → after ≡ constructed depth place.c place.x place.y (2 ^ place.log2) f before → place ≡ place_of block
+    → depth ≡ depth_of format block.component
     → ((i j : ℕ) → i < 2 ^ block.log2_size → j < 2 ^ block.log2_size → f i j ≡ g i j)
-    → after ≡ constructed (depth_of format block.component) block.component (samples_of_place block.component * block.x) (samples_of_place block.component * block.y) (2 ^ block.log2_size) g before
+    → after
+    ≡ constructed (depth_of format block.component) block.component (samples_of_place block.component * block.x)
+    (samples_of_place block.component * block.y) (2 ^ block.log2_size) g before
 placed format block place depth f g before after told at e same =
     (rw (e, at) at told) ∙ constructed_same _ _ _ _ _ f g before same
 
 -- a block whose levels are its residuals
-pub bypass_constructed : (format : UnitFormat) (mode : UnitMode) (block : CodedBlock) (qp : ℕ) (items : List Item) (levels : List ℤ) (count : ℕ) (place : Place) (depth : ℕ) (before after : Known)
-    → after ≡ constructed depth place.c place.x place.y (2 ^ place.log2) (block_in (2 ^ place.log2) levels) before → place ≡ place_of block → depth ≡ depth_of format block.component
-    → mode.transquant_bypass ≡ true → levels ≡ levels_behind count items → count ≡ 2 ^ block.log2_size * 2 ^ block.log2_size
-    → after ≡ constructed (depth_of format block.component) block.component (samples_of_place block.component * block.x) (samples_of_place block.component * block.y) (2 ^ block.log2_size) (residuals_behind format mode block qp items) before
+pub bypass_constructed : (format : UnitFormat) (mode : UnitMode) (block : CodedBlock) (qp : ℕ) (items : List Item)
+    (levels : List ℤ) (count : ℕ) (place : Place) (depth : ℕ) (before after : Known)
+    → after ≡ constructed depth place.c place.x place.y (2 ^ place.log2) (block_in (2 ^ place.log2) levels) before
+    → place ≡ place_of block → depth ≡ depth_of format block.component
+    → mode.transquant_bypass ≡ true → levels ≡ levels_behind count items
+    → count ≡ 2 ^ block.log2_size * 2 ^ block.log2_size
+    → after
+    ≡ constructed (depth_of format block.component) block.component (samples_of_place block.component * block.x)
+    (samples_of_place block.component * block.y) (2 ^ block.log2_size)
+    (residuals_behind format mode block qp items) before
 unfolding residuals
 bypass_constructed format mode block qp items levels count place depth before after told at e bypasses read counts =
     placed format block place depth _ _ before after told at e
-    (λ i j hi hj. rw (bypasses, at) (ap (λ (l : List ℤ). block_in (2 ^ block.log2_size) l i j) (read ∙ ap (λ (n : ℕ). levels_behind n items) counts)))
+    (λ i j hi hj. rw (bypasses, at)
+    (ap (λ (l : List ℤ). block_in (2 ^ block.log2_size) l i j) (read ∙ ap (λ (n : ℕ). levels_behind n items) counts)))
 
 -- a block whose levels are scaled
-pub scaled_constructed : (format : UnitFormat) (mode : UnitMode) (block : CodedBlock) (qp parameter : ℕ) (items : List Item) (levels out : List ℤ) (count : ℕ) (place : Place) (depth : ℕ) (before after : Known)
-    → after ≡ constructed depth place.c place.x place.y (2 ^ place.log2) (block_in (2 ^ place.log2) out) before → place ≡ place_of block → depth ≡ depth_of format block.component
-    → mode.transquant_bypass ≡ false → levels ≡ levels_behind count items → count ≡ 2 ^ block.log2_size * 2 ^ block.log2_size
+pub scaled_constructed : (format : UnitFormat) (mode : UnitMode) (block : CodedBlock) (qp parameter : ℕ)
+    (items : List Item) (levels out : List ℤ) (count : ℕ) (place : Place) (depth : ℕ) (before after : Known)
+    → after ≡ constructed depth place.c place.x place.y (2 ^ place.log2) (block_in (2 ^ place.log2) out) before
+    → place ≡ place_of block → depth ≡ depth_of format block.component
+    → mode.transquant_bypass ≡ false → levels ≡ levels_behind count items
+    → count ≡ 2 ^ block.log2_size * 2 ^ block.log2_size
     → parameter ≡ parameter_of format block.component qp
-    → ((x y : ℕ) → x < 2 ^ block.log2_size → y < 2 ^ block.log2_size → block_in (2 ^ block.log2_size) out x y ≡ residuals format mode block parameter levels x y)
-    → after ≡ constructed (depth_of format block.component) block.component (samples_of_place block.component * block.x) (samples_of_place block.component * block.y) (2 ^ block.log2_size) (residuals_behind format mode block qp items) before
-scaled_constructed format mode block qp parameter items levels out count place depth before after told at e scales read counts is gave =
+    → ((x y : ℕ) → x < 2 ^ block.log2_size → y < 2 ^ block.log2_size
+    → block_in (2 ^ block.log2_size) out x y ≡ residuals format mode block parameter levels x y)
+    → after
+    ≡ constructed (depth_of format block.component) block.component (samples_of_place block.component * block.x)
+    (samples_of_place block.component * block.y) (2 ^ block.log2_size)
+    (residuals_behind format mode block qp items) before
+scaled_constructed format mode block qp parameter items levels out count place depth before after told at e scales
+    read counts is gave =
     placed format block place depth _ _ before after told at e
-    (λ i j hi hj. rw at (gave i j hi hj ∙ ap (λ (p : ℕ). residuals format mode block p levels i j) is ∙ ap (λ (l : List ℤ). residuals format mode block (parameter_of format block.component qp) l i j) (read ∙ ap (λ (n : ℕ). levels_behind n items) counts)))
+    (λ i j hi hj. rw at (gave i j hi hj ∙ ap (λ (p : ℕ). residuals format mode block p levels i j) is
+    ∙ ap (λ (l : List ℤ). residuals format mode block (parameter_of format block.component qp) l i j)
+    (read ∙ ap (λ (n : ℕ). levels_behind n items) counts)))
 
 -- a predicted block
-pub predicted_laid : (format : UnitFormat) (motion : vectors.Known) (place : Place) (mode depth : ℕ) (edge samples : List ℕ) (before after : Known)
+pub predicted_laid : (format : UnitFormat) (motion : vectors.Known) (place : Place) (mode depth : ℕ)
+    (edge samples : List ℕ) (before after : Known)
     → after ≡ laid place.c place.x place.y (2 ^ place.log2) (block_of (2 ^ place.log2) samples) before
-    → ((x y : ℕ) → x < 2 ^ place.log2 → y < 2 ^ place.log2 → get_or samples (2 ^ place.log2 * y + x) 0 ≡ predicted place.c place.log2 mode format.strong_intra_smoothing depth edge x y)
-    → edge ≡ substituted (depth_of format place.c) (beside (offered format motion before place.c) (2 ^ place.log2) place.x place.y) → depth ≡ depth_of format place.c
+    → ((x y : ℕ) → x < 2 ^ place.log2 → y < 2 ^ place.log2
+    → get_or samples (2 ^ place.log2 * y + x) 0
+    ≡ predicted place.c place.log2 mode format.strong_intra_smoothing depth edge x y)
+    → edge
+    ≡ substituted (depth_of format place.c)
+    (beside (offered format motion before place.c) (2 ^ place.log2) place.x place.y)
+    → depth ≡ depth_of format place.c
     → after ≡ block_predicted format motion place.c place.log2 mode place.x place.y before
 unfolding block_predicted
 predicted_laid format motion place mode depth edge samples before after told each gathered deep =
     told ∙ laid_same _ _ _ _ _ _ before (λ i j hi hj.
     each i j hi hj
     ∙ ap (λ (p : List ℕ). predicted place.c place.log2 mode format.strong_intra_smoothing depth p i j) gathered
-    ∙ ap (λ (d : ℕ). predicted place.c place.log2 mode format.strong_intra_smoothing d (substituted (depth_of format place.c) (beside (offered format motion before place.c) (2 ^ place.log2) place.x place.y)) i j) deep)
+    ∙ ap (λ (d : ℕ). predicted place.c place.log2 mode format.strong_intra_smoothing d
+    (substituted (depth_of format place.c)
+    (beside (offered format motion before place.c) (2 ^ place.log2) place.x place.y))
+    i j)
+    deep)
 
 -- samples by pulse code modulation
-pub pulses_component : (place : Place) (first places count : ℕ) (items : List Item) (block : List ℕ) (before after : Known)
+pub pulses_component : (place : Place) (first places count : ℕ) (items : List Item) (block : List ℕ)
+    (before after : Known)
     → after ≡ laid place.c place.x place.y (2 ^ place.log2) (block_of (2 ^ place.log2) block) before
-    → ((k : ℕ) → k < count → get_or block k 0 ≡ sample_of (get_or items (first + k) (Sample 0)) * 2 ^ places % 65536) → count ≡ 2 ^ place.log2 * 2 ^ place.log2
+    → ((k : ℕ) → k < count → get_or block k 0 ≡ sample_of (get_or items (first + k) (Sample 0)) * 2 ^ places % 65536)
+    → count ≡ 2 ^ place.log2 * 2 ^ place.log2
     → ((k : ℕ) → sample_of (get_or items k (Sample 0)) * 2 ^ places < 65536)
     → after ≡ laid place.c place.x place.y (2 ^ place.log2) (shifted places first items (2 ^ place.log2)) before
 pulses_component place first places count items block before after told each counts small =
@@ -94,15 +133,18 @@ pulses_component place first places count items block before after told each cou
     let n : ℕ = 2 ^ place.log2 in
     let lt : n * j + i < count = rw counts (below_square n i j hi hj) in
     let e : first + (n * j + i) ≡ first + n * j + i = omega arith in
-    each (n * j + i) lt ∙ mod-eq_of_lt (small (first + (n * j + i))) ∙ ap (λ (k : ℕ). sample_of (get_or items k (Sample 0)) * 2 ^ places) e)
+    each (n * j + i) lt ∙ mod-eq_of_lt (small (first + (n * j + i)))
+    ∙ ap (λ (k : ℕ). sample_of (get_or items k (Sample 0)) * 2 ^ places) e)
 
 -- those of a coding unit
-pub pulses_unit : (format : UnitFormat) (square : Square) (items : List Item) (p q r : Place) (n half luma chroma : ℕ) (before first second after : Known)
+pub pulses_unit : (format : UnitFormat) (square : Square) (items : List Item) (p q r : Place) (n half luma chroma : ℕ)
+    (before first second after : Known)
     → after ≡ laid r.c r.x r.y (2 ^ r.log2) (shifted chroma (n * n + half * half) items (2 ^ r.log2)) second
     → second ≡ laid q.c q.x q.y (2 ^ q.log2) (shifted chroma (n * n) items (2 ^ q.log2)) first
     → first ≡ laid p.c p.x p.y (2 ^ p.log2) (shifted luma 0 items (2 ^ p.log2)) before
     → p ≡ luma_place square → q ≡ chroma_place 1 square → r ≡ chroma_place 2 square
-    → n ≡ 2 ^ (square.log2_size + 2) → half ≡ 2 ^ (square.log2_size + 1) → luma ≡ format.luma_depth - format.pcm_luma_bits → chroma ≡ format.chroma_depth - format.pcm_chroma_bits
+    → n ≡ 2 ^ (square.log2_size + 2) → half ≡ 2 ^ (square.log2_size + 1)
+    → luma ≡ format.luma_depth - format.pcm_luma_bits → chroma ≡ format.chroma_depth - format.pcm_chroma_bits
     → after ≡ pulses_laid format square items before
 unfolding pulses_laid
 pulses_unit format square items p q r n half luma chroma before first second after a s f ep eq er en eh el ec =

@@ -1,5 +1,6 @@
 -- Items one after the other.
-use Rattle.std.proofs.Common.{◌≡◌, ℕ, ◌+◌, ◌-◌, ◌*◌, ◌^◌, ◌<◌, ◌≤◌, List, ◌∷◌, length, get_or, take, drop, sym, ap, ◌∙◌, refl, arith}
+use Rattle.std.proofs.Common.{◌≡◌, ℕ, ◌+◌, ◌-◌, ◌*◌, ◌^◌, ◌<◌, ◌≤◌, List, ◌∷◌, length, get_or, take, drop, sym, ap, ◌∙◌}
+use Rattle.std.proofs.Common.{refl, arith}
 use Rattle.std.proofs.lemmas.List.{drop_more, drop_all, length-drop, take_all}
 use Rattle.std.specs.List.{All}
 use Rattle.std.proofs.lemmas.List.Elements.{All-take, All-drop}
@@ -22,32 +23,45 @@ rest_whole : (items : List Item) (n : ℕ) → take (length items - n) (drop n i
 rest_whole items n = take_all (length items - n) (drop n items) (omega (arith, length-drop n items))
 
 -- one more item
-pub built_more : (format : UnitFormat) (inter : InterUnit) (all items : List Item) (k : ℕ) (d item : Item) (building next end : Building) → k < length items
+pub built_more : (format : UnitFormat) (inter : InterUnit) (all items : List Item) (k : ℕ) (d item : Item)
+    (building next end : Building)
+    → k < length items
     → get_or items k d ≡ item
     → next ≡ item_built format inter all building item (take (length items - (k + 1)) (drop (k + 1) items))
     → items_built format inter all (drop k items) building ≡ end
     → items_built format inter all (drop (k + 1) items) next ≡ end
 unfolding items_built
 built_more format inter all items k d item building next end lt is e told =
-    ap (items_built format inter all (drop (k + 1) items)) (e ∙ ap (item_built format inter all building item) (rest_whole items (k + 1)))
-    ∙ sym (ap (λ (rest : List Item). items_built format inter all rest building) (drop_more items k d lt ∙ ap (λ (first : Item). first ∷ drop (k + 1) items) is))
+    ap (items_built format inter all (drop (k + 1) items))
+    (e ∙ ap (item_built format inter all building item) (rest_whole items (k + 1)))
+    ∙ sym (ap (λ (rest : List Item). items_built format inter all rest building)
+    (drop_more items k d lt ∙ ap (λ (first : Item). first ∷ drop (k + 1) items) is))
     ∙ told
 
 -- behind the last item
-pub built_all : (format : UnitFormat) (inter : InterUnit) (all items : List Item) (k : ℕ) (building end : Building) → length items ≤ k
+pub built_all : (format : UnitFormat) (inter : InterUnit) (all items : List Item) (k : ℕ) (building end : Building)
+    → length items ≤ k
     → items_built format inter all (drop k items) building ≡ end → end.known ≡ building.known
 unfolding items_built
 built_all format inter all items k building end le told =
-    ap (λ (b : Building). b.known) (sym told ∙ ap (λ (rest : List Item). items_built format inter all rest building) (drop_all k items le))
+    ap (λ (b : Building). b.known)
+    (sym told ∙ ap (λ (rest : List Item). items_built format inter all rest building) (drop_all k items le))
 
 -- a coded block
-pub block_built : (format : UnitFormat) (all : List Item) (mode : UnitMode) (coded : InUnit) (block : CodedBlock) (behind : List Item) (before after : Known)
-    → after ≡ constructed (depth_of format coded.block.component) coded.block.component (samples_of_place coded.block.component * coded.block.x) (samples_of_place coded.block.component * coded.block.y) (2 ^ coded.block.log2_size) (residuals_behind format coded.mode coded.block coded.qp behind) before
+pub block_built : (format : UnitFormat) (all : List Item) (mode : UnitMode) (coded : InUnit) (block : CodedBlock)
+    (behind : List Item) (before after : Known)
+    → after
+    ≡ constructed (depth_of format coded.block.component) coded.block.component
+    (samples_of_place coded.block.component * coded.block.x) (samples_of_place coded.block.component * coded.block.y)
+    (2 ^ coded.block.log2_size) (residuals_behind format coded.mode coded.block coded.qp behind) before
     → coded.block ≡ block → coded.mode ≡ mode → coded.qp ≡ qp_at all block.x block.y
     → after ≡ block_constructed format all mode block behind before
 unfolding block_constructed
 block_built format all mode coded block behind before after told eb et eq = rw (told, eb, et, eq) refl
 
 -- the items behind one
-pub sound_behind : (format : UnitFormat) (items : List Item) (k : ℕ) → All (IsSound format) items → All (IsSound format) (take (length items - (k + 1)) (drop (k + 1) items))
-sound_behind format items k all = All-take (IsSound format) (length items - (k + 1)) (drop (k + 1) items) (All-drop (IsSound format) (k + 1) items all)
+pub sound_behind : (format : UnitFormat) (items : List Item) (k : ℕ) → All (IsSound format) items
+    → All (IsSound format) (take (length items - (k + 1)) (drop (k + 1) items))
+sound_behind format items k all =
+    All-take (IsSound format) (length items - (k + 1)) (drop (k + 1) items)
+    (All-drop (IsSound format) (k + 1) items all)

@@ -1,5 +1,6 @@
 -- The samples that the cells of a unit have.
-use Rattle.std.specs.Prelude.{◌≡◌, ℕ, ◌+◌, ◌*◌, ◌^◌, ◌<◌, ◌≤◌, ◌&&◌, nat_lt, ◌==◌, Bool, false, ℤ, pos, ◌+ℤ◌, Option, Some, None, List, slice_index_or, if◌then◌else◌}
+use Rattle.std.specs.Prelude.{◌≡◌, ℕ, ◌+◌, ◌*◌, ◌^◌, ◌<◌, ◌≤◌, ◌&&◌, nat_lt, ◌==◌, Bool, false, ℤ, pos, ◌+ℤ◌, Option}
+use Rattle.std.specs.Prelude.{Some, None, List, slice_index_or, if◌then◌else◌}
 use Rattle.ctu_records.specs.declared.item.CodedBlock.{CodedBlock}
 use Rattle.ctu_records.specs.declared.item.Square.{Square}
 use Rattle.ctu_records.specs.Places.{inside}
@@ -27,7 +28,8 @@ held cells c column line =
 -- cells that have 0 where no sample is known, as in all lines from one on
 pub record AreCells (values : List ℕ) (known : List Bool) (lines : ℕ) : Type 0 where
   pub few : lines ≤ 65
-  pub zeros : (c i j : ℕ) → c < 3 → i < 129 → j < 65 → slice_index_or known (cell c i j) false ≡ false → slice_index_or values (cell c i j) 0 ≡ 0
+  pub zeros : (c i j : ℕ) → c < 3 → i < 129 → j < 65 → slice_index_or known (cell c i j) false ≡ false
+      → slice_index_or values (cell c i j) 0 ≡ 0
   pub unused : (c i j : ℕ) → c < 3 → i < 129 → j < 65 → lines ≤ j → slice_index_or known (cell c i j) false ≡ false
 
 -- a sample and a residual, where the sample is known
@@ -52,7 +54,12 @@ pub record IsInside (place : Place) : Type 0 where
 
 -- the places of a coded block, and of a square in luma and in chroma
 abbrev pub place_of : CodedBlock → Place
-place_of block = record { c = block.component; x = samples_of_place block.component * block.x; y = samples_of_place block.component * block.y; log2 = block.log2_size }
+place_of block = record {
+  c = block.component;
+  x = samples_of_place block.component * block.x;
+  y = samples_of_place block.component * block.y;
+  log2 = block.log2_size;
+}
 
 abbrev pub luma_place : Square → Place
 luma_place square = record { c = 0; x = 4 * square.x; y = 4 * square.y; log2 = square.log2_size + 2 }

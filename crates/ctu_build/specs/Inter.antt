@@ -13,7 +13,8 @@ use Rattle.spec_reconstruction.specs.Sound.{IsFormat}
 
 -- with the pictures that it refers to
 abbrev pub inter_of : UnitInter → Pictures → InterUnit
-inter_of inter pictures = inter_unit (unit_motion.held inter.motion.now) inter.slice.now inter.weighting.now pictures inter.column inter.row
+inter_of inter pictures =
+    inter_unit (unit_motion.held inter.motion.now) inter.slice.now inter.weighting.now pictures inter.column inter.row
 
 -- what a unit's format, its inter prediction and its pictures are in the range of
 pub record IsReady (format : UnitFormat) (inter : UnitInter) (pictures : Pictures) : Type 0 where

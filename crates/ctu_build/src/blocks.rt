@@ -41,7 +41,11 @@ pub(crate) fn construct(
     requires format { IsFormat format.now }
     requires block { IsCoded coded.block }
     requires qp { IsParameter format.now.luma_depth coded.qp }
-    ensures { held samples.new ≡ constructed (depth_of format.now coded.block.component) coded.block.component (samples_of_place coded.block.component * coded.block.x) (samples_of_place coded.block.component * coded.block.y) (2 ^ coded.block.log2_size) (residuals_behind format.now coded.mode coded.block coded.qp items.now) (held samples.old) }
+    ensures { held samples.new
+        ≡ constructed (depth_of format.now coded.block.component) coded.block.component
+        (samples_of_place coded.block.component * coded.block.x)
+        (samples_of_place coded.block.component * coded.block.y) (2 ^ coded.block.log2_size)
+        (residuals_behind format.now coded.mode coded.block coded.qp items.now) (held samples.old) }
 {
     if coded.mode.transquant_bypass {
         add_levels(format, coded, items, &mut scratch.levels, samples);
@@ -62,7 +66,11 @@ fn add_levels(
     requires format { IsFormat format.now }
     requires block { IsCoded coded.block }
     requires bypass { coded.mode.transquant_bypass ≡ true }
-    ensures { held samples.new ≡ constructed (depth_of format.now coded.block.component) coded.block.component (samples_of_place coded.block.component * coded.block.x) (samples_of_place coded.block.component * coded.block.y) (2 ^ coded.block.log2_size) (residuals_behind format.now coded.mode coded.block coded.qp items.now) (held samples.old) }
+    ensures { held samples.new
+        ≡ constructed (depth_of format.now coded.block.component) coded.block.component
+        (samples_of_place coded.block.component * coded.block.x)
+        (samples_of_place coded.block.component * coded.block.y) (2 ^ coded.block.log2_size)
+        (residuals_behind format.now coded.mode coded.block coded.qp items.now) (held samples.old) }
 {
     let place = place_of(coded.block);
     let side = place.side();
@@ -84,7 +92,11 @@ fn add_residuals(
     requires block { IsCoded coded.block }
     requires qp { IsParameter format.now.luma_depth coded.qp }
     requires bypass { coded.mode.transquant_bypass ≡ false }
-    ensures { held samples.new ≡ constructed (depth_of format.now coded.block.component) coded.block.component (samples_of_place coded.block.component * coded.block.x) (samples_of_place coded.block.component * coded.block.y) (2 ^ coded.block.log2_size) (residuals_behind format.now coded.mode coded.block coded.qp items.now) (held samples.old) }
+    ensures { held samples.new
+        ≡ constructed (depth_of format.now coded.block.component) coded.block.component
+        (samples_of_place coded.block.component * coded.block.x)
+        (samples_of_place coded.block.component * coded.block.y) (2 ^ coded.block.log2_size)
+        (residuals_behind format.now coded.mode coded.block coded.qp items.now) (held samples.old) }
 {
     let block = coded.block;
     let place = place_of(block);

@@ -72,7 +72,10 @@ pub(crate) fn gather(intra: &IntraUnit<'_>, place: Place, samples: &UnitSamples,
     requires format { IsFormat intra.now.format.now }
     requires place { IsInside place }
     requires room { 4 * 2 ^ place.log2 + 1 ≤ length edge.old }
-    ensures { take (4 * 2 ^ place.log2 + 1) edge.new ≡ substituted (depth_of intra.now.format.now place.c) (beside (offered intra.now.format.now (motion_held intra.now.motion.now) (held samples.now) place.c) (2 ^ place.log2) place.x place.y) }
+    ensures { take (4 * 2 ^ place.log2 + 1) edge.new
+        ≡ substituted (depth_of intra.now.format.now place.c)
+        (beside (offered intra.now.format.now (motion_held intra.now.motion.now) (held samples.now) place.c)
+        (2 ^ place.log2) place.x place.y) }
 {
     let depth = depth_of(intra.format, place.c);
     if intra.format.constrained_intra {

@@ -36,7 +36,10 @@ pub(crate) fn build_prediction<V: RefWindow>(
     samples: &mut UnitSamples,
 )
     requires ready { IsReady source.now.format.now source.now.inter (V.reference_at source.now.view.now) }
-    ensures { IsPrediction prediction.now → held samples.new ≡ prediction_laid source.now.format.now (inter_of source.now.inter (V.reference_at source.now.view.now)) prediction.now (held samples.old) }
+    ensures { IsPrediction prediction.now
+        → held samples.new
+        ≡ prediction_laid source.now.format.now (inter_of source.now.inter (V.reference_at source.now.view.now))
+        prediction.now (held samples.old) }
 {
     if is_placed(prediction) {
         lay_prediction(source, prediction, scratch, samples);
@@ -52,7 +55,8 @@ pub(crate) fn build_pulses(
     samples: &mut UnitSamples,
 )
     requires format { IsFormat format.now }
-    ensures { IsSquare square → 1 ≤ square.log2_size → All (IsSound format.now) behind.now → held samples.new ≡ pulses_laid format.now square behind.now (held samples.old) }
+    ensures { IsSquare square → 1 ≤ square.log2_size → All (IsSound format.now) behind.now
+        → held samples.new ≡ pulses_laid format.now square behind.now (held samples.old) }
 {
     if 1 <= square.log2_size && is_square(square) {
         lay_pulses(format, square, behind, &mut scratch.samples, samples);
@@ -69,7 +73,10 @@ pub(crate) fn build_transform<V: RefWindow>(
 )
     requires ready { IsReady source.now.format.now source.now.inter (V.reference_at source.now.view.now) }
     requires mode { coding.chroma_mode ≤ 34 }
-    ensures { AreSound source.now.format.now source.now.records.now.items → IsSquare square → held samples.new ≡ transform_predicted source.now.format.now (inter_of source.now.inter (V.reference_at source.now.view.now)) source.now.records.now.items (building coding (held samples.old)) square }
+    ensures { AreSound source.now.format.now source.now.records.now.items → IsSquare square
+        → held samples.new
+        ≡ transform_predicted source.now.format.now (inter_of source.now.inter (V.reference_at source.now.view.now))
+        source.now.records.now.items (building coding (held samples.old)) square }
 {
     if coding.mode.intra && is_square(square) {
         let intra = IntraUnit {
@@ -91,7 +98,10 @@ pub(crate) fn build_block<V: RefWindow>(
     samples: &mut UnitSamples,
 )
     requires ready { IsReady source.now.format.now source.now.inter (V.reference_at source.now.view.now) }
-    ensures { AreSound source.now.format.now source.now.records.now.items → IsCoded block → held samples.new ≡ block_constructed source.now.format.now source.now.records.now.items coding.mode block behind.now (held samples.old) }
+    ensures { AreSound source.now.format.now source.now.records.now.items → IsCoded block
+        → held samples.new
+        ≡ block_constructed source.now.format.now source.now.records.now.items coding.mode block behind.now
+        (held samples.old) }
 {
     if is_coded(block) {
         let coded = in_unit(source.records, source.format, coding, block);
@@ -102,7 +112,8 @@ pub(crate) fn build_block<V: RefWindow>(
 /// The modes of a transform unit's blocks.
 fn modes_of(records: &Records, coding: Coding, square: Square) -> Modes
     requires { IsSquare square }
-    ensures luma { luma_mode_at records.now.items square.x square.y ≤ 34 → result.luma ≡ luma_mode_at records.now.items square.x square.y }
+    ensures luma { luma_mode_at records.now.items square.x square.y ≤ 34
+        → result.luma ≡ luma_mode_at records.now.items square.x square.y }
     ensures range { result.luma ≤ 34 }
     ensures chroma { result.chroma ≡ coding.chroma_mode }
 {
@@ -119,7 +130,8 @@ fn in_unit(records: &Records, format: &UnitFormat, coding: Coding, block: CodedB
     requires block { IsCoded block }
     ensures block { result.block ≡ block }
     ensures mode { result.mode ≡ coding.mode }
-    ensures qp { IsParameter format.now.luma_depth (qp_at records.now.items block.x block.y) → result.qp ≡ qp_at records.now.items block.x block.y }
+    ensures qp { IsParameter format.now.luma_depth (qp_at records.now.items block.x block.y)
+        → result.qp ≡ qp_at records.now.items block.x block.y }
     ensures range { IsParameter format.now.luma_depth result.qp }
 {
     let qp = records.qp(usize::from(block.x), usize::from(block.y));

@@ -44,7 +44,8 @@ fn lay_levels(items: &[Item], levels: &mut [i32])
 #[tactic(auto, unfolding(spec_reconstruction::specs::Residuals::levels_laid))]
 fn lay_item(levels: &mut [i32], item: Item) -> bool
     requires { All Is16 levels.old }
-    ensures more { result ≡ true → (items : List Item) → levels_laid levels.old (item ∷ items) ≡ levels_laid levels.new items }
+    ensures more { result ≡ true
+        → (items : List Item) → levels_laid levels.old (item ∷ items) ≡ levels_laid levels.new items }
     ensures none { result ≡ false → (items : List Item) → levels_laid levels.old (item ∷ items) ≡ levels.new }
     ensures small { All Is16 levels.new }
 {

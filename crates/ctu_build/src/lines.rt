@@ -1,7 +1,8 @@
 //! Lines of samples.
 
 ghost use Rattle.ctu_build.specs.Held.{added, cell, inside_of, IsInside};
-ghost use Rattle.std.specs.Prelude.{◌≡◌, ℕ, ◌+◌, ◌-◌, ◌*◌, ◌<◌, ◌≤◌, ◌^◌, ◌&&◌, pos, negsuc, ◌≤ℤ◌, cond, true, false, nat_le, nat_lt, length, slice_index_or};
+ghost use Rattle.std.specs.Prelude.{◌≡◌, ℕ, ◌+◌, ◌-◌, ◌*◌, ◌<◌, ◌≤◌, ◌^◌, ◌&&◌, pos, negsuc, ◌≤ℤ◌, cond, true, false};
+ghost use Rattle.std.specs.Prelude.{nat_le, nat_lt, length, slice_index_or};
 ghost use Rattle.spec_reconstruction.specs.Known.{clipped};
 ghost use Rattle.std.specs.List.{All};
 ghost use Rattle.spec_transforms.specs.Matrices.{at};
@@ -13,7 +14,8 @@ use crate::place::Place;
 /// One value in so many cells from one on.
 pub(crate) fn fill<T: Copy>(cells: &mut [T], first: usize, count: usize, value: T)
     requires { first + count ≤ length cells.old }
-    ensures { (q : ℕ) (d : T) → slice_index_or cells.new q d ≡ cond (nat_le first q && nat_lt q (first + count)) value (slice_index_or cells.old q d) }
+    ensures { (q : ℕ) (d : T) → slice_index_or cells.new q d
+        ≡ cond (nat_le first q && nat_lt q (first + count)) value (slice_index_or cells.old q d) }
 {
     for k in first..first + count {
         cells[k] = value;
@@ -23,7 +25,9 @@ pub(crate) fn fill<T: Copy>(cells: &mut [T], first: usize, count: usize, value: 
 /// Samples over the cells from one on.
 pub(crate) fn copy(cells: &mut [u16], first: usize, samples: &[u16])
     requires { first + length samples.now ≤ length cells.old }
-    ensures { (q : ℕ) → slice_index_or cells.new q 0 ≡ cond (nat_le first q && nat_lt q (first + length samples.now)) (slice_index_or samples.now (q - first) 0) (slice_index_or cells.old q 0) }
+    ensures { (q : ℕ) → slice_index_or cells.new q 0
+        ≡ cond (nat_le first q && nat_lt q (first + length samples.now)) (slice_index_or samples.now (q - first) 0)
+        (slice_index_or cells.old q 0) }
 {
     for k in 0..samples.len() {
         cells[first + k] = samples[k];
@@ -46,7 +50,11 @@ pub(crate) fn lay_lines(values: &mut [u16], place: Place, block: &[u16])
     requires place { IsInside place }
     requires room { length values.old ≡ 25155 }
     requires block { 2 ^ place.log2 * 2 ^ place.log2 ≤ length block.now }
-    ensures { (c i j : ℕ) → c < 3 → i < 129 → j < 65 → slice_index_or values.new (cell c i j) 0 ≡ cond (inside_of place (2 ^ place.log2) c i j) (slice_index_or block.now (2 ^ place.log2 * (j - (place.y + 1)) + (i - (place.x + 1))) 0) (slice_index_or values.old (cell c i j) 0) }
+    ensures { (c i j : ℕ) → c < 3 → i < 129 → j < 65
+        → slice_index_or values.new (cell c i j) 0
+        ≡ cond (inside_of place (2 ^ place.log2) c i j)
+        (slice_index_or block.now (2 ^ place.log2 * (j - (place.y + 1)) + (i - (place.x + 1))) 0)
+        (slice_index_or values.old (cell c i j) 0) }
 {
     let n = place.side();
     for line in 0..n {
@@ -58,7 +66,9 @@ pub(crate) fn lay_lines(values: &mut [u16], place: Place, block: &[u16])
 pub(crate) fn mark_lines(known: &mut [bool], place: Place)
     requires place { IsInside place }
     requires room { length known.old ≡ 25155 }
-    ensures { (c i j : ℕ) → c < 3 → i < 129 → j < 65 → slice_index_or known.new (cell c i j) false ≡ cond (inside_of place (2 ^ place.log2) c i j) true (slice_index_or known.old (cell c i j) false) }
+    ensures { (c i j : ℕ) → c < 3 → i < 129 → j < 65
+        → slice_index_or known.new (cell c i j) false
+        ≡ cond (inside_of place (2 ^ place.log2) c i j) true (slice_index_or known.old (cell c i j) false) }
 {
     let n = place.side();
     for line in 0..n {
@@ -80,7 +90,13 @@ pub(crate) fn add_lines(
     requires block { 2 ^ place.log2 * 2 ^ place.log2 ≤ length residuals.now }
     requires depth { IsDepth depth }
     requires residuals { All IsResidual residuals.now }
-    ensures { (c i j : ℕ) → c < 3 → i < 129 → j < 65 → slice_index_or values.new (cell c i j) 0 ≡ cond (inside_of place (2 ^ place.log2) c i j) (added depth (slice_index_or known.now (cell c i j) false) (at residuals.now (2 ^ place.log2 * (j - (place.y + 1)) + (i - (place.x + 1)))) (slice_index_or values.old (cell c i j) 0)) (slice_index_or values.old (cell c i j) 0) }
+    ensures { (c i j : ℕ) → c < 3 → i < 129 → j < 65
+        → slice_index_or values.new (cell c i j) 0
+        ≡ cond (inside_of place (2 ^ place.log2) c i j)
+        (added depth (slice_index_or known.now (cell c i j) false)
+        (at residuals.now (2 ^ place.log2 * (j - (place.y + 1)) + (i - (place.x + 1))))
+        (slice_index_or values.old (cell c i j) 0))
+        (slice_index_or values.old (cell c i j) 0) }
 {
     let n = place.side();
     for line in 0..n {
@@ -97,7 +113,9 @@ pub(crate) fn add_lines(
 fn lay_line(values: &mut [u16], first: usize, block: &[u16], from: usize, n: usize)
     requires room { first + n ≤ length values.old }
     requires enough { from + n ≤ length block.now }
-    ensures { (q : ℕ) → slice_index_or values.new q 0 ≡ cond (nat_le first q && nat_lt q (first + n)) (slice_index_or block.now (from + (q - first)) 0) (slice_index_or values.old q 0) }
+    ensures { (q : ℕ) → slice_index_or values.new q 0
+        ≡ cond (nat_le first q && nat_lt q (first + n)) (slice_index_or block.now (from + (q - first)) 0)
+        (slice_index_or values.old q 0) }
 {
     for k in 0..n {
         values[first + k] = block[from + k];
@@ -119,7 +137,11 @@ fn add_line(values: &mut [u16], known: &[bool], line: Line, residuals: &[i32], d
     requires enough { line.from + line.n ≤ length residuals.now }
     requires depth { IsDepth depth }
     requires residuals { All IsResidual residuals.now }
-    ensures { (q : ℕ) → slice_index_or values.new q 0 ≡ cond (nat_le line.first q && nat_lt q (line.first + line.n)) (added depth (slice_index_or known.now q false) (at residuals.now (line.from + (q - line.first))) (slice_index_or values.old q 0)) (slice_index_or values.old q 0) }
+    ensures { (q : ℕ) → slice_index_or values.new q 0
+        ≡ cond (nat_le line.first q && nat_lt q (line.first + line.n))
+        (added depth (slice_index_or known.now q false) (at residuals.now (line.from + (q - line.first)))
+        (slice_index_or values.old q 0))
+        (slice_index_or values.old q 0) }
 {
     for k in 0..line.n {
         let place = line.first + k;

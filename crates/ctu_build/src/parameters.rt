@@ -1,9 +1,11 @@
 //! Bit depths, quantization parameters and scaling factors of blocks.
 
-ghost use Rattle.std.specs.Prelude.{◌≡◌, ℕ, ◌+◌, ◌-◌, ◌*◌, ◌^◌, ◌<◌, ◌≤◌, pos, negsuc, ◌-ℤ◌, ◌+ℤ◌, ◌≤ℤ◌, length, slice_index};
+ghost use Rattle.std.specs.Prelude.{◌≡◌, ℕ, ◌+◌, ◌-◌, ◌*◌, ◌^◌, ◌<◌, ◌≤◌, pos, negsuc, ◌-ℤ◌, ◌+ℤ◌, ◌≤ℤ◌, length};
+ghost use Rattle.std.specs.Prelude.{slice_index};
 ghost use Rattle.ctu_build.specs.Offsets.{near_offset};
 ghost use Rattle.spec_reconstruction.specs.Factors.{factor, first_factor};
-ghost use Rattle.spec_reconstruction.specs.Parameters.{depth_of, depth_offset, chroma_offset, chroma_parameter, offset_parameter, parameter_of};
+ghost use Rattle.spec_reconstruction.specs.Parameters.{depth_of, depth_offset, chroma_offset, chroma_parameter};
+ghost use Rattle.spec_reconstruction.specs.Parameters.{offset_parameter, parameter_of};
 ghost use Rattle.spec_reconstruction.specs.Residuals.{factors_of};
 ghost use Rattle.spec_slice_data.specs.Quantization.{chroma_qp_of_index};
 ghost use Rattle.spec_transforms.specs.Scaling.{IsDepth, IsParameter};
@@ -144,7 +146,8 @@ pub(crate) fn factors_of<'a>(format: &'a UnitFormat, mode: UnitMode, log2: u32, 
     requires few { log2 ≤ 5 }
     requires c { c < 3 }
     ensures count { length result.now ≡ 2 ^ log2 * 2 ^ log2 }
-    ensures value { (k : ℕ) → k < 2 ^ log2 * 2 ^ log2 → slice_index result.now k ≡ factor (factors_of format.now mode) log2 c k }
+    ensures value { (k : ℕ) → k < 2 ^ log2 * 2 ^ log2
+        → slice_index result.now k ≡ factor (factors_of format.now mode) log2 c k }
 {
     let n = 1 << log2;
     let first = first_factor(log2, usize::from(c));

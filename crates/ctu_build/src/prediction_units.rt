@@ -43,7 +43,9 @@ fn predict_component<V: RefWindow>(
     requires ready { IsReady source.now.format.now source.now.inter (V.reference_at source.now.view.now) }
     requires block { IsBlock block }
     requires c { c < 3 }
-    ensures { held samples.new ≡ component_predicted source.now.format.now (inter_of source.now.inter (V.reference_at source.now.view.now)) block motion.now c (held samples.old) }
+    ensures { held samples.new
+        ≡ component_predicted source.now.format.now (inter_of source.now.inter (V.reference_at source.now.view.now))
+        block motion.now c (held samples.old) }
 {
     predict(
         source.view,
@@ -68,7 +70,9 @@ pub(crate) fn lay_prediction<V: RefWindow>(
 )
     requires ready { IsReady source.now.format.now source.now.inter (V.reference_at source.now.view.now) }
     requires placed { IsPlaced prediction.now }
-    ensures { held samples.new ≡ prediction_laid source.now.format.now (inter_of source.now.inter (V.reference_at source.now.view.now)) prediction.now (held samples.old) }
+    ensures { held samples.new
+        ≡ prediction_laid source.now.format.now (inter_of source.now.inter (V.reference_at source.now.view.now))
+        prediction.now (held samples.old) }
 {
     let block = part_block(prediction);
     let (column, row) = (usize::from(block.x) + 1, usize::from(block.y) + 1);

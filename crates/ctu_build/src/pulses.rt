@@ -55,7 +55,10 @@ fn shift_samples(pulses: &Pulses<'_>, count: usize, out: &mut [u16; 1024])
     requires places { pulses.now.places ≤ 14 }
     requires first { pulses.now.first ≤ 2048 }
     requires count { count ≤ 1024 }
-    ensures { (k : ℕ) → k < count → slice_index_or out.new k 0 ≡ sample_of (slice_index_or pulses.now.items.now (pulses.now.first + k) (Sample 0)) * 2 ^ pulses.now.places % 65536 }
+    ensures { (k : ℕ) → k < count
+        → slice_index_or out.new k 0
+        ≡ sample_of (slice_index_or pulses.now.items.now (pulses.now.first + k) (Sample 0)) * 2 ^ pulses.now.places
+        % 65536 }
 {
     for k in 0..count {
         out[k] = sample_at(pulses.items, pulses.first + k) << pulses.places;
@@ -72,7 +75,10 @@ fn lay_component(
     requires place { IsInside place }
     requires places { pulses.now.places ≤ 14 }
     requires first { pulses.now.first ≤ 2048 }
-    ensures { ((k : ℕ) → sample_of (slice_index_or pulses.now.items.now k (Sample 0)) * 2 ^ pulses.now.places < 65536) → held samples.new ≡ laid place.c place.x place.y (2 ^ place.log2) (shifted pulses.now.places pulses.now.first pulses.now.items.now (2 ^ place.log2)) (held samples.old) }
+    ensures { ((k : ℕ) → sample_of (slice_index_or pulses.now.items.now k (Sample 0)) * 2 ^ pulses.now.places < 65536)
+        → held samples.new
+        ≡ laid place.c place.x place.y (2 ^ place.log2)
+        (shifted pulses.now.places pulses.now.first pulses.now.items.now (2 ^ place.log2)) (held samples.old) }
 {
     let n = place.side();
     shift_samples(pulses, n * n, block);
@@ -90,7 +96,8 @@ pub(crate) fn lay_pulses(
     requires format { IsFormat format.now }
     requires square { IsSquare square }
     requires some { 1 ≤ square.log2_size }
-    ensures { All (IsSound format.now) items.now → held samples.new ≡ pulses_laid format.now square items.now (held samples.old) }
+    ensures { All (IsSound format.now) items.now
+        → held samples.new ≡ pulses_laid format.now square items.now (held samples.old) }
 {
     let luma = u32::from(format.luma_depth - format.pcm_luma_bits);
     let chroma = u32::from(format.chroma_depth - format.pcm_chroma_bits);

@@ -32,7 +32,9 @@ fn scale_levels(format: &UnitFormat, coded: Quantized, levels: &[i32], scaled: &
     requires levels { All Is16 levels.now }
     requires count { length levels.now ≡ 2 ^ coded.block.log2_size * 2 ^ coded.block.log2_size }
     requires room { length scaled.old ≡ length levels.now }
-    ensures value { (x y : ℕ) → x < 2 ^ coded.block.log2_size → y < 2 ^ coded.block.log2_size → block_in (2 ^ coded.block.log2_size) scaled.new x y ≡ scaled_block format.now coded.mode coded.block.component coded.block.log2_size coded.qp levels.now x y }
+    ensures value { (x y : ℕ) → x < 2 ^ coded.block.log2_size → y < 2 ^ coded.block.log2_size
+        → block_in (2 ^ coded.block.log2_size) scaled.new x y
+        ≡ scaled_block format.now coded.mode coded.block.component coded.block.log2_size coded.qp levels.now x y }
     ensures small { All Is16 scaled.new }
     ensures count { length scaled.new ≡ length levels.now }
 {
@@ -63,7 +65,10 @@ fn transform(
     requires scaled { All Is16 scaled.now }
     requires count { length scaled.now ≡ 2 ^ block.log2_size * 2 ^ block.log2_size }
     requires room { length out.old ≡ length scaled.now }
-    ensures value { (x y : ℕ) → x < 2 ^ block.log2_size → y < 2 ^ block.log2_size → block_in (2 ^ block.log2_size) out.new x y ≡ transformed (depth_of format.now block.component) (has_sines mode block.component block.log2_size) (2 ^ block.log2_size) (block_in (2 ^ block.log2_size) scaled.now) x y }
+    ensures value { (x y : ℕ) → x < 2 ^ block.log2_size → y < 2 ^ block.log2_size
+        → block_in (2 ^ block.log2_size) out.new x y
+        ≡ transformed (depth_of format.now block.component) (has_sines mode block.component block.log2_size)
+        (2 ^ block.log2_size) (block_in (2 ^ block.log2_size) scaled.now) x y }
     ensures small { All IsResidual out.new }
 {
     let depth = depth_of(format, block.component);
@@ -79,7 +84,9 @@ fn skip_transform(format: &UnitFormat, block: CodedBlock, scaled: &[i32], out: &
     requires scaled { All Is16 scaled.now }
     requires count { length scaled.now ≡ 2 ^ block.log2_size * 2 ^ block.log2_size }
     requires room { length out.old ≡ length scaled.now }
-    ensures value { (x y : ℕ) → x < 2 ^ block.log2_size → y < 2 ^ block.log2_size → block_in (2 ^ block.log2_size) out.new x y ≡ skipped (depth_of format.now block.component) (block_in (2 ^ block.log2_size) scaled.now x y) }
+    ensures value { (x y : ℕ) → x < 2 ^ block.log2_size → y < 2 ^ block.log2_size
+        → block_in (2 ^ block.log2_size) out.new x y
+        ≡ skipped (depth_of format.now block.component) (block_in (2 ^ block.log2_size) scaled.now x y) }
     ensures small { All IsResidual out.new }
 {
     let depth = depth_of(format, block.component);
@@ -102,7 +109,9 @@ pub(crate) fn residuals_of(
     requires count { length levels.now ≡ 2 ^ coded.block.log2_size * 2 ^ coded.block.log2_size }
     requires scaled { length scaled.old ≡ length levels.now }
     requires room { length out.old ≡ length levels.now }
-    ensures value { (x y : ℕ) → x < 2 ^ coded.block.log2_size → y < 2 ^ coded.block.log2_size → block_in (2 ^ coded.block.log2_size) out.new x y ≡ residuals format.now coded.mode coded.block coded.qp levels.now x y }
+    ensures value { (x y : ℕ) → x < 2 ^ coded.block.log2_size → y < 2 ^ coded.block.log2_size
+        → block_in (2 ^ coded.block.log2_size) out.new x y
+        ≡ residuals format.now coded.mode coded.block coded.qp levels.now x y }
     ensures small { All IsResidual out.new }
 {
     let block = coded.block;

@@ -4,7 +4,8 @@ ghost use Rattle.std.specs.Prelude.{◌≡◌, ◌+◌, ◌*◌, ◌^◌, ◌<�
 ghost use Rattle.ctu_build.specs.Held.{held, IsInside};
 ghost use Rattle.ctu_motion.specs.Held.{held as motion_held};
 ghost use Rattle.spec_reconstruction.specs.Sound.{IsFormat, IsSquare};
-ghost use Rattle.spec_reconstruction.specs.Prediction.{block_predicted, chroma_predicted, chroma_of_unit_predicted, unit_predicted, is_fourth};
+ghost use Rattle.spec_reconstruction.specs.Prediction.{block_predicted, chroma_predicted, chroma_of_unit_predicted};
+ghost use Rattle.spec_reconstruction.specs.Prediction.{unit_predicted, is_fourth};
 ghost use Rattle.spec_slice_data.specs.Transform.{whole_of_fourth};
 
 use crate::intra_border::{IntraUnit, gather};
@@ -26,7 +27,9 @@ fn predict_block(
     requires format { IsFormat intra.now.format.now }
     requires place { IsInside place }
     requires mode { mode ≤ 34 }
-    ensures { held samples.new ≡ block_predicted intra.now.format.now (motion_held intra.now.motion.now) place.c place.log2 mode place.x place.y (held samples.old) }
+    ensures { held samples.new
+        ≡ block_predicted intra.now.format.now (motion_held intra.now.motion.now) place.c place.log2 mode place.x
+        place.y (held samples.old) }
 {
     let n = place.side();
     let format = intra.format;
@@ -57,7 +60,8 @@ fn predict_chroma(
     requires mode { mode ≤ 34 }
     requires square { IsSquare square }
     requires some { 1 ≤ square.log2_size }
-    ensures { held samples.new ≡ chroma_predicted intra.now.format.now (motion_held intra.now.motion.now) mode square (held samples.old) }
+    ensures { held samples.new
+        ≡ chroma_predicted intra.now.format.now (motion_held intra.now.motion.now) mode square (held samples.old) }
 {
     predict_block(intra, chroma_place(square, 1), mode, scratch, samples);
     predict_block(intra, chroma_place(square, 2), mode, scratch, samples);
@@ -98,7 +102,9 @@ fn predict_chroma_of_unit(
     requires format { IsFormat intra.now.format.now }
     requires mode { mode ≤ 34 }
     requires square { IsSquare square }
-    ensures { held samples.new ≡ chroma_of_unit_predicted intra.now.format.now (motion_held intra.now.motion.now) mode square (held samples.old) }
+    ensures { held samples.new
+        ≡ chroma_of_unit_predicted intra.now.format.now (motion_held intra.now.motion.now) mode square
+        (held samples.old) }
 {
     if square.log2_size == 0 {
         if is_fourth(square) {
@@ -122,7 +128,9 @@ pub(crate) fn predict_unit(
     requires luma { modes.luma ≤ 34 }
     requires chroma { modes.chroma ≤ 34 }
     requires square { IsSquare square }
-    ensures { held samples.new ≡ unit_predicted intra.now.format.now (motion_held intra.now.motion.now) modes.luma modes.chroma square (held samples.old) }
+    ensures { held samples.new
+        ≡ unit_predicted intra.now.format.now (motion_held intra.now.motion.now) modes.luma modes.chroma square
+        (held samples.old) }
 {
     predict_block(intra, luma_place(square), modes.luma, scratch, samples);
     predict_chroma_of_unit(intra, modes.chroma, square, scratch, samples);

@@ -43,7 +43,12 @@ pub fn build_ctu<V: RefWindow>(
     requires weighting { IsSliceWeighting inter.now.weighting.now }
     requires place { (inter.now.column ≤ 8192) × (inter.now.row ≤ 8192) }
     requires small { AreSmall format.now (V.reference_at view.now) }
-    ensures value { AreSound format.now records.now.items → held samples.new ≡ unit_built format.now (inter_unit (motion_held inter.now.motion.now) inter.now.slice.now inter.now.weighting.now (V.reference_at view.now) inter.now.column inter.now.row) records.now.items (held samples.old) }
+    ensures value { AreSound format.now records.now.items
+        → held samples.new
+        ≡ unit_built format.now
+        (inter_unit (motion_held inter.now.motion.now) inter.now.slice.now inter.now.weighting.now
+        (V.reference_at view.now) inter.now.column inter.now.row)
+        records.now.items (held samples.old) }
 {
     let source = Source {
         records,
@@ -62,7 +67,11 @@ fn build_items<V: RefWindow>(
     samples: &mut UnitSamples,
 )
     requires ready { IsReady source.now.format.now source.now.inter (V.reference_at source.now.view.now) }
-    ensures { AreSound source.now.format.now source.now.records.now.items → All (IsSound source.now.format.now) items.now → (items_built source.now.format.now (inter_of source.now.inter (V.reference_at source.now.view.now)) source.now.records.now.items items.now (before_unit (held samples.old))).known ≡ held samples.new }
+    ensures { AreSound source.now.format.now source.now.records.now.items
+        → All (IsSound source.now.format.now) items.now
+        → (items_built source.now.format.now (inter_of source.now.inter (V.reference_at source.now.view.now))
+        source.now.records.now.items items.now (before_unit (held samples.old))).known
+        ≡ held samples.new }
 {
     let mut coding = before_unit();
     for k in 0..items.len() {
@@ -84,7 +93,11 @@ fn build_item<V: RefWindow>(
 ) -> Coding
     requires ready { IsReady source.now.format.now source.now.inter (V.reference_at source.now.view.now) }
     requires mode { coding.chroma_mode ≤ 34 }
-    ensures value { AreSound source.now.format.now source.now.records.now.items → IsSound source.now.format.now next.now.item → All (IsSound source.now.format.now) next.now.behind.now → building result (held samples.new) ≡ item_built source.now.format.now (inter_of source.now.inter (V.reference_at source.now.view.now)) source.now.records.now.items (building coding (held samples.old)) next.now.item next.now.behind.now }
+    ensures value { AreSound source.now.format.now source.now.records.now.items
+        → IsSound source.now.format.now next.now.item → All (IsSound source.now.format.now) next.now.behind.now
+        → building result (held samples.new)
+        ≡ item_built source.now.format.now (inter_of source.now.inter (V.reference_at source.now.view.now))
+        source.now.records.now.items (building coding (held samples.old)) next.now.item next.now.behind.now }
     ensures mode { result.chroma_mode ≤ 34 }
 {
     match next.item {

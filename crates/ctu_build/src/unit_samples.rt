@@ -1,6 +1,7 @@
 //! The samples of a coding tree unit.
 
-ghost use Rattle.std.specs.Prelude.{◌≡◌, ℕ, ◌+◌, ◌-◌, ◌*◌, ◌^◌, ◌<◌, ◌≤◌, ◌==◌, ◌&&◌, None, Some, Option, length, nat_le, nat_lt, slice_index_or, if◌then◌else◌, unwrap_or};
+ghost use Rattle.std.specs.Prelude.{◌≡◌, ℕ, ◌+◌, ◌-◌, ◌*◌, ◌^◌, ◌<◌, ◌≤◌, ◌==◌, ◌&&◌, None, Some, Option, length};
+ghost use Rattle.std.specs.Prelude.{nat_le, nat_lt, slice_index_or, if◌then◌else◌, unwrap_or};
 ghost use Rattle.ctu_build.specs.Held.{cell, held, block_of, IsInside};
 ghost use Rattle.spec_reconstruction.specs.Inter.{rectangle_laid};
 ghost use Rattle.spec_reconstruction.specs.Known.{laid, constructed};
@@ -79,7 +80,8 @@ impl UnitSamples {
         requires c { c < 3 }
         requires column { column < 129 }
         requires line { line < 65 }
-        ensures { (i j k : ℕ) → held self.new i j k ≡ (if (i == c) && ((j == column) && (k == line)) then Some value else held self.old i j k) }
+        ensures { (i j k : ℕ) → held self.new i j k
+            ≡ (if (i == c) && ((j == column) && (k == line)) then Some value else held self.old i j k) }
     {
         self.put_line(c, column, line, &[value]);
     }
@@ -89,7 +91,10 @@ impl UnitSamples {
         requires c { c < 3 }
         requires columns { column + length values.now ≤ 129 }
         requires line { line < 65 }
-        ensures { (i j k : ℕ) → held self.new i j k ≡ (if (i == c) && ((k == line) && (nat_le column j && nat_lt j (column + length values.now))) then Some (slice_index_or values.now (j - column) 0) else held self.old i j k) }
+        ensures { (i j k : ℕ) → held self.new i j k
+            ≡ (if (i == c) && ((k == line) && (nat_le column j && nat_lt j (column + length values.now)))
+            then Some (slice_index_or values.now (j - column) 0)
+            else held self.old i j k) }
     {
         let first = cell(c, column, line);
         copy(&mut self.values, first, values);
@@ -112,7 +117,8 @@ impl UnitSamples {
     pub(crate) fn lay(&mut self, place: Place, block: &[u16])
         requires place { IsInside place }
         requires block { 2 ^ place.log2 * 2 ^ place.log2 ≤ length block.now }
-        ensures { held self.new ≡ laid place.c place.x place.y (2 ^ place.log2) (block_of (2 ^ place.log2) block.now) (held self.old) }
+        ensures { held self.new
+            ≡ laid place.c place.x place.y (2 ^ place.log2) (block_of (2 ^ place.log2) block.now) (held self.old) }
     {
         lay_lines(&mut self.values, place, block);
         mark_lines(&mut self.known, place);
@@ -124,7 +130,9 @@ impl UnitSamples {
         requires c { c < 3 }
         requires x { area.x + area.width ≤ 64 }
         requires y { area.y + area.height ≤ 64 }
-        ensures { held self.new ≡ rectangle_laid c area (λ x y. slice_index_or samples.now (64 * (y - area.y) + (x - area.x)) 0) (held self.old) }
+        ensures { held self.new
+            ≡ rectangle_laid c area (λ x y. slice_index_or samples.now (64 * (y - area.y) + (x - area.x)) 0)
+            (held self.old) }
     {
         let width = usize::from(area.width);
         for line in 0..usize::from(area.height) {
@@ -143,7 +151,9 @@ impl UnitSamples {
         requires block { 2 ^ place.log2 * 2 ^ place.log2 ≤ length residuals.now }
         requires depth { IsDepth depth }
         requires residuals { All IsResidual residuals.now }
-        ensures { held self.new ≡ constructed depth place.c place.x place.y (2 ^ place.log2) (block_in (2 ^ place.log2) residuals.now) (held self.old) }
+        ensures { held self.new
+            ≡ constructed depth place.c place.x place.y (2 ^ place.log2) (block_in (2 ^ place.log2) residuals.now)
+            (held self.old) }
     {
         add_lines(&mut self.values, &self.known, place, residuals, depth);
     }

@@ -1,5 +1,6 @@
 -- Cells, and the motion that they hold.
-use Rattle.std.proofs.Common.{◌≡◌, ℕ, ◌+◌, ◌<◌, ◌≤◌, ◌&&◌, cond, nat_le, nat_lt, List, Option, Some, None, inl, inr, get_or, replicate, arith}
+use Rattle.std.proofs.Common.{◌≡◌, ℕ, ◌+◌, ◌<◌, ◌≤◌, ◌&&◌, cond, nat_le, nat_lt, List, Option, Some, None, inl, inr}
+use Rattle.std.proofs.Common.{get_or, replicate, arith}
 use Rattle.std.proofs.Math.ListN.{get_or-eq_default}
 use Rattle.std.proofs.Math.Path.{fun_ext}
 use Rattle.std.proofs.lemmas.Bool.{cases_lt}
@@ -24,19 +25,32 @@ pub nothing_held : (cells : Cells) → cells.places ≡ replicate 578 None → (
 unfolding held
 nothing_held cells e column row = let s = none_at 578 (cell column row) cells.places e in grind (arith, nat_tests, s)
 
-pub nothing_beneath : (cells : Cells) → cells.beneath ≡ replicate 20 None → (column row : ℕ) → held_beneath cells column row ≡ None
+pub nothing_beneath : (cells : Cells) → cells.beneath ≡ replicate 20 None
+    → (column row : ℕ) → held_beneath cells column row ≡ None
 unfolding held_beneath
-nothing_beneath cells e column row = let s = none_at 20 (block_cell column row) cells.beneath e in grind (arith, nat_tests, s)
+nothing_beneath cells e column row =
+    let s = none_at 20 (block_cell column row) cells.beneath e in grind (arith, nat_tests, s)
 
 -- a place after a block was laid
-over_at : (old new : Cells) (block : Rectangle) (motion : Motion) (x y width height : ℕ) → x ≡ block.x → y ≡ block.y → width ≡ block.width → height ≡ block.height → block.x + block.width ≤ 16 → block.y + block.height ≤ 16
-    → (i j : ℕ) → (i < 34 → j < 17 → get_or new.places (cell i j) None ≡ cond ((nat_le (x + 1) i && nat_lt i (x + 1 + width)) && (nat_le (y + 1) j && nat_lt j (y + 1 + height))) (Some motion) (get_or old.places (cell i j) None))
+over_at : (old new : Cells) (block : Rectangle) (motion : Motion) (x y width height : ℕ) → x ≡ block.x → y ≡ block.y
+    → width ≡ block.width → height ≡ block.height → block.x + block.width ≤ 16 → block.y + block.height ≤ 16
+    → (i j : ℕ) → (i < 34 → j < 17
+    → get_or new.places (cell i j) None
+    ≡ cond ((nat_le (x + 1) i && nat_lt i (x + 1 + width)) && (nat_le (y + 1) j && nat_lt j (y + 1 + height)))
+    (Some motion) (get_or old.places (cell i j) None))
     → held new i j ≡ motion_over block motion (held old) i j
 unfolding held motion_over
 over_at old new block motion x y width height ex ey ew eh hx hy i j told = grind (arith, nat_tests)
 
-pub held_over : (old new : Cells) (places places' : List (Option Motion)) (block : Rectangle) (motion : Motion) (x y width height : ℕ) → old.places ≡ places → new.places ≡ places' → x ≡ block.x → y ≡ block.y → width ≡ block.width → height ≡ block.height → block.x + block.width ≤ 16 → block.y + block.height ≤ 16
-    → ((i j : ℕ) (d : Option Motion) → i < 34 → j < 17 → get_or places' (cell i j) d ≡ cond ((nat_le (x + 1) i && nat_lt i (x + 1 + width)) && (nat_le (y + 1) j && nat_lt j (y + 1 + height))) (Some motion) (get_or places (cell i j) d))
+pub held_over : (old new : Cells) (places places' : List (Option Motion)) (block : Rectangle) (motion : Motion)
+    (x y width height : ℕ)
+    → old.places ≡ places → new.places ≡ places' → x ≡ block.x → y ≡ block.y → width ≡ block.width
+    → height ≡ block.height → block.x + block.width ≤ 16 → block.y + block.height ≤ 16
+    → ((i j : ℕ) (d : Option Motion) → i < 34 → j < 17
+    → get_or places' (cell i j) d
+    ≡ cond ((nat_le (x + 1) i && nat_lt i (x + 1 + width)) && (nat_le (y + 1) j && nat_lt j (y + 1 + height)))
+    (Some motion) (get_or places (cell i j) d))
     → held new ≡ motion_over block motion (held old)
 held_over old new places places' block motion x y width height eo en ex ey ew eh hx hy told =
-    fun_ext (λ i. fun_ext (λ j. over_at old new block motion x y width height ex ey ew eh hx hy i j (λ hi hj. rw (eo, en) (told i j None hi hj))))
+    fun_ext (λ i. fun_ext (λ j. over_at old new block motion x y width height ex ey ew eh hx hy i j
+    (λ hi hj. rw (eo, en) (told i j None hi hj))))

@@ -8,19 +8,25 @@ use Rattle.spec_motion.specs.Vectors.{Beneath, Known}
 use Rattle.spec_motion.specs.Units.{item_derived, unit_derived}
 
 -- one more item
-pub derived_more : (slice : SliceMotion) (beneath below : Beneath) (items : List Item) (k : ℕ) (d item : Item) (known next end : Known) → k < length items
+pub derived_more : (slice : SliceMotion) (beneath below : Beneath) (items : List Item) (k : ℕ) (d item : Item)
+    (known next end : Known)
+    → k < length items
     → get_or items k d ≡ item → below ≡ beneath
     → next ≡ item_derived slice below known item
     → fold (item_derived slice beneath) known (drop k items) ≡ end
     → fold (item_derived slice beneath) next (drop (k + 1) items) ≡ end
 derived_more slice beneath below items k d item known next end lt is same e told =
-    ap (λ (n : Known). fold (item_derived slice beneath) n (drop (k + 1) items)) (e ∙ ap (λ (b : Beneath). item_derived slice b known item) same)
-    ∙ sym (ap (λ (rest : List Item). fold (item_derived slice beneath) known rest) (drop_more items k d lt ∙ ap (λ (first : Item). first ∷ drop (k + 1) items) is))
+    ap (λ (n : Known). fold (item_derived slice beneath) n (drop (k + 1) items))
+    (e ∙ ap (λ (b : Beneath). item_derived slice b known item) same)
+    ∙ sym (ap (λ (rest : List Item). fold (item_derived slice beneath) known rest)
+    (drop_more items k d lt ∙ ap (λ (first : Item). first ∷ drop (k + 1) items) is))
     ∙ told
 
 -- behind the last item
-pub derived_all : (slice : SliceMotion) (beneath : Beneath) (items : List Item) (k : ℕ) (known start : Known) → length items ≤ k
-    → fold (item_derived slice beneath) known (drop k items) ≡ fold (item_derived slice beneath) start items → known ≡ unit_derived slice beneath items start
+pub derived_all : (slice : SliceMotion) (beneath : Beneath) (items : List Item) (k : ℕ) (known start : Known)
+    → length items ≤ k
+    → fold (item_derived slice beneath) known (drop k items) ≡ fold (item_derived slice beneath) start items
+    → known ≡ unit_derived slice beneath items start
 unfolding unit_derived
 derived_all slice beneath items k known start le told =
     sym (ap (λ (rest : List Item). fold (item_derived slice beneath) known rest) (drop_all k items le)) ∙ told

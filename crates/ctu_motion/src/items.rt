@@ -13,7 +13,8 @@ use spec_motion::{SliceMotion, is_placed};
 /// doesn't lie in the unit is passed over.
 #[tactic(auto, unfolding(spec_motion::specs::Units::unit_derived))]
 pub fn derive_motion(items: &[Item], slice: &SliceMotion, motion: &mut UnitMotion)
-    ensures places { All IsPlacedItem items.now → held motion.new ≡ unit_derived slice.now (held_beneath motion.old) items.now (held motion.old) }
+    ensures places { All IsPlacedItem items.now
+        → held motion.new ≡ unit_derived slice.now (held_beneath motion.old) items.now (held motion.old) }
     ensures beneath { held_beneath motion.new ≡ held_beneath motion.old }
 {
     for k in 0..items.len() {
@@ -23,7 +24,8 @@ pub fn derive_motion(items: &[Item], slice: &SliceMotion, motion: &mut UnitMotio
 
 /// Derives an item.
 fn derive_item(item: Item, slice: &SliceMotion, motion: &mut UnitMotion)
-    ensures places { IsPlacedItem item → held motion.new ≡ item_derived slice.now (held_beneath motion.old) (held motion.old) item }
+    ensures places { IsPlacedItem item
+        → held motion.new ≡ item_derived slice.now (held_beneath motion.old) (held motion.old) item }
     ensures beneath { held_beneath motion.new ≡ held_beneath motion.old }
 {
     match item {

@@ -53,7 +53,8 @@ impl UnitMotion {
     pub fn put(&mut self, column: usize, row: usize, motion: Option<Motion>)
         requires column { column < 34 }
         requires row { row < 17 }
-        ensures places { (i j : ℕ) → held self.new i j ≡ (if (i == column) && (j == row) then motion else held self.old i j) }
+        ensures places { (i j : ℕ)
+            → held self.new i j ≡ (if (i == column) && (j == row) then motion else held self.old i j) }
         ensures beneath { held_beneath self.new ≡ held_beneath self.old }
     {
         self.places[34 * row + column] = motion;
@@ -65,7 +66,8 @@ impl UnitMotion {
         requires column { column < 5 }
         requires row { row < 4 }
         ensures places { held self.new ≡ held self.old }
-        ensures beneath { (i j : ℕ) → held_beneath self.new i j ≡ (if (i == column) && (j == row) then motion else held_beneath self.old i j) }
+        ensures beneath { (i j : ℕ)
+            → held_beneath self.new i j ≡ (if (i == column) && (j == row) then motion else held_beneath self.old i j) }
     {
         self.beneath[5 * row + column] = motion;
     }

@@ -2,7 +2,8 @@
 use Rattle.std.specs.Prelude.{ℕ, ◌+◌, ◌-◌, ◌*◌, ◌/◌, ◌^◌, ◌==◌, Bool, nat_le, nat_lt, ◌&&◌, if◌then◌else◌}
 use Rattle.ctu_records.specs.declared.item.Square.{Square}
 use Rattle.ctu_records.specs.declared.prediction.PartMode.{PartMode}
-use Rattle.ctu_records.specs.declared.prediction.PartMode.TheVariants.{Whole, TwoNxN, Nx2N, NxN, TwoNxnU, TwoNxnD, NLx2N, NRx2N}
+use Rattle.ctu_records.specs.declared.prediction.PartMode.TheVariants.{Whole, TwoNxN, Nx2N, NxN, TwoNxnU, TwoNxnD}
+use Rattle.ctu_records.specs.declared.prediction.PartMode.TheVariants.{NLx2N, NRx2N}
 use Rattle.ctu_records.specs.declared.prediction.Rectangle.{Rectangle}
 
 abbrev pub rectangle : ℕ → ℕ → ℕ → ℕ → Rectangle
@@ -32,4 +33,5 @@ part_block unit part_mode part = part_of unit.x unit.y (2 ^ unit.log2_size) part
 
 -- whether a place is in a block
 abbrev pub is_inside : Rectangle → ℕ → ℕ → Bool
-is_inside block i j = (nat_le block.x i && nat_lt i (block.x + block.width)) && (nat_le block.y j && nat_lt j (block.y + block.height))
+is_inside block i j =
+    (nat_le block.x i && nat_lt i (block.x + block.width)) && (nat_le block.y j && nat_lt j (block.y + block.height))

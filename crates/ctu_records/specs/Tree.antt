@@ -1,11 +1,13 @@
 -- What was read of a coding tree unit, and what is asked of it by place.
-use Rattle.std.specs.Prelude.{◌≡◌, ℕ, ◌+◌, ◌-◌, ◌^◌, ◌≤◌, ◌==◌, Bool, true, false, List, [], ◌∷◌, ◌++◌, slice_index_or, map, nat_lt, if◌then◌else◌, length}
+use Rattle.std.specs.Prelude.{◌≡◌, ℕ, ◌+◌, ◌-◌, ◌^◌, ◌≤◌, ◌==◌, Bool, true, false, List, [], ◌∷◌, ◌++◌, slice_index_or}
+use Rattle.std.specs.Prelude.{map, nat_lt, if◌then◌else◌, length}
 use Rattle.std.specs.List.{range_with_len, fold}
 use Rattle.ctu_records.specs.declared.item.Square.{Square}
 use Rattle.ctu_records.specs.declared.item.CodingPlace.{CodingPlace}
 use Rattle.ctu_records.specs.declared.item.CodingUnit.{CodingUnit}
 use Rattle.ctu_records.specs.declared.item.Item.{Item}
-use Rattle.ctu_records.specs.declared.item.Item.TheVariants.{Unit, Luma, Chroma, Prediction, Pcm, Sample, Transform, Delta, Block, Level}
+use Rattle.ctu_records.specs.declared.item.Item.TheVariants.{Unit, Luma, Chroma, Prediction, Pcm, Sample, Transform}
+use Rattle.ctu_records.specs.declared.item.Item.TheVariants.{Delta, Block, Level}
 use Rattle.ctu_records.specs.declared.side.Side.{Side}
 use Rattle.ctu_records.specs.declared.offset.Sao.{Sao}
 use Rattle.ctu_records.specs.declared.records.Quantization.{Quantization}
@@ -22,16 +24,44 @@ pub record Ctu : Type 0 where
   pub items : List Item
 
 abbrev pub added : Ctu → Item → Ctu
-added ctu item = record { size = ctu.size; left = ctu.left; above = ctu.above; sao = ctu.sao; quantization = ctu.quantization; items = ctu.items ++ item ∷ [] }
+added ctu item = record {
+  size = ctu.size;
+  left = ctu.left;
+  above = ctu.above;
+  sao = ctu.sao;
+  quantization = ctu.quantization;
+  items = ctu.items ++ item ∷ [];
+}
 
 abbrev pub with_size : Ctu → ℕ → Ctu
-with_size ctu size = record { size = size; left = ctu.left; above = ctu.above; sao = ctu.sao; quantization = ctu.quantization; items = ctu.items }
+with_size ctu size = record {
+  size = size;
+  left = ctu.left;
+  above = ctu.above;
+  sao = ctu.sao;
+  quantization = ctu.quantization;
+  items = ctu.items;
+}
 
 abbrev pub with_sao : Ctu → Sao → Ctu
-with_sao ctu sao = record { size = ctu.size; left = ctu.left; above = ctu.above; sao = sao; quantization = ctu.quantization; items = ctu.items }
+with_sao ctu sao = record {
+  size = ctu.size;
+  left = ctu.left;
+  above = ctu.above;
+  sao = sao;
+  quantization = ctu.quantization;
+  items = ctu.items;
+}
 
 abbrev pub with_quantization : Ctu → Quantization → Ctu
-with_quantization ctu quantization = record { size = ctu.size; left = ctu.left; above = ctu.above; sao = ctu.sao; quantization = quantization; items = ctu.items }
+with_quantization ctu quantization = record {
+  size = ctu.size;
+  left = ctu.left;
+  above = ctu.above;
+  sao = ctu.sao;
+  quantization = quantization;
+  items = ctu.items;
+}
 
 -- a value that each item of a kind lays over its square
 abbrev pub laid : {A : Type 0} → Square → A → (ℕ → ℕ → A) → ℕ → ℕ → A
@@ -116,15 +146,18 @@ depth_left ctu x y = if x == 0 then (slice_index_or ctu.left y no_side).depth el
 
 -- CtDepth above a place
 unfoldable pub depth_above : Ctu → ℕ → ℕ → ℕ
-depth_above ctu x y = if y == 0 then (slice_index_or ctu.above x no_side).depth else (coding_at ctu.items x (y - 1)).depth
+depth_above ctu x y =
+    if y == 0 then (slice_index_or ctu.above x no_side).depth else (coding_at ctu.items x (y - 1)).depth
 
 -- cu_skip_flag left of a place
 unfoldable pub skipped_left : Ctu → ℕ → ℕ → Bool
-skipped_left ctu x y = if x == 0 then (slice_index_or ctu.left y no_side).skipped else (coding_at ctu.items (x - 1) y).skipped
+skipped_left ctu x y =
+    if x == 0 then (slice_index_or ctu.left y no_side).skipped else (coding_at ctu.items (x - 1) y).skipped
 
 -- cu_skip_flag above a place
 unfoldable pub skipped_above : Ctu → ℕ → ℕ → Bool
-skipped_above ctu x y = if y == 0 then (slice_index_or ctu.above x no_side).skipped else (coding_at ctu.items x (y - 1)).skipped
+skipped_above ctu x y =
+    if y == 0 then (slice_index_or ctu.above x no_side).skipped else (coding_at ctu.items x (y - 1)).skipped
 
 -- candIntraPredModeX of the place on the left (8.4.2)
 unfoldable pub mode_left : Ctu → ℕ → ℕ → ℕ
@@ -166,7 +199,8 @@ abbrev pub room : ℕ
 room = 16384
 
 -- what the records keep
-pub record AreKept (size : ℕ) (left above : List Side) (items : List Item) (capacity : ℕ) (codings : List CodingPlace) (modes qps : List ℕ) : Type 0 where
+pub record AreKept (size : ℕ) (left above : List Side) (items : List Item) (capacity : ℕ) (codings : List CodingPlace)
+    (modes qps : List ℕ) : Type 0 where
   pub small : size ≤ 4
   pub lefts : length left ≡ 16
   pub aboves : length above ≡ 16

@@ -1,8 +1,11 @@
 //! The records of a coding tree unit.
 
-ghost use Rattle.std.specs.Prelude.{◌≡◌, ℕ, Bool, true, ◌+◌, ◌-◌, ◌*◌, ◌^◌, ◌<◌, ◌≤◌, List, [], ◌∷◌, ◌++◌, length, IfOk, vec_capacity};
+ghost use Rattle.std.specs.Prelude.{◌≡◌, ℕ, Bool, true, ◌+◌, ◌-◌, ◌*◌, ◌^◌, ◌<◌, ◌≤◌, List, [], ◌∷◌, ◌++◌, length};
+ghost use Rattle.std.specs.Prelude.{IfOk, vec_capacity};
 ghost use Rattle.ctu_records.specs.declared.item.Item.TheVariants.{Unit, Luma, Delta};
-ghost use Rattle.ctu_records.specs.Tree.{Ctu, added, with_size, with_sao, with_quantization, depth_left, depth_above, skipped_left, skipped_above, mode_left, mode_above, qp_left, qp_above, luma_mode_at, coding_at, qp_at, IsPlaced, lays_nothing, room};
+ghost use Rattle.ctu_records.specs.Tree.{Ctu, added, with_size, with_sao, with_quantization, depth_left, depth_above};
+ghost use Rattle.ctu_records.specs.Tree.{skipped_left, skipped_above, mode_left, mode_above, qp_left, qp_above};
+ghost use Rattle.ctu_records.specs.Tree.{luma_mode_at, coding_at, qp_at, IsPlaced, lays_nothing, room};
 
 use crate::item::{CodingPlace, CodingUnit, Item, LumaMode, QpDelta};
 use crate::offset::{ComponentOffset, Sao};
@@ -44,9 +47,17 @@ impl Model for Records {
 
     ghost Value = { Ctu };
 
-    ghost view = { λ r. record { size = r.size; left = r.left; above = r.above; sao = r.sao; quantization = r.quantization; items = r.items.items } };
+    ghost view = { λ r. record {
+      size = r.size;
+      left = r.left;
+      above = r.above;
+      sao = r.sao;
+      quantization = r.quantization;
+      items = r.items.items;
+    } };
 
-    ghost invariant = { λ r. AreKept r.size r.left r.above r.items.items (vec_capacity r.items) r.codings r.modes r.qps };
+    ghost invariant = { λ r. AreKept r.size r.left r.above r.items.items (vec_capacity r.items)
+        r.codings r.modes r.qps };
 }
 
 /// How many items a unit has at most: 64 a place of the greatest one.
@@ -104,7 +115,15 @@ impl Records {
 
     /// A unit begins between these places, behind a unit of this quantization.
     pub fn restart(&mut self, left: [Side; 16], above: [Side; 16], quantization: Quantization)
-        ensures { self.new ≡ record { size = self.old.size; left = left; above = above; sao = self.old.sao; quantization = quantization; items = [] } }
+        ensures { self.new
+            ≡ record {
+              size = self.old.size;
+              left = left;
+              above = above;
+              sao = self.old.sao;
+              quantization = quantization;
+              items = [];
+            } }
     {
         self.left = left;
         self.above = above;

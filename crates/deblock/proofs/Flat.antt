@@ -1,5 +1,6 @@
 -- Places of samples in memory.
-use Rattle.std.proofs.Common.{◌≡◌, ℕ, ◌+◌, ◌-◌, ◌*◌, ◌<◌, ◌≤◌, Bool, true, false, ◌&&◌, cond, nat_le, nat_lt, nat_eq, List, length, slice_index_or, slice_set, refl, ap, sym, ◌∙◌, arith}
+use Rattle.std.proofs.Common.{◌≡◌, ℕ, ◌+◌, ◌-◌, ◌*◌, ◌<◌, ◌≤◌, Bool, true, false, ◌&&◌, cond, nat_le, nat_lt, nat_eq}
+use Rattle.std.proofs.Common.{List, length, slice_index_or, slice_set, refl, ap, sym, ◌∙◌, arith}
 use Rattle.std.proofs.Math.Nat.{mul-le-mul_left}
 use Rattle.std.proofs.lemmas.Grind.{common_steps}
 use Rattle.std.proofs.lemmas.Bool.Decides.{nat_tests}
@@ -34,14 +35,21 @@ inside_of w a b h = record {
   along_end = grind (arith, nat_tests);
 }
 
-pub inside_holds : (w : Window) (a b : ℕ) → w.across_first ≤ a → a < w.across_end → w.along_first ≤ b → b < w.along_end → holds w a b ≡ true
+pub inside_holds : (w : Window) (a b : ℕ) → w.across_first ≤ a → a < w.across_end → w.along_first ≤ b → b < w.along_end
+    → holds w a b ≡ true
 inside_holds w a b p q r s = grind (arith, nat_tests)
 
-pub turned_inside : (w : Window) (a b : ℕ) → w.turned ≡ true → IsInside w a b → w.along_end * (a - w.across_first) + b < size w
-turned_inside w a b e i = rw e (flat_inside w.along_end (w.across_end - w.across_first) (a - w.across_first) b i.along_end (omega (arith, i.across_first, i.across_end)))
+pub turned_inside : (w : Window) (a b : ℕ) → w.turned ≡ true → IsInside w a b
+    → w.along_end * (a - w.across_first) + b < size w
+turned_inside w a b e i =
+    rw e (flat_inside w.along_end (w.across_end - w.across_first) (a - w.across_first) b i.along_end
+    (omega (arith, i.across_first, i.across_end)))
 
-pub level_inside : (w : Window) (a b : ℕ) → w.turned ≡ false → IsInside w a b → w.across_end * (b - w.along_first) + a < size w
-level_inside w a b e i = rw e (flat_inside w.across_end (w.along_end - w.along_first) (b - w.along_first) a i.across_end (omega (arith, i.along_first, i.along_end)))
+pub level_inside : (w : Window) (a b : ℕ) → w.turned ≡ false → IsInside w a b
+    → w.across_end * (b - w.along_first) + a < size w
+level_inside w a b e i =
+    rw e (flat_inside w.across_end (w.along_end - w.along_first) (b - w.along_first) a i.across_end
+    (omega (arith, i.along_first, i.along_end)))
 
 turned_and : (p q r : Bool) → r ≡ q → (p && q) ≡ (r && p)
 turned_and true true r e = rw e refl
@@ -55,29 +63,36 @@ and_swapped p q r e = rw e refl
 from_first : (a b c : ℕ) → c ≤ a → c ≤ b → (a - c == b - c) ≡ (a == b)
 from_first a b c h l = grind (arith, nat_tests)
 
-pub index_same : (w : Window) (t : Bool) (a b i j : ℕ) → w.turned ≡ t → IsInside w a b → IsInside w i j → (index w i j == index w a b) ≡ (i == a && j == b)
+pub index_same : (w : Window) (t : Bool) (a b i j : ℕ) → w.turned ≡ t → IsInside w a b → IsInside w i j
+    → (index w i j == index w a b) ≡ (i == a && j == b)
 index_same w true a b i j e h l =
     rw e (flat_same w.along_end (a - w.across_first) b (i - w.across_first) j h.along_end l.along_end
-    ∙ turned_and (j == b) (i - w.across_first == a - w.across_first) (i == a) (sym (from_first i a w.across_first l.across_first h.across_first)))
+    ∙ turned_and (j == b) (i - w.across_first == a - w.across_first) (i == a)
+    (sym (from_first i a w.across_first l.across_first h.across_first)))
 index_same w false a b i j e h l =
     rw e (flat_same w.across_end (b - w.along_first) a (j - w.along_first) i h.across_end l.across_end
-    ∙ and_swapped (i == a) (j - w.along_first == b - w.along_first) (j == b) (from_first j b w.along_first l.along_first h.along_first))
+    ∙ and_swapped (i == a) (j - w.along_first == b - w.along_first) (j == b)
+    (from_first j b w.along_first l.along_first h.along_first))
 
-pub set_seen : (xs : List ℕ) (p q v : ℕ) → p < length xs → slice_index_or (slice_set xs p v) q 0 ≡ cond (q == p) v (slice_index_or xs q 0)
+pub set_seen : (xs : List ℕ) (p q v : ℕ) → p < length xs
+    → slice_index_or (slice_set xs p v) q 0 ≡ cond (q == p) v (slice_index_or xs q 0)
 set_seen xs p q v h = grind (arith, common_steps, nat_tests)
 
-pub put_seen : (w : Window) (xs : List ℕ) (a b v p : ℕ) → p ≡ index w a b → p < length xs → holds w a b ≡ true → (i j : ℕ) → holds w i j ≡ true →
+pub put_seen : (w : Window) (xs : List ℕ) (a b v p : ℕ) → p ≡ index w a b → p < length xs → holds w a b ≡ true →
+    (i j : ℕ) → holds w i j ≡ true →
     seen w (slice_set xs p v) i j ≡ cond (i == a && j == b) v (seen w xs i j)
 put_seen w xs a b v p e h inside i j held =
     set_seen xs p (index w i j) v h
     ∙ ap (λ (q : ℕ). cond (index w i j == q) v (seen w xs i j)) e
-    ∙ ap (λ (t : Bool). cond t v (seen w xs i j)) (index_same w w.turned a b i j refl (inside_of w a b inside) (inside_of w i j held))
+    ∙ ap (λ (t : Bool). cond t v (seen w xs i j))
+    (index_same w w.turned a b i j refl (inside_of w a b inside) (inside_of w i j held))
 
 cond_few : (b : Bool) (u v greatest : ℕ) → u ≤ greatest → v ≤ greatest → cond b u v ≤ greatest
 cond_few true u v greatest p q = p
 cond_few false u v greatest p q = q
 
-pub put_bounded : (greatest v p : ℕ) (xs : List ℕ) → p < length xs → v ≤ greatest → ((k : ℕ) → slice_index_or xs k 0 ≤ greatest) → (k : ℕ) → slice_index_or (slice_set xs p v) k 0 ≤ greatest
+pub put_bounded : (greatest v p : ℕ) (xs : List ℕ) → p < length xs → v ≤ greatest
+    → ((k : ℕ) → slice_index_or xs k 0 ≤ greatest) → (k : ℕ) → slice_index_or (slice_set xs p v) k 0 ≤ greatest
 put_bounded greatest v p xs h few all k =
     let e = set_seen xs p k v h in
     let old = all k in

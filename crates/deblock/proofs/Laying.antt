@@ -1,11 +1,13 @@
 -- One value laid over another.
-use Rattle.std.proofs.Common.{◌≡◌, ℕ, ◌+◌, ◌-◌, ◌*◌, ◌<◌, ◌≤◌, Bool, true, false, ◌&&◌, ◌||◌, cond, nat_le, nat_lt, refl, ◌∙◌, arith}
+use Rattle.std.proofs.Common.{◌≡◌, ℕ, ◌+◌, ◌-◌, ◌*◌, ◌<◌, ◌≤◌, Bool, true, false, ◌&&◌, ◌||◌, cond, nat_le, nat_lt}
+use Rattle.std.proofs.Common.{refl, ◌∙◌, arith}
 use Rattle.std.specs.Prelude.{◌==◌}
 use Rattle.std.proofs.lemmas.Bool.Decides.{nat_tests}
 use Rattle.spec_deblocking.specs.declared.line.Line.{Line}
 use Rattle.spec_deblocking.specs.Lines.{nth}
 
-pub more : (b c d : Bool) (new old start w v : ℕ) → new ≡ cond b w old → old ≡ cond c v start → (b ≡ true → w ≡ v) → d ≡ (c || b) → new ≡ cond d v start
+pub more : (b c d : Bool) (new old start w v : ℕ) → new ≡ cond b w old → old ≡ cond c v start → (b ≡ true → w ≡ v)
+    → d ≡ (c || b) → new ≡ cond d v start
 more true true d new old start w v n o e f = rw f (n ∙ e refl)
 more true false d new old start w v n o e f = rw f (n ∙ e refl)
 more false true d new old start w v n o e f = rw f (n ∙ o)
@@ -24,36 +26,44 @@ cond_no true new v old e t = cc
 cond_no false new v old e t = e
 
 -- one more sample of a line
-pub line_more : (a b from k i j : ℕ) (line : Line) (new old start v : ℕ) → from ≤ k → v ≡ nth line k → new ≡ cond (i == a + k && j == b) v old →
+pub line_more : (a b from k i j : ℕ) (line : Line) (new old start v : ℕ) → from ≤ k → v ≡ nth line k →
+    new ≡ cond (i == a + k && j == b) v old →
     old ≡ cond (j == b && (nat_le (a + from) i && nat_lt i (a + k))) (nth line (i - a)) start →
     new ≡ cond (j == b && (nat_le (a + from) i && nat_lt i (a + (k + 1)))) (nth line (i - a)) start
 line_more a b from k i j line new old start v some e n o =
-    let test : (j == b && (nat_le (a + from) i && nat_lt i (a + (k + 1)))) ≡ ((j == b && (nat_le (a + from) i && nat_lt i (a + k))) || (i == a + k && j == b)) = grind (arith, nat_tests) in
+    let test : (j == b && (nat_le (a + from) i && nat_lt i (a + (k + 1))))
+    ≡ ((j == b && (nat_le (a + from) i && nat_lt i (a + k))) || (i == a + k && j == b)) = grind (arith, nat_tests) in
     let value : (i == a + k && j == b) ≡ true → v ≡ nth line (i - a) = λ (t : (i == a + k && j == b) ≡ true).
     let d : k ≡ i - a = grind (arith, nat_tests) in
     e ∙ rw d refl in
     more _ _ _ new old start _ _ n o value test
 
-pub line_none : (a b from i j v start : ℕ) → start ≡ cond (j == b && (nat_le (a + from) i && nat_lt i (a + from))) v start
+pub line_none : (a b from i j v start : ℕ)
+    → start ≡ cond (j == b && (nat_le (a + from) i && nat_lt i (a + from))) v start
 line_none a b from i j v start =
     let none : (j == b && (nat_le (a + from) i && nat_lt i (a + from))) ≡ false = grind (arith, nat_tests) in
     rw none refl
 
-pub line_end : (a b from k to i j v new start : ℕ) → k ≡ to → new ≡ cond (j == b && (nat_le (a + from) i && nat_lt i (a + k))) v start →
+pub line_end : (a b from k to i j v new start : ℕ) → k ≡ to →
+    new ≡ cond (j == b && (nat_le (a + from) i && nat_lt i (a + k))) v start →
     new ≡ cond (j == b && (nat_le (a + from) i && nat_lt i (a + to))) v start
 line_end a b from k to i j v new start same n = rw (← same) n
 
 -- one more line
-pub lines_more : (first n j : ℕ) (r : Bool) (v : ℕ → ℕ) (new old start : ℕ) → new ≡ cond (j == first + n && r) (v (first + n)) old →
-    old ≡ cond ((nat_le first j && nat_lt j (first + n)) && r) (v j) start → new ≡ cond ((nat_le first j && nat_lt j (first + (n + 1))) && r) (v j) start
+pub lines_more : (first n j : ℕ) (r : Bool) (v : ℕ → ℕ) (new old start : ℕ) →
+    new ≡ cond (j == first + n && r) (v (first + n)) old →
+    old ≡ cond ((nat_le first j && nat_lt j (first + n)) && r) (v j) start
+    → new ≡ cond ((nat_le first j && nat_lt j (first + (n + 1))) && r) (v j) start
 lines_more first n j r v new old start w o =
-    let test : ((nat_le first j && nat_lt j (first + (n + 1))) && r) ≡ (((nat_le first j && nat_lt j (first + n)) && r) || (j == first + n && r)) = grind (arith, nat_tests) in
+    let test : ((nat_le first j && nat_lt j (first + (n + 1))) && r)
+    ≡ (((nat_le first j && nat_lt j (first + n)) && r) || (j == first + n && r)) = grind (arith, nat_tests) in
     let value : (j == first + n && r) ≡ true → v (first + n) ≡ v j = λ (t : (j == first + n && r) ≡ true).
     let d : j ≡ first + n = grind (arith, nat_tests) in
     rw d refl in
     more _ _ _ new old start _ _ w o value test
 
-pub lines_none : (first j : ℕ) (r : Bool) (v start : ℕ) → start ≡ cond ((nat_le first j && nat_lt j (first + 0)) && r) v start
+pub lines_none : (first j : ℕ) (r : Bool) (v start : ℕ)
+    → start ≡ cond ((nat_le first j && nat_lt j (first + 0)) && r) v start
 lines_none first j r v start =
     let none : ((nat_le first j && nat_lt j (first + 0)) && r) ≡ false = grind (arith, nat_tests) in
     rw none refl

@@ -1,5 +1,6 @@
 -- The lines of a place, filtered in part.
-use Rattle.std.proofs.Common.{◌≡◌, ℕ, ◌+◌, ◌-◌, ◌*◌, ◌/◌, ◌%◌, ◌^◌, ◌<◌, ◌≤◌, Bool, true, false, ◌&&◌, ◌||◌, cond, nat_le, nat_lt, refl, ap, sym, ◌∙◌, inl, inr, ◌⊎◌, arith, if◌then◌else◌}
+use Rattle.std.proofs.Common.{◌≡◌, ℕ, ◌+◌, ◌-◌, ◌*◌, ◌/◌, ◌%◌, ◌^◌, ◌<◌, ◌≤◌, Bool, true, false, ◌&&◌, ◌||◌, cond}
+use Rattle.std.proofs.Common.{nat_le, nat_lt, refl, ap, sym, ◌∙◌, inl, inr, ◌⊎◌, arith, if◌then◌else◌}
 use Rattle.std.proofs.lemmas.Bool.{cases_lt}
 use Rattle.std.proofs.lemmas.Bool.Decides.{nat_tests}
 use Rattle.spec_deblocking.specs.declared.line.Line.{Line}
@@ -36,7 +37,8 @@ beside_of plane s e i j t = record {
   last = grind (arith, nat_tests);
 }
 
-written_yes : (plane : Plane) (s a from to i j : ℕ) → side plane * s ≤ j → j < side plane * s + side plane → a + from ≤ i → i < a + to → is_written plane s a from to i j ≡ true
+written_yes : (plane : Plane) (s a from to i j : ℕ) → side plane * s ≤ j → j < side plane * s + side plane
+    → a + from ≤ i → i < a + to → is_written plane s a from to i j ≡ true
 written_yes plane s a from to i j p q r t = grind (arith, nat_tests)
 
 written_early : (plane : Plane) (s a from to i j : ℕ) → i < a + from → is_written plane s a from to i j ≡ false
@@ -45,7 +47,8 @@ written_early plane s a from to i j p = grind (arith, nat_tests)
 written_late : (plane : Plane) (s a from to i j : ℕ) → a + to ≤ i → is_written plane s a from to i j ≡ false
 written_late plane s a from to i j p = grind (arith, nat_tests)
 
-written_apart : (plane : Plane) (s e from to i j : ℕ) → 0 < e → to ≤ 8 → is_beside plane s e i j ≡ false → is_written plane s (8 * e - 4) from to i j ≡ false
+written_apart : (plane : Plane) (s e from to i j : ℕ) → 0 < e → to ≤ 8 → is_beside plane s e i j ≡ false
+    → is_written plane s (8 * e - 4) from to i j ≡ false
 written_apart plane s e from to i j p q t = grind (arith, nat_tests)
 
 first_four : (kept : Bool) (a lo from : ℕ) → from ≡ cond (kept || nat_lt a lo) 4 0 → kept ≡ true → from ≡ 4
@@ -72,38 +75,48 @@ end_some : (b : Bool) (to : ℕ) → to ≡ cond b 4 8 → 4 ≤ to
 end_some true to e = omega (arith, e)
 end_some false to e = omega (arith, e)
 
-pub low_first : (kept : Bool) (a lo from k : ℕ) → from ≡ cond (kept || nat_lt a lo) 4 0 → lo ≤ a + 4 → from ≤ k → lo ≤ a + k
+pub low_first : (kept : Bool) (a lo from k : ℕ) → from ≡ cond (kept || nat_lt a lo) 4 0 → lo ≤ a + 4 → from ≤ k
+    → lo ≤ a + k
 low_first true a lo from k e l h = omega (arith, e)
 low_first false a lo from k e l h = grind (arith, nat_tests)
 
-pub high_end : (kept : Bool) (a hi to k : ℕ) → to ≡ cond (kept || nat_lt hi (a + 8)) 4 8 → a + 4 ≤ hi → k < to → a + k < hi
+pub high_end : (kept : Bool) (a hi to k : ℕ) → to ≡ cond (kept || nat_lt hi (a + 8)) 4 8 → a + 4 ≤ hi → k < to
+    → a + k < hi
 high_end true a hi to k e l h = omega (arith, e)
 high_end false a hi to k e l h = grind (arith, nat_tests)
 
-kept_sample : (plane : Plane) (depth : ℕ) (places : ℕ → ℕ → Place) (f : ℕ → ℕ → ℕ) (e j k : ℕ) (b : Bool) → nat_lt k 4 ≡ b →
+kept_sample : (plane : Plane) (depth : ℕ) (places : ℕ → ℕ → Place) (f : ℕ → ℕ → ℕ) (e j k : ℕ) (b : Bool) →
+    nat_lt k 4 ≡ b →
     (if b then (place_before plane places e j).kept else (place_behind plane places e j).kept) ≡ true → k < 8 →
     edge_sample plane depth places f e j k ≡ f (8 * e - 4 + k) j
 unfolding edge_sample
 kept_sample plane depth places f e j k b t kept few = rw (t, kept) (nth_is f (8 * e - 4) j k few)
 
-open_sample : (plane : Plane) (depth : ℕ) (places : ℕ → ℕ → Place) (f : ℕ → ℕ → ℕ) (e j k : ℕ) (b : Bool) → nat_lt k 4 ≡ b →
+open_sample : (plane : Plane) (depth : ℕ) (places : ℕ → ℕ → Place) (f : ℕ → ℕ → ℕ) (e j k : ℕ) (b : Bool) →
+    nat_lt k 4 ≡ b →
     (if b then (place_before plane places e j).kept else (place_behind plane places e j).kept) ≡ false →
     edge_sample plane depth places f e j k ≡ nth (filtered_line plane depth places f e j) k
 unfolding edge_sample
 open_sample plane depth places f e j k b t kept = rw (t, kept) refl
 
-line_of : (plane : Plane) (depth : ℕ) (places : ℕ → ℕ → Place) (f : ℕ → ℕ → ℕ) (e s j : ℕ) (p q : Place) (filter : Filter) (greatest t : ℕ) → j / side plane ≡ s →
+line_of : (plane : Plane) (depth : ℕ) (places : ℕ → ℕ → Place) (f : ℕ → ℕ → ℕ) (e s j : ℕ) (p q : Place)
+    (filter : Filter) (greatest t : ℕ) →
+    j / side plane ≡ s →
     p ≡ place_before plane places e j → q ≡ place_behind plane places e j →
-    filter ≡ edge_filter plane depth p q (across f (8 * e - 4) (side plane * s)) (across f (8 * e - 4) (side plane * s + (side plane - 1))) →
+    filter
+    ≡ edge_filter plane depth p q (across f (8 * e - 4) (side plane * s))
+    (across f (8 * e - 4) (side plane * s + (side plane - 1))) →
     greatest ≡ 2 ^ depth - 1 → t ≡ tc plane depth p q →
     filtered_line plane depth places f e j ≡ filtered filter greatest t (across f (8 * e - 4) j)
 unfolding filtered_line
 line_of plane depth places f e s j p q filter greatest t here ep eq ef eg et = rw (ef, eg, et, ep, eq, ← here) refl
 
-before_laid : (kept : Bool) (plane : Plane) (depth : ℕ) (places : ℕ → ℕ → Place) (f : ℕ → ℕ → ℕ) (e s i j : ℕ) (p : Place) (from to lo : ℕ) (line : Line) (new old : ℕ) →
+before_laid : (kept : Bool) (plane : Plane) (depth : ℕ) (places : ℕ → ℕ → Place) (f : ℕ → ℕ → ℕ) (e s i j : ℕ)
+    (p : Place) (from to lo : ℕ) (line : Line) (new old : ℕ) →
     p.kept ≡ kept → 0 < e → IsBeside plane s e i j → i < 8 * e → p ≡ place_before plane places e j →
     line ≡ filtered_line plane depth places f e j → from ≡ cond (p.kept || nat_lt (8 * e - 4) lo) 4 0 → 4 ≤ to →
-    lo ≤ i → lo % 8 ≡ 0 → old ≡ f i j → new ≡ cond (is_written plane s (8 * e - 4) from to i j) (nth line (i - (8 * e - 4))) old →
+    lo ≤ i → lo % 8 ≡ 0 → old ≡ f i j →
+    new ≡ cond (is_written plane s (8 * e - 4) from to i j) (nth line (i - (8 * e - 4))) old →
     new ≡ edge_sample plane depth places f e j (i + 4 - 8 * e)
 before_laid true plane depth places f e s i j p from to lo line new old kp some at lt ep el efrom eto low whole eo n =
     let four : from ≡ 4 = first_four p.kept (8 * e - 4) lo from efrom kp in
@@ -118,14 +131,18 @@ before_laid false plane depth places f e s i j p from to lo line new old kp some
     let k : i - (8 * e - 4) ≡ i + 4 - 8 * e = omega (arith, at.low) in
     let first : nat_lt (i + 4 - 8 * e) 4 ≡ true = grind (arith, nat_tests) in
     let kb : (place_before plane places e j).kept ≡ false = rw ep at kp in
-    cond_yes _ _ _ _ n (written_yes plane s (8 * e - 4) from to i j at.first at.last (omega (arith, none, at.low)) (omega (arith, eto, at.low)))
+    cond_yes _ _ _ _ n
+    (written_yes plane s (8 * e - 4) from to i j at.first at.last (omega (arith, none, at.low))
+    (omega (arith, eto, at.low)))
     ∙ ap (λ (x : ℕ). nth line x) k ∙ ap (λ (l : Line). nth l (i + 4 - 8 * e)) el
     ∙ sym (open_sample plane depth places f e j (i + 4 - 8 * e) true first kb)
 
-behind_laid : (kept : Bool) (plane : Plane) (depth : ℕ) (places : ℕ → ℕ → Place) (f : ℕ → ℕ → ℕ) (e s i j : ℕ) (q : Place) (from to hi : ℕ) (line : Line) (new old : ℕ) →
+behind_laid : (kept : Bool) (plane : Plane) (depth : ℕ) (places : ℕ → ℕ → Place) (f : ℕ → ℕ → ℕ) (e s i j : ℕ)
+    (q : Place) (from to hi : ℕ) (line : Line) (new old : ℕ) →
     q.kept ≡ kept → 0 < e → IsBeside plane s e i j → 8 * e ≤ i → q ≡ place_behind plane places e j →
     line ≡ filtered_line plane depth places f e j → from ≤ 4 → to ≡ cond (q.kept || nat_lt hi (8 * e - 4 + 8)) 4 8 →
-    i < hi → hi % 4 ≡ 0 → old ≡ f i j → new ≡ cond (is_written plane s (8 * e - 4) from to i j) (nth line (i - (8 * e - 4))) old →
+    i < hi → hi % 4 ≡ 0 → old ≡ f i j →
+    new ≡ cond (is_written plane s (8 * e - 4) from to i j) (nth line (i - (8 * e - 4))) old →
     new ≡ edge_sample plane depth places f e j (i + 4 - 8 * e)
 behind_laid true plane depth places f e s i j q from to hi line new old kq some at le eq el efrom eto high whole eo n =
     let four : to ≡ 4 = end_four q.kept (8 * e - 4) hi to eto kq in
@@ -140,7 +157,9 @@ behind_laid false plane depth places f e s i j q from to hi line new old kq some
     let k : i - (8 * e - 4) ≡ i + 4 - 8 * e = omega (arith, at.low) in
     let first : nat_lt (i + 4 - 8 * e) 4 ≡ false = grind (arith, nat_tests) in
     let kb : (place_behind plane places e j).kept ≡ false = rw eq at kq in
-    cond_yes _ _ _ _ n (written_yes plane s (8 * e - 4) from to i j at.first at.last (omega (arith, efrom)) (omega (arith, eight, at.high)))
+    cond_yes _ _ _ _ n
+    (written_yes plane s (8 * e - 4) from to i j at.first at.last (omega (arith, efrom))
+    (omega (arith, eight, at.high)))
     ∙ ap (λ (x : ℕ). nth line x) k ∙ ap (λ (l : Line). nth l (i + 4 - 8 * e)) el
     ∙ sym (open_sample plane depth places f e j (i + 4 - 8 * e) false first kb)
 
@@ -149,16 +168,22 @@ end_few true to e = omega (arith, e)
 end_few false to e = omega (arith, e)
 
 -- the lines of a place across an edge, each side laid where it isn't kept and is there
-pub place_laid : (plane : Plane) (depth : ℕ) (places : ℕ → ℕ → Place) (f : ℕ → ℕ → ℕ) (e s i j : ℕ) (p q : Place) (filter : Filter) (greatest t from to lo hi new old : ℕ) →
+pub place_laid : (plane : Plane) (depth : ℕ) (places : ℕ → ℕ → Place) (f : ℕ → ℕ → ℕ) (e s i j : ℕ) (p q : Place)
+    (filter : Filter) (greatest t from to lo hi new old : ℕ) →
     0 < e → lo ≤ i → i < hi → lo % 8 ≡ 0 → hi % 4 ≡ 0 →
     p ≡ places ((8 * e - 1) / side plane) s → q ≡ places (8 * e / side plane) s →
-    filter ≡ edge_filter plane depth p q (across f (8 * e - 4) (side plane * s)) (across f (8 * e - 4) (side plane * s + (side plane - 1))) →
+    filter
+    ≡ edge_filter plane depth p q (across f (8 * e - 4) (side plane * s))
+    (across f (8 * e - 4) (side plane * s + (side plane - 1))) →
     greatest ≡ 2 ^ depth - 1 → t ≡ tc plane depth p q →
     from ≡ cond (p.kept || nat_lt (8 * e - 4) lo) 4 0 → to ≡ cond (q.kept || nat_lt hi (8 * e - 4 + 8)) 4 8 →
     (is_beside plane s e i j ≡ true → old ≡ f i j) →
-    new ≡ cond (is_written plane s (8 * e - 4) from to i j) (nth (filtered filter greatest t (across f (8 * e - 4) j)) (i - (8 * e - 4))) old →
+    new
+    ≡ cond (is_written plane s (8 * e - 4) from to i j)
+    (nth (filtered filter greatest t (across f (8 * e - 4) j)) (i - (8 * e - 4))) old →
     new ≡ cond (is_beside plane s e i j) (edge_sample plane depth places f e j (i + 4 - 8 * e)) old
-place_laid plane depth places f e s i j p q filter greatest t from to lo hi new old some low high wl wh ep eq ef eg et efrom eto eo n =
+place_laid plane depth places f e s i j p q filter greatest t from to lo hi new old some low high wl wh ep eq ef
+    eg et efrom eto eo n =
     cond_intro (is_beside plane s e i j) _ _ _
     (λ (b : is_beside plane s e i j ≡ true).
     let at = beside_of plane s e i j b in
@@ -167,7 +192,12 @@ place_laid plane depth places f e s i j p q filter greatest t from to lo hi new 
     let qb : q ≡ place_behind plane places e j = rw here eq in
     let line = sym (line_of plane depth places f e s j p q filter greatest t here pb qb ef eg et) in
     elim (cases_lt i (8 * e)) [
-      | inl lt ↦ before_laid p.kept plane depth places f e s i j p from to lo _ new old refl some at lt pb line efrom (end_some _ to eto) low wl (eo b) n
-      | inr le ↦ behind_laid q.kept plane depth places f e s i j q from to hi _ new old refl some at le qb line (first_few _ from efrom) eto high wh (eo b) n
+      | inl lt ↦
+          before_laid p.kept plane depth places f e s i j p from to lo _ new old refl some at lt pb line efrom
+          (end_some _ to eto) low wl (eo b) n
+      | inr le ↦
+          behind_laid q.kept plane depth places f e s i j q from to hi _ new old refl some at le qb line
+          (first_few _ from efrom) eto high wh (eo b) n
     ])
-    (λ (b : is_beside plane s e i j ≡ false). cond_no _ _ _ _ n (written_apart plane s e from to i j some (end_few _ to eto) b))
+    (λ (b : is_beside plane s e i j ≡ false). cond_no _ _ _ _ n
+    (written_apart plane s e from to i j some (end_few _ to eto) b))

@@ -1,5 +1,6 @@
 -- Edges of a row, filtered one after the other.
-use Rattle.std.specs.Prelude.{ℕ, ◌+◌, ◌-◌, ◌*◌, ◌/◌, ◌%◌, ◌≤◌, ◌<◌, ◌≡◌, ◌⊎◌, Bool, true, false, ◌&&◌, ◌||◌, min, nat_le, nat_lt, cond, List, if◌then◌else◌}
+use Rattle.std.specs.Prelude.{ℕ, ◌+◌, ◌-◌, ◌*◌, ◌/◌, ◌%◌, ◌≤◌, ◌<◌, ◌≡◌, ◌⊎◌, Bool, true, false, ◌&&◌, ◌||◌, min}
+use Rattle.std.specs.Prelude.{nat_le, nat_lt, cond, List, if◌then◌else◌}
 use Rattle.spec_deblocking.specs.declared.place.Place.{Place}
 use Rattle.spec_deblocking.specs.declared.place.Plane.{Plane}
 use Rattle.spec_deblocking.specs.Places.{side, exchanged}
@@ -45,15 +46,19 @@ pub record IsAcross (p : Pass) (e : ℕ) : Type 0 where
 
 -- the samples of place s along edge e
 abbrev pub is_beside : Plane → ℕ → ℕ → ℕ → ℕ → Bool
-is_beside plane s e i j = (nat_le (8 * e) (i + 4) && nat_lt (i + 4) (8 * e + 8)) && (nat_le (side plane * s) j && nat_lt j (side plane * s + side plane))
+is_beside plane s e i j =
+    (nat_le (8 * e) (i + 4) && nat_lt (i + 4) (8 * e + 8))
+    && (nat_le (side plane * s) j && nat_lt j (side plane * s + side plane))
 
 -- a part of these
 abbrev pub is_written : Plane → ℕ → ℕ → ℕ → ℕ → ℕ → ℕ → Bool
-is_written plane s a from to i j = (nat_le (side plane * s) j && nat_lt j (side plane * s + side plane)) && (nat_le (a + from) i && nat_lt i (a + to))
+is_written plane s a from to i j =
+    (nat_le (side plane * s) j && nat_lt j (side plane * s + side plane)) && (nat_le (a + from) i && nat_lt i (a + to))
 
 -- which samples are filtered when edge e of place s is next
 abbrev pub is_done : Plane → ℕ → ℕ → ℕ → ℕ → Bool
 is_done plane s e i j = nat_lt j (side plane * s) || (nat_lt j (side plane * s + side plane) && nat_lt (i + 4) (8 * e))
 
 abbrev pub partly : Plane → ℕ → ℕ → (ℕ → ℕ → Place) → (ℕ → ℕ → ℕ) → ℕ → ℕ → ℕ → ℕ → ℕ
-partly plane depth width places samples s e i j = cond (is_done plane s e i j) (vertical plane depth width places samples i j) (samples i j)
+partly plane depth width places samples s e i j =
+    cond (is_done plane s e i j) (vertical plane depth width places samples i j) (samples i j)

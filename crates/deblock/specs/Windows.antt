@@ -1,6 +1,7 @@
 -- Samples in memory, by their places across and along edges: columns and lines for vertical edges, lines and columns
 -- for horizontal ones.
-use Rattle.std.specs.Prelude.{ℕ, ◌+◌, ◌-◌, ◌*◌, ◌≤◌, ◌≡◌, Bool, true, false, ◌&&◌, nat_le, nat_lt, List, slice_index_or, if◌then◌else◌}
+use Rattle.std.specs.Prelude.{ℕ, ◌+◌, ◌-◌, ◌*◌, ◌≤◌, ◌≡◌, Bool, true, false, ◌&&◌, nat_le, nat_lt, List, slice_index_or}
+use Rattle.std.specs.Prelude.{if◌then◌else◌}
 use Rattle.deblock.specs.declared.window.Window.{Window}
 
 -- lines of so many samples, one after the other
@@ -12,7 +13,8 @@ abbrev pub index : Window → ℕ → ℕ → ℕ
 index w a b = if w.turned then w.along_end * (a - w.across_first) + b else w.across_end * (b - w.along_first) + a
 
 abbrev pub size : Window → ℕ
-size w = if w.turned then w.along_end * (w.across_end - w.across_first) else w.across_end * (w.along_end - w.along_first)
+size w =
+    if w.turned then w.along_end * (w.across_end - w.across_first) else w.across_end * (w.along_end - w.along_first)
 
 -- the sample across and along edges
 abbrev pub seen : Window → List ℕ → ℕ → ℕ → ℕ

@@ -1,7 +1,8 @@
 //! How the lines of a place are filtered across an edge (8.7.2.5.3, 8.7.2.5.6).
 
 ghost use Rattle.std.specs.Prelude.{◌≡◌, ◌<◌, ◌≤◌, ◌+◌, ◌*◌, ◌/◌, ℕ};
-ghost use Rattle.spec_deblocking.specs.Decisions.{bend, bend_before, bend_behind, bends, is_flat, side_bound, luma_filter, edge_filter};
+ghost use Rattle.spec_deblocking.specs.Decisions.{bend, bend_before, bend_behind, bends, is_flat, side_bound};
+ghost use Rattle.spec_deblocking.specs.Decisions.{luma_filter, edge_filter};
 ghost use Rattle.deblock.specs.Samples.{IsDepth, AreSmall};
 
 use crate::thresholds::{beta, tc};

@@ -1,6 +1,7 @@
 //! One edge at the lines of one place.
 
-ghost use Rattle.std.specs.Prelude.{◌≡◌, ◌<◌, ◌≤◌, ◌+◌, ◌-◌, ◌*◌, ◌/◌, ◌^◌, ◌&&◌, ◌||◌, ℕ, Bool, true, length, cond, nat_le, nat_lt};
+ghost use Rattle.std.specs.Prelude.{◌≡◌, ◌<◌, ◌≤◌, ◌+◌, ◌-◌, ◌*◌, ◌/◌, ◌^◌, ◌&&◌, ◌||◌, ℕ, Bool, true, length, cond};
+ghost use Rattle.std.specs.Prelude.{nat_le, nat_lt};
 ghost use Rattle.spec_deblocking.specs.Lines.{across, nth};
 ghost use Rattle.spec_deblocking.specs.Places.{side};
 ghost use Rattle.spec_deblocking.specs.Filters.{filtered};
@@ -104,7 +105,13 @@ fn filter_lines(pass: &Pass, kernel: Kernel, samples: &[u16], e: usize, s: usize
     requires to { kernel.to ≤ 8 }
     requires low { (k : ℕ) → kernel.from ≤ k → pass.now.behind.across_first ≤ 8 * e - 4 + k }
     requires high { (k : ℕ) → k < kernel.to → 8 * e - 4 + k < pass.now.behind.across_end }
-    ensures value { (i j : ℕ) → holds pass.now.behind i j ≡ true → seen pass.now.behind out.new i j ≡ cond (is_written pass.now.plane s (8 * e - 4) kernel.from kernel.to i j) (nth (filtered kernel.filter kernel.greatest kernel.tc (across (seen pass.now.before samples.now) (8 * e - 4) j)) (i - (8 * e - 4))) (seen pass.now.behind out.old i j) }
+    ensures value { (i j : ℕ) → holds pass.now.behind i j ≡ true
+        → seen pass.now.behind out.new i j
+        ≡ cond (is_written pass.now.plane s (8 * e - 4) kernel.from kernel.to i j)
+        (nth
+        (filtered kernel.filter kernel.greatest kernel.tc (across (seen pass.now.before samples.now) (8 * e - 4) j))
+        (i - (8 * e - 4)))
+        (seen pass.now.behind out.old i j) }
     ensures bounded { IsBounded kernel.greatest out.old → IsBounded kernel.greatest out.new }
 {
     let a = 8 * e - 4;
@@ -145,8 +152,14 @@ fn filter_place<V: Places>(
     requires across { IsAcross pass.now e }
     requires along { IsAlong pass.now s }
     requires place { q.now ≡ placed pass.now.behind.turned (V.place_at view.now) (8 * e / side pass.now.plane) s }
-    requires same { (i j : ℕ) → holds pass.now.behind i j ≡ true → is_beside pass.now.plane s e i j ≡ true → seen pass.now.behind out.old i j ≡ seen pass.now.before samples.now i j }
-    ensures value { (i j : ℕ) → holds pass.now.behind i j ≡ true → seen pass.now.behind out.new i j ≡ cond (is_beside pass.now.plane s e i j) (edge_sample pass.now.plane pass.now.bit_depth (placed pass.now.behind.turned (V.place_at view.now)) (seen pass.now.before samples.now) e j (i + 4 - 8 * e)) (seen pass.now.behind out.old i j) }
+    requires same { (i j : ℕ) → holds pass.now.behind i j ≡ true → is_beside pass.now.plane s e i j ≡ true
+        → seen pass.now.behind out.old i j ≡ seen pass.now.before samples.now i j }
+    ensures value { (i j : ℕ) → holds pass.now.behind i j ≡ true
+        → seen pass.now.behind out.new i j
+        ≡ cond (is_beside pass.now.plane s e i j)
+        (edge_sample pass.now.plane pass.now.bit_depth (placed pass.now.behind.turned (V.place_at view.now))
+        (seen pass.now.before samples.now) e j (i + 4 - 8 * e))
+        (seen pass.now.behind out.old i j) }
     ensures bounded { IsBounded (2 ^ pass.now.bit_depth - 1) out.old → IsBounded (2 ^ pass.now.bit_depth - 1) out.new }
 {
     let a = 8 * e - 4;
@@ -180,8 +193,14 @@ pub fn filter_edge<V: Places>(
     requires room { length out.old ≡ size pass.now.behind }
     requires across { IsAcross pass.now e }
     requires along { IsAlong pass.now s }
-    requires done { (i j : ℕ) → holds pass.now.behind i j ≡ true → seen pass.now.behind out.old i j ≡ partly pass.now.plane pass.now.bit_depth pass.now.side (placed pass.now.behind.turned (V.place_at view.now)) (seen pass.now.before samples.now) s e i j }
-    ensures done { (i j : ℕ) → holds pass.now.behind i j ≡ true → seen pass.now.behind out.new i j ≡ partly pass.now.plane pass.now.bit_depth pass.now.side (placed pass.now.behind.turned (V.place_at view.now)) (seen pass.now.before samples.now) s (e + 1) i j }
+    requires done { (i j : ℕ) → holds pass.now.behind i j ≡ true
+        → seen pass.now.behind out.old i j
+        ≡ partly pass.now.plane pass.now.bit_depth pass.now.side (placed pass.now.behind.turned (V.place_at view.now))
+        (seen pass.now.before samples.now) s e i j }
+    ensures done { (i j : ℕ) → holds pass.now.behind i j ≡ true
+        → seen pass.now.behind out.new i j
+        ≡ partly pass.now.plane pass.now.bit_depth pass.now.side (placed pass.now.behind.turned (V.place_at view.now))
+        (seen pass.now.before samples.now) s (e + 1) i j }
     ensures bounded { IsBounded (2 ^ pass.now.bit_depth - 1) out.old → IsBounded (2 ^ pass.now.bit_depth - 1) out.new }
 {
     if 0 < e && 8 * e < pass.side {

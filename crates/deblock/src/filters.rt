@@ -1,8 +1,10 @@
 //! The filters of one line (8.7.2.5.7, 8.7.2.5.8).
 
-ghost use Rattle.std.specs.Prelude.{◌≡◌, ◌<◌, ◌≤◌, ◌+◌, ◌-◌, ◌*◌, ◌/◌, ℕ, ℤ, pos, negsuc, ◌+ℤ◌, ◌-ℤ◌, ◌≤ℤ◌, neg_ℤ, max, min};
+ghost use Rattle.std.specs.Prelude.{◌≡◌, ◌<◌, ◌≤◌, ◌+◌, ◌-◌, ◌*◌, ◌/◌, ℕ, ℤ, pos, negsuc, ◌+ℤ◌, ◌-ℤ◌, ◌≤ℤ◌, neg_ℤ, max};
+ghost use Rattle.std.specs.Prelude.{min};
 ghost use Rattle.std.specs.Int.{int_shr};
-ghost use Rattle.spec_deblocking.specs.Filters.{held, strong, moved, within, normal_change, second_change, second_sample, normal, chroma_change, nearest, filtered};
+ghost use Rattle.spec_deblocking.specs.Filters.{held, strong, moved, within, normal_change, second_change};
+ghost use Rattle.spec_deblocking.specs.Filters.{second_sample, normal, chroma_change, nearest, filtered};
 ghost use Rattle.deblock.specs.Samples.{AreSmall, IsModest};
 
 use crate::thresholds::clipped;

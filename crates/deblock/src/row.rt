@@ -40,7 +40,10 @@ pub fn vertical_row<V: Places>(view: &V, row: &Row, samples: &[u16], out: &mut [
     requires samples { length samples.now ≡ row.now.width * (row.now.end - row.now.first) }
     requires bounded { IsBounded (2 ^ row.now.bit_depth - 1) samples.now }
     requires room { length out.old ≡ row.now.width * (row.now.bottom - row.now.top) }
-    ensures value { (x y : ℕ) → x < row.now.width → row.now.top ≤ y → y < row.now.bottom → at row.now.width out.new x (y - row.now.top) ≡ vertical row.now.plane row.now.bit_depth row.now.width (V.place_at view.now) (λ i j. at row.now.width samples.now i (j - row.now.first)) x y }
+    ensures value { (x y : ℕ) → x < row.now.width → row.now.top ≤ y → y < row.now.bottom
+        → at row.now.width out.new x (y - row.now.top)
+        ≡ vertical row.now.plane row.now.bit_depth row.now.width (V.place_at view.now)
+        (λ i j. at row.now.width samples.now i (j - row.now.first)) x y }
     ensures bounded { IsBounded (2 ^ row.now.bit_depth - 1) out.new }
 {
     copy(samples, row.width * (row.top - row.first), out);
@@ -61,7 +64,10 @@ pub fn horizontal_row<V: Places>(view: &V, row: &Row, samples: &[u16], out: &mut
     requires samples { length samples.now ≡ row.now.width * (row.now.end - row.now.first) }
     requires bounded { IsBounded (2 ^ row.now.bit_depth - 1) samples.now }
     requires room { length out.old ≡ row.now.width * (row.now.bottom - row.now.top) }
-    ensures value { (x y : ℕ) → x < row.now.width → row.now.top ≤ y → y < row.now.bottom → at row.now.width out.new x (y - row.now.top) ≡ horizontal row.now.plane row.now.bit_depth row.now.height (V.place_at view.now) (λ i j. at row.now.width samples.now i (j - row.now.first)) x y }
+    ensures value { (x y : ℕ) → x < row.now.width → row.now.top ≤ y → y < row.now.bottom
+        → at row.now.width out.new x (y - row.now.top)
+        ≡ horizontal row.now.plane row.now.bit_depth row.now.height (V.place_at view.now)
+        (λ i j. at row.now.width samples.now i (j - row.now.first)) x y }
     ensures bounded { IsBounded (2 ^ row.now.bit_depth - 1) out.new }
 {
     copy(samples, row.width * (row.top - row.first), out);
@@ -104,7 +110,8 @@ fn lines_across(width: usize, first: usize, end: usize) -> Window
 /// Copies samples from a place on.
 fn copy(samples: &[u16], from: usize, out: &mut [u16])
     requires { from + length out.old ≤ length samples.now }
-    ensures value { (k : ℕ) → k < length out.old → slice_index_or out.new k 0 ≡ slice_index_or samples.now (from + k) 0 }
+    ensures value { (k : ℕ) → k < length out.old
+        → slice_index_or out.new k 0 ≡ slice_index_or samples.now (from + k) 0 }
     ensures bounded { (greatest : ℕ) → IsBounded greatest samples.now → IsBounded greatest out.new }
 {
     for k in 0..out.len() {
@@ -120,8 +127,12 @@ fn filter_row<V: Places>(view: &V, pass: &Pass, samples: &[u16], out: &mut [u16]
     requires bounded { IsBounded (2 ^ pass.now.bit_depth - 1) samples.now }
     requires room { length out.old ≡ size pass.now.behind }
     requires start { IsBounded (2 ^ pass.now.bit_depth - 1) out.old }
-    requires same { (i j : ℕ) → holds pass.now.behind i j ≡ true → seen pass.now.behind out.old i j ≡ seen pass.now.before samples.now i j }
-    ensures value { (i j : ℕ) → holds pass.now.behind i j ≡ true → seen pass.now.behind out.new i j ≡ vertical pass.now.plane pass.now.bit_depth pass.now.side (placed pass.now.behind.turned (V.place_at view.now)) (seen pass.now.before samples.now) i j }
+    requires same { (i j : ℕ) → holds pass.now.behind i j ≡ true
+        → seen pass.now.behind out.old i j ≡ seen pass.now.before samples.now i j }
+    ensures value { (i j : ℕ) → holds pass.now.behind i j ≡ true
+        → seen pass.now.behind out.new i j
+        ≡ vertical pass.now.plane pass.now.bit_depth pass.now.side (placed pass.now.behind.turned (V.place_at view.now))
+        (seen pass.now.before samples.now) i j }
     ensures bounded { IsBounded (2 ^ pass.now.bit_depth - 1) out.new }
 {
     let lines = side(pass.plane);
@@ -138,8 +149,14 @@ fn filter_places<V: Places>(view: &V, pass: &Pass, samples: &[u16], s: usize, ou
     requires bounded { IsBounded (2 ^ pass.now.bit_depth - 1) samples.now }
     requires room { length out.old ≡ size pass.now.behind }
     requires along { IsAlong pass.now s }
-    requires done { (i j : ℕ) → holds pass.now.behind i j ≡ true → seen pass.now.behind out.old i j ≡ partly pass.now.plane pass.now.bit_depth pass.now.side (placed pass.now.behind.turned (V.place_at view.now)) (seen pass.now.before samples.now) s 0 i j }
-    ensures done { (i j : ℕ) → holds pass.now.behind i j ≡ true → seen pass.now.behind out.new i j ≡ partly pass.now.plane pass.now.bit_depth pass.now.side (placed pass.now.behind.turned (V.place_at view.now)) (seen pass.now.before samples.now) (s + 1) 0 i j }
+    requires done { (i j : ℕ) → holds pass.now.behind i j ≡ true
+        → seen pass.now.behind out.old i j
+        ≡ partly pass.now.plane pass.now.bit_depth pass.now.side (placed pass.now.behind.turned (V.place_at view.now))
+        (seen pass.now.before samples.now) s 0 i j }
+    ensures done { (i j : ℕ) → holds pass.now.behind i j ≡ true
+        → seen pass.now.behind out.new i j
+        ≡ partly pass.now.plane pass.now.bit_depth pass.now.side (placed pass.now.behind.turned (V.place_at view.now))
+        (seen pass.now.before samples.now) (s + 1) 0 i j }
     ensures bounded { IsBounded (2 ^ pass.now.bit_depth - 1) out.old → IsBounded (2 ^ pass.now.bit_depth - 1) out.new }
 {
     for e in pass.behind.across_first / 8..(pass.behind.across_end + 11) / 8 {

@@ -2,7 +2,8 @@
 
 ghost use Rattle.std.specs.Prelude.{◌≡◌, ◌<◌, ◌≤◌, ◌+◌, ◌*◌, ◌-◌, ◌^◌, ℕ, ℤ, pos, negsuc, ◌+ℤ◌, ◌-ℤ◌, ◌*ℤ◌, ◌≤ℤ◌};
 ghost use Rattle.spec_slice_data.specs.Quantization.{chroma_qp_of_index};
-ghost use Rattle.spec_deblocking.specs.Thresholds.{clipped, mean_qp, chroma_qp, edge_qp, beta_index, tc_index, beta, tc};
+ghost use Rattle.spec_deblocking.specs.Thresholds.{clipped, mean_qp, chroma_qp, edge_qp, beta_index, tc_index, beta};
+ghost use Rattle.spec_deblocking.specs.Thresholds.{tc};
 ghost use Rattle.std.specs.Int.{int_shr};
 ghost use Rattle.deblock.specs.Samples.{IsDepth, IsFew};
 

@@ -56,7 +56,8 @@ fn put(out: &mut [u16], w: &Window, a: usize, b: usize, value: u16)
     requires window { IsWindow w.now }
     requires inside { holds w.now a b ≡ true }
     requires room { length out.old ≡ size w.now }
-    ensures value { (i j : ℕ) → holds w.now i j ≡ true → seen w.now out.new i j ≡ cond (i == a && j == b) value (seen w.now out.old i j) }
+    ensures value { (i j : ℕ) → holds w.now i j ≡ true
+        → seen w.now out.new i j ≡ cond (i == a && j == b) value (seen w.now out.old i j) }
     ensures small { (greatest : ℕ) → value ≤ greatest → IsBounded greatest out.old → IsBounded greatest out.new }
 {
     out[index(w, a, b)] = value;
@@ -119,8 +120,11 @@ pub fn write_line(
     requires to { to ≤ 8 }
     requires inside { (k : ℕ) → from ≤ k → k < to → holds w.now (a + k) b ≡ true }
     requires line { AreSmall 16383 line.now }
-    ensures value { (i j : ℕ) → holds w.now i j ≡ true → seen w.now out.new i j ≡ cond (j == b && (nat_le (a + from) i && nat_lt i (a + to))) (nth line.now (i - a)) (seen w.now out.old i j) }
-    ensures small { (greatest : ℕ) → AreSmall greatest line.now → IsBounded greatest out.old → IsBounded greatest out.new }
+    ensures value { (i j : ℕ) → holds w.now i j ≡ true
+        → seen w.now out.new i j
+        ≡ cond (j == b && (nat_le (a + from) i && nat_lt i (a + to))) (nth line.now (i - a)) (seen w.now out.old i j) }
+    ensures small { (greatest : ℕ) → AreSmall greatest line.now → IsBounded greatest out.old
+        → IsBounded greatest out.new }
 {
     for k in from..to {
         put(out, w, a + k, b, nth(line, k) as u16);

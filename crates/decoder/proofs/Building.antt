@@ -14,12 +14,15 @@ use Rattle.decoder.specs.Headline.{outcome_of}
 use Rattle.decoder.specs.Pictures.{IsTold, IsRefused, DecodesAs}
 
 -- a picture that is built
-pub built-as : (p : HeldPicture) (decoded : Result DecodedPicture PictureBroken) → BuildsPicture (Ok p) decoded → DecodesAs (Ok p) (decoded_data decoded)
+pub built-as : (p : HeldPicture) (decoded : Result DecodedPicture PictureBroken) → BuildsPicture (Ok p) decoded
+    → DecodesAs (Ok p) (decoded_data decoded)
 built-as p decoded e = ap decoded_data e
 
 -- one that isn't
-pub refused-as : (decoded : Result DecodedPicture PictureBroken) (e : ReadError) (o : Outcome) → BuildsPicture (Err e) decoded → IsTold e o
+pub refused-as : (decoded : Result DecodedPicture PictureBroken) (e : ReadError) (o : Outcome)
+    → BuildsPicture (Err e) decoded → IsTold e o
     → IsRefused (decoded_data decoded) o
 refused-as decoded error.Memory o b is = inl is
 refused-as decoded (error.Broken breach nal ctu) o b is =
-    inr (subst (λ (r : Result DecodedPicture Stop). IsErrAnd r (λ s. o ≡ outcome_of (Some s))) (sym (ap decoded_data b)) is)
+    inr (subst (λ (r : Result DecodedPicture Stop). IsErrAnd r (λ s. o ≡ outcome_of (Some s)))
+    (sym (ap decoded_data b)) is)

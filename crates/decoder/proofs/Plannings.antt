@@ -1,5 +1,6 @@
 -- What a planner's calls leave to be written.
-use Rattle.std.proofs.Common.{◌≡◌, ℕ, Bool, true, false, List, [], ◌∷◌, ◌++◌, Option, Some, None, Result, Ok, Err, refl, sym, ap, subst, ◌∙◌, append_assoc, append-nil}
+use Rattle.std.proofs.Common.{◌≡◌, ℕ, Bool, true, false, List, [], ◌∷◌, ◌++◌, Option, Some, None, Result, Ok, Err, refl}
+use Rattle.std.proofs.Common.{sym, ap, subst, ◌∙◌, append_assoc, append-nil}
 use Rattle.hv_base.specs.declared.refusal.Stop.{Stop}
 use Rattle.hv_base.specs.declared.refusal.Stop.TheVariants as stop
 use Rattle.hv_base.specs.declared.fault.Fault.{Fault}
@@ -12,49 +13,62 @@ use Rattle.spec_pictures.specs.Steps.{Stepped, step, close, closing, then_next}
 use Rattle.spec_pictures.specs.Planned as plan
 use Rattle.spec_pictures.specs.Planned.{Planned, behind_closed, planned_next, planned_from, planned_of, planned_end}
 use Rattle.picture_plan.specs.Flights.{Gathered, waiting, cut, with_pictures, cut_at_stop, pictures_of}
-use Rattle.picture_plan.specs.Plans.{Plans, Given, going_on, after_step, behind_unit, all_cut, at_end, halted, last_behind, stop_of}
+use Rattle.picture_plan.specs.Plans.{Plans, Given, going_on, after_step, behind_unit, all_cut, at_end, halted}
+use Rattle.picture_plan.specs.Plans.{last_behind, stop_of}
 use Rattle.picture_plan.proofs.Pictures.{step-all, cut-all, cut-none}
 use Rattle.spec_picture_samples.specs.References.{DecodedPicture}
 use Rattle.spec_decoder.specs.Decoder.{decoded, decoded_from, finished}
 use Rattle.decoder.specs.Owed.{planned_behind, decoded_behind, owed_behind}
 
 -- before the first unit all is owed
-pub owed-first : (ended : Bool) (bytes : List ℕ) (ahead : ℕ) → decoded ended bytes ≡ owed_behind ended (record { ahead = ahead; pending = []; next = Ok beginning }) [] (told_of ended bytes)
+pub owed-first : (ended : Bool) (bytes : List ℕ) (ahead : ℕ)
+    → decoded ended bytes
+    ≡ owed_behind ended (record { ahead = ahead; pending = []; next = Ok beginning }) [] (told_of ended bytes)
 unfolding decoded planned_of owed_behind planned_behind
 owed-first ended bytes ahead = refl
 
-joined-closed : (a b c d : List PicturePlan) (x : Planned) → a ++ b ≡ c ++ d → behind_closed c (behind_closed d x) ≡ behind_closed a (behind_closed b x)
+joined-closed : (a b c d : List PicturePlan) (x : Planned) → a ++ b ≡ c ++ d
+    → behind_closed c (behind_closed d x) ≡ behind_closed a (behind_closed b x)
 joined-closed a b c d x e =
     ap (λ (ps : List PicturePlan). let q : Planned = record { pictures = ps; last = x.last; stop = x.stop } in q)
-    (sym (append_assoc c d x.pictures) ∙ ap (λ (ps : List PicturePlan). ps ++ x.pictures) (sym e) ∙ append_assoc a b x.pictures)
+    (sym (append_assoc c d x.pictures) ∙ ap (λ (ps : List PicturePlan). ps ++ x.pictures) (sym e)
+    ∙ append_assoc a b x.pictures)
 
 -- the pictures of a step's flights, and what is planned behind them
 after-step : (ended : Bool) (p : Plans) (s : Between) (t : Told) (later : List Told)
     → behind_closed p.pending (planned_from ended s (t ∷ later))
-    ≡ behind_closed (pictures_of (after_step p (step s t)).flights) (planned_behind ended (after_step p (step s t)).left later)
+    ≡ behind_closed (pictures_of (after_step p (step s t)).flights)
+    (planned_behind ended (after_step p (step s t)).left later)
 unfolding planned_behind
 after-step ended p s t later =
     let u : Stepped = step s t in
     let g : Given = after_step p u in
-    joined-closed (pictures_of g.flights) g.left.pending p.pending u.closed (planned_next u.next (λ n. planned_from ended n later))
+    joined-closed (pictures_of g.flights) g.left.pending p.pending u.closed
+    (planned_next u.next (λ n. planned_from ended n later))
     (step-all p.ahead p.pending u.closed u.next)
 
 unit-next : (ended : Bool) (p : Plans) (next : Result Between Stop) (t : Told) (later : List Told)
     → behind_closed p.pending (planned_next next (λ s. planned_from ended s (t ∷ later)))
-    ≡ behind_closed (pictures_of (going_on p next (λ s. after_step p (step s t))).flights) (planned_behind ended (going_on p next (λ s. after_step p (step s t))).left later)
+    ≡ behind_closed (pictures_of (going_on p next (λ s. after_step p (step s t))).flights)
+    (planned_behind ended (going_on p next (λ s. after_step p (step s t))).left later)
 unfolding planned_behind
 unit-next ended p (Ok s) t later = after-step ended p s t later
 unit-next ended p (Err e) t later = refl
 
 planned-unit : (ended : Bool) (p : Plans) (t : Told) (later : List Told)
-    → planned_behind ended p (t ∷ later) ≡ behind_closed (pictures_of (behind_unit p (t ∷ [])).flights) (planned_behind ended (behind_unit p (t ∷ [])).left later)
+    → planned_behind ended p (t ∷ later)
+    ≡ behind_closed (pictures_of (behind_unit p (t ∷ [])).flights)
+    (planned_behind ended (behind_unit p (t ∷ [])).left later)
 unfolding planned_behind behind_unit
 planned-unit ended p t later = unit-next ended p p.next t later
 
 -- a unit's flights come first, and then what is owed behind them
 pub owed-unit : (ended : Bool) (p : Plans) (old : List DecodedPicture) (t : Told) (later : List Told)
-    → (d : Planned) × (owed_behind ended p old (t ∷ later) ≡ decoded_from (finished d.last d.stop) (pictures_of (behind_unit p (t ∷ [])).flights ++ d.pictures) old)
-    × ((new : List DecodedPicture) → owed_behind ended (behind_unit p (t ∷ [])).left new later ≡ decoded_from (finished d.last d.stop) d.pictures new)
+    → (d : Planned)
+    × (owed_behind ended p old (t ∷ later)
+    ≡ decoded_from (finished d.last d.stop) (pictures_of (behind_unit p (t ∷ [])).flights ++ d.pictures) old)
+    × ((new : List DecodedPicture)
+    → owed_behind ended (behind_unit p (t ∷ [])).left new later ≡ decoded_from (finished d.last d.stop) d.pictures new)
 unfolding owed_behind
 owed-unit ended p old t later = (
   planned_behind ended (behind_unit p (t ∷ [])).left later,
@@ -63,7 +77,8 @@ owed-unit ended p old t later = (
 )
 
 -- nothing goes out at the input's end behind a unit
-next-last : (p : Plans) (next : Result Between Stop) (t : Told) → (going_on p next (λ s. after_step p (step s t))).last ≡ []
+next-last : (p : Plans) (next : Result Between Stop) (t : Told)
+    → (going_on p next (λ s. after_step p (step s t))).last ≡ []
 next-last p (Ok s) t = refl
 next-last p (Err e) t = refl
 
@@ -74,10 +89,14 @@ unit-last p t = next-last p p.next t
 -- nothing waits behind a stop
 stopped-pending : (p : Plans) (u : Stepped) (e : Stop) → u.next ≡ Err e → (after_step p u).left.pending ≡ []
 stopped-pending p u e is =
-    subst (λ (next : Result Between Stop). (cut_at_stop next (with_pictures p.ahead (waiting p.pending) u.closed)).pending ≡ []) (sym is)
+    subst (λ (next : Result Between Stop). (cut_at_stop next
+    (with_pictures p.ahead (waiting p.pending) u.closed)).pending
+    ≡ [])
+    (sym is)
     (cut-none (with_pictures p.ahead (waiting p.pending) u.closed))
 
-unit-stopped : (p : Plans) (next : Result Between Stop) (t : Told) (e : Stop) → stop_of next ≡ None → (going_on p next (λ s. after_step p (step s t))).left.next ≡ Err e
+unit-stopped : (p : Plans) (next : Result Between Stop) (t : Told) (e : Stop) → stop_of next ≡ None
+    → (going_on p next (λ s. after_step p (step s t))).left.next ≡ Err e
     → (going_on p next (λ s. after_step p (step s t))).left.pending ≡ []
 unit-stopped p (Ok s) t e going is = stopped-pending p (step s t) e is
 unit-stopped p (Err f) t e going is = absurd cc
@@ -94,14 +113,17 @@ stopped-owed ended p later e none is =
     ∙ ap (λ (next : Result Between Stop). behind_closed [] (planned_next next (λ s. planned_from ended s later))) is
 
 -- where a unit stops the stream, its flights are the last
-pub owed-stopped : (ended : Bool) (p : Plans) (buffer : List DecodedPicture) (t : Told) (later : List Told) (e : Stop) → stop_of p.next ≡ None → stop_of (behind_unit p (t ∷ [])).left.next ≡ Some e
-    → owed_behind ended p buffer (t ∷ later) ≡ decoded_from (finished [] (Some e)) (pictures_of (behind_unit p (t ∷ [])).flights) buffer
+pub owed-stopped : (ended : Bool) (p : Plans) (buffer : List DecodedPicture) (t : Told) (later : List Told) (e : Stop)
+    → stop_of p.next ≡ None → stop_of (behind_unit p (t ∷ [])).left.next ≡ Some e
+    → owed_behind ended p buffer (t ∷ later)
+    ≡ decoded_from (finished [] (Some e)) (pictures_of (behind_unit p (t ∷ [])).flights) buffer
 unfolding owed_behind behind_unit
 owed-stopped ended p buffer t later e going is =
     let g : Given = behind_unit p (t ∷ []) in
     let next : g.left.next ≡ Err e = stop-is g.left.next e is in
     ap (decoded_behind buffer) (planned-unit ended p t later)
-    ∙ ap (λ (d : Planned). decoded_behind buffer (behind_closed (pictures_of g.flights) d)) (stopped-owed ended g.left later e (unit-stopped p p.next t e going next) next)
+    ∙ ap (λ (d : Planned). decoded_behind buffer (behind_closed (pictures_of g.flights) d))
+    (stopped-owed ended g.left later e (unit-stopped p p.next t e going next) next)
     ∙ ap (λ (ps : List PicturePlan). decoded_from (finished [] (Some e)) ps buffer) (append-nil (pictures_of g.flights))
 
 same_stop : (next : Result Between Stop) → plan.stop_of next ≡ stop_of next
@@ -110,9 +132,13 @@ same_stop (Err e) = refl
 
 -- what a cut leaves: all pictures are in flights
 cut-flights : (g : Gathered) → pictures_of (cut g).flights ≡ pictures_of g.flights ++ g.pending
-cut-flights g = sym (append-nil (pictures_of (cut g).flights)) ∙ ap (λ (ps : List PicturePlan). pictures_of (cut g).flights ++ ps) (sym (cut-none g)) ∙ cut-all g
+cut-flights g =
+    sym (append-nil (pictures_of (cut g).flights))
+    ∙ ap (λ (ps : List PicturePlan). pictures_of (cut g).flights ++ ps) (sym (cut-none g)) ∙ cut-all g
 
-last-of : (x : Planned) (buffer : List DecodedPicture) (ps : List PicturePlan) (last : List ℕ) (next : Result Between Stop) → x.pictures ≡ ps → x.last ≡ last → x.stop ≡ stop_of next
+last-of : (x : Planned) (buffer : List DecodedPicture) (ps : List PicturePlan) (last : List ℕ)
+    (next : Result Between Stop)
+    → x.pictures ≡ ps → x.last ≡ last → x.stop ≡ stop_of next
     → decoded_behind buffer x ≡ decoded_from (finished last (stop_of next)) ps buffer
 last-of x buffer ps last next a b c =
     ap (λ (end : Option Stop). decoded_from (finished x.last end) x.pictures buffer) c
@@ -121,24 +147,29 @@ last-of x buffer ps last next a b c =
 
 end-next : (p : Plans) (buffer : List DecodedPicture) (next : Result Between Stop)
     → decoded_behind buffer (behind_closed p.pending (planned_next next (λ s. planned_end true s)))
-    ≡ decoded_from (finished (last_behind next) (stop_of (all_cut (going_on p next (λ s. after_step p (close s)))).left.next))
+    ≡ decoded_from (finished (last_behind next)
+    (stop_of (all_cut (going_on p next (λ s. after_step p (close s)))).left.next))
     (pictures_of (all_cut (going_on p next (λ s. after_step p (close s)))).flights) buffer
 end-next p buffer (Ok s) =
     let u : Stepped = close s in
     let g : Given = after_step p u in
-    last-of (behind_closed p.pending (planned_end true s)) buffer (pictures_of (all_cut g).flights) (last_behind (Ok s)) u.next
-    (sym (step-all p.ahead p.pending u.closed u.next) ∙ sym (cut-flights (record { flights = g.flights; pending = g.left.pending })))
+    last-of (behind_closed p.pending (planned_end true s)) buffer (pictures_of (all_cut g).flights)
+    (last_behind (Ok s)) u.next
+    (sym (step-all p.ahead p.pending u.closed u.next)
+    ∙ sym (cut-flights (record { flights = g.flights; pending = g.left.pending })))
     refl
     (same_stop u.next)
 end-next p buffer (Err e) =
-    last-of (behind_closed p.pending (record { pictures = []; last = []; stop = Some e })) buffer (pictures_of (cut (waiting p.pending)).flights) [] (Err e)
+    last-of (behind_closed p.pending (record { pictures = []; last = []; stop = Some e })) buffer
+    (pictures_of (cut (waiting p.pending)).flights) [] (Err e)
     (append-nil p.pending ∙ sym (cut-flights (waiting p.pending)))
     refl
     refl
 
 -- the input's end
 pub owed-end : (p : Plans) (buffer : List DecodedPicture)
-    → owed_behind true p buffer [] ≡ decoded_from (finished (at_end p).last (stop_of (at_end p).left.next)) (pictures_of (at_end p).flights) buffer
+    → owed_behind true p buffer []
+    ≡ decoded_from (finished (at_end p).last (stop_of (at_end p).left.next)) (pictures_of (at_end p).flights) buffer
 unfolding owed_behind planned_behind at_end
 owed-end p buffer = end-next p buffer p.next
 
@@ -146,35 +177,41 @@ halt-next : (p : Plans) (buffer : List DecodedPicture) (next : Result Between St
     → decoded_behind buffer (behind_closed p.pending (planned_next next (λ s. planned_end false s)))
     ≡ decoded_from (finished [] (stop_of next)) (pictures_of (cut (waiting p.pending)).flights) buffer
 halt-next p buffer (Ok s) =
-    last-of (behind_closed p.pending (planned_end false s)) buffer (pictures_of (cut (waiting p.pending)).flights) [] (Ok s)
+    last-of (behind_closed p.pending (planned_end false s)) buffer (pictures_of (cut (waiting p.pending)).flights) []
+    (Ok s)
     (append-nil p.pending ∙ sym (cut-flights (waiting p.pending)))
     refl
     refl
 halt-next p buffer (Err e) =
-    last-of (behind_closed p.pending (record { pictures = []; last = []; stop = Some e })) buffer (pictures_of (cut (waiting p.pending)).flights) [] (Err e)
+    last-of (behind_closed p.pending (record { pictures = []; last = []; stop = Some e })) buffer
+    (pictures_of (cut (waiting p.pending)).flights) [] (Err e)
     (append-nil p.pending ∙ sym (cut-flights (waiting p.pending)))
     refl
     refl
 
 -- no more units, though the input hasn't ended
 pub owed-halt : (p : Plans) (buffer : List DecodedPicture)
-    → owed_behind false p buffer [] ≡ decoded_from (finished (halted p).last (stop_of (halted p).left.next)) (pictures_of (halted p).flights) buffer
+    → owed_behind false p buffer []
+    ≡ decoded_from (finished (halted p).last (stop_of (halted p).left.next)) (pictures_of (halted p).flights) buffer
 unfolding owed_behind planned_behind halted
 owed-halt p buffer = halt-next p buffer p.next
 
-then-stops : (closed : List PicturePlan) (next : Result Between Stop) (e : Stop) → stop_of (then_next closed next (λ t. Err e)).next ≡ None → ⊥
+then-stops : (closed : List PicturePlan) (next : Result Between Stop) (e : Stop)
+    → stop_of (then_next closed next (λ t. Err e)).next ≡ None → ⊥
 then-stops closed (Ok s) e is = absurd cc
 then-stops closed (Err f) e is = absurd cc
 
 closing-stops : (s : Between) (e : Stop) → stop_of (closing s (λ t. Err e)).next ≡ None → ⊥
 closing-stops s e is = then-stops (close s).closed (close s).next e is
 
-broken-next : (p : Plans) (next : Result Between Stop) (f : Fault) → stop_of (going_on p next (λ s. after_step p (step s (Broken f)))).left.next ≡ None → ⊥
+broken-next : (p : Plans) (next : Result Between Stop) (f : Fault)
+    → stop_of (going_on p next (λ s. after_step p (step s (Broken f)))).left.next ≡ None → ⊥
 unfolding step
 broken-next p (Ok s) f is = closing-stops s (stop.Fault f) is
 broken-next p (Err e) f is = absurd cc
 
-met-next : (p : Plans) (next : Result Between Stop) (l : Limit) → stop_of (going_on p next (λ s. after_step p (step s (Met l)))).left.next ≡ None → ⊥
+met-next : (p : Plans) (next : Result Between Stop) (l : Limit)
+    → stop_of (going_on p next (λ s. after_step p (step s (Met l)))).left.next ≡ None → ⊥
 unfolding step
 met-next p (Ok s) l is = closing-stops s (stop.Limit l) is
 met-next p (Err e) l is = absurd cc

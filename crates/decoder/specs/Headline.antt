@@ -59,7 +59,8 @@ IsDecoded src out o = IfSome src.before (λ b. IsResult out o (decoded true b))
 -- goes on; they break no rule and meet no limit
 abbrev pub IsOpen : Change → Change → Type 0
 IsOpen src out =
-    IfSome src.before (λ b. (read : List ℕ) × Takes src.before src.after read × GainsAll out (decoded false read) × ((decoded false read).stop ≡ None))
+    IfSome src.before (λ b. (read : List ℕ) × Takes src.before src.after read × GainsAll out (decoded false read)
+    × ((decoded false read).stop ≡ None))
 
 -- where the source told its bytes, the sink gained a prefix of what is owed
 abbrev pub IsCut : Change → Change → Type 0
@@ -80,4 +81,5 @@ Headline src out outcome.WriteFault = Failed out × IsCut src out
 
 -- where neither count rose, the outcome is that of sequential decoding, or there was no memory
 abbrev pub IsComplete : Change → Change → Outcome → Type 0
-IsComplete src out o = ¬ Failed src → ¬ Failed out → IfSome src.before (λ b. (o ≡ outcome_of (decoded true b).stop) ⊎ (o ≡ outcome.Memory))
+IsComplete src out o =
+    ¬ Failed src → ¬ Failed out → IfSome src.before (λ b. (o ≡ outcome_of (decoded true b).stop) ⊎ (o ≡ outcome.Memory))

@@ -50,14 +50,19 @@ pub record Reached (out : Change) (f : Framer) (d : Decoder) (ended : Bool) (byt
   pub wrote : Wrote out (decoded ended bytes) (owed_behind ended d.planner (buffer_of d.buffer) later)
 
 -- one more unit is taken
-pub record TookUnit (out : Change) (f : Framer) (old new : Decoder) (ended : Bool) (bytes : List ℕ) (later : List Told) : Type 0 where
+pub record TookUnit (out : Change) (f : Framer) (old new : Decoder) (ended : Bool) (bytes : List ℕ)
+    (later : List Told) : Type 0 where
   pub rest : List Told
   pub shorter : length later ≡ suc (length rest)
   pub tells : StillTells f ended bytes rest
   pub going : stop_of new.planner.next ≡ None
-  pub wrote : Wrote out (owed_behind ended old.planner (buffer_of old.buffer) later) (owed_behind ended new.planner (buffer_of new.buffer) rest)
+  pub wrote : Wrote out (owed_behind ended old.planner (buffer_of old.buffer) later)
+      (owed_behind ended new.planner (buffer_of new.buffer) rest)
 
 abbrev pub Takes : Change → Framer → Decoder → Decoder → Bool → List ℕ → List Told → Result Taken Outcome → Type 0
 Takes out f old new ended bytes later (Ok taken.Unit) = TookUnit out f old new ended bytes later
-Takes out f old new ended bytes later (Ok taken.Last) = Wrote out (owed_behind ended old.planner (buffer_of old.buffer) later) (owed_behind ended new.planner (buffer_of new.buffer) [])
-Takes out f old new ended bytes later (Err o) = IsAnswered (owed_behind ended old.planner (buffer_of old.buffer) later) out o
+Takes out f old new ended bytes later (Ok taken.Last) =
+    Wrote out (owed_behind ended old.planner (buffer_of old.buffer) later)
+    (owed_behind ended new.planner (buffer_of new.buffer) [])
+Takes out f old new ended bytes later (Err o) =
+    IsAnswered (owed_behind ended old.planner (buffer_of old.buffer) later) out o

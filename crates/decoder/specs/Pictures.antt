@@ -31,6 +31,7 @@ pub record EntersBuffer (old new : List DecodedPicture) (decoded : Result Decode
   pub decodes : decoded ≡ Ok picture
   pub buffer : new ≡ old ++ picture ∷ []
 
-abbrev pub Enters : {X : Type 0} → List HeldPicture → List HeldPicture → Result DecodedPicture Stop → Result X Outcome → Type 0
+abbrev pub Enters : {X : Type 0} → List HeldPicture → List HeldPicture → Result DecodedPicture Stop → Result X Outcome
+    → Type 0
 Enters old new decoded (Ok x) = EntersBuffer (buffer_of old) (buffer_of new) decoded
 Enters old new decoded (Err o) = IsRefused decoded o

@@ -38,19 +38,24 @@ Leaves out pictures rest = (later : Decoded) → Wrote out (put_out pictures lat
 
 -- by a result: what a picture owes is written, whatever follows it, and the buffer is as it leaves it; or decoding
 -- ended in it
-abbrev pub TakesPicture : {X : Type 0} → Change → PicturePlan → List DecodedPicture → List DecodedPicture → Result X Outcome → Type 0
-TakesPicture out p old new r = (next : List DecodedPicture → Decoded) → LeadsTo out (with_picture p next old) (next new) r
+abbrev pub TakesPicture : {X : Type 0} → Change → PicturePlan → List DecodedPicture → List DecodedPicture
+    → Result X Outcome → Type 0
+TakesPicture out p old new r =
+    (next : List DecodedPicture → Decoded) → LeadsTo out (with_picture p next old) (next new) r
 
 -- of these pictures, which are owed before any others, the rest is still to be decoded, from the new buffer on
 abbrev pub Passes : Change → List PicturePlan → List DecodedPicture → List PicturePlan → List DecodedPicture → Type 0
 Passes out pictures old rest new =
-    (end : List DecodedPicture → Decoded) (later : List PicturePlan) → Wrote out (decoded_from end (pictures ++ later) old) (decoded_from end (rest ++ later) new)
+    (end : List DecodedPicture → Decoded) (later : List PicturePlan)
+    → Wrote out (decoded_from end (pictures ++ later) old) (decoded_from end (rest ++ later) new)
 
 -- decoding ended in these pictures
 abbrev pub Ends : Change → List PicturePlan → List DecodedPicture → Outcome → Type 0
-Ends out pictures old o = (end : List DecodedPicture → Decoded) (later : List PicturePlan) → IsAnswered (decoded_from end (pictures ++ later) old) out o
+Ends out pictures old o = (end : List DecodedPicture → Decoded) (later : List PicturePlan)
+    → IsAnswered (decoded_from end (pictures ++ later) old) out o
 
 -- by a result: all of these pictures are decoded, or decoding ended in them
-abbrev pub WritesFirst : {X : Type 0} → Change → List PicturePlan → List DecodedPicture → List DecodedPicture → Result X Outcome → Type 0
+abbrev pub WritesFirst : {X : Type 0} → Change → List PicturePlan → List DecodedPicture → List DecodedPicture
+    → Result X Outcome → Type 0
 WritesFirst out pictures old new (Ok x) = Passes out pictures old [] new
 WritesFirst out pictures old new (Err o) = Ends out pictures old o

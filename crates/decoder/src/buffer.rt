@@ -63,7 +63,8 @@ impl Buffer {
 
     /// Writes the pictures at these places, one after the other. A place behind the last has none.
     pub(crate) fn write<O: Sink>(&self, places: &[u32], out: &mut O) -> Result<(), Outcome>
-        ensures { GoOut (change_of O.contents O.faults out.old out.new) (out_at (buffer_of self.now) places.now) result }
+        ensures { GoOut (change_of O.contents O.faults out.old out.new)
+            (out_at (buffer_of self.now) places.now) result }
     {
         write_places(&self.pictures, places, out)
     }
@@ -97,7 +98,8 @@ fn has_size(picture: &Picture, format: &PictureFormat) -> bool {
 }
 
 fn write_places<O: Sink>(pictures: &Bases, places: &[u32], out: &mut O) -> Result<(), Outcome>
-    ensures { GoOut (change_of O.contents O.faults out.old out.new) (out_at (buffer_of pictures.now) places.now) result }
+    ensures { GoOut (change_of O.contents O.faults out.old out.new)
+        (out_at (buffer_of pictures.now) places.now) result }
 {
     for place in places {
         write_place(pictures, *place, out)?;
@@ -106,7 +108,8 @@ fn write_places<O: Sink>(pictures: &Bases, places: &[u32], out: &mut O) -> Resul
 }
 
 fn write_place<O: Sink>(pictures: &Bases, place: u32, out: &mut O) -> Result<(), Outcome>
-    ensures { GoOut (change_of O.contents O.faults out.old out.new) (next_out (slice_get (buffer_of pictures.now) place) []) result }
+    ensures { GoOut (change_of O.contents O.faults out.old out.new)
+        (next_out (slice_get (buffer_of pictures.now) place) []) result }
 {
     match pictures.get(place) {
         None => Ok(()),

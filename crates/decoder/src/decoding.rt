@@ -21,8 +21,10 @@ pub fn decode<S: Source, O: Sink>(
     out: &mut O,
 ) -> Outcome
     requires { IsInRange options }
-    ensures headline { Headline (change_of S.left S.faults src.old src.new) (change_of O.contents O.faults out.old out.new) result }
-    ensures complete { IsComplete (change_of S.left S.faults src.old src.new) (change_of O.contents O.faults out.old out.new) result }
+    ensures headline { Headline (change_of S.left S.faults src.old src.new)
+        (change_of O.contents O.faults out.old out.new) result }
+    ensures complete { IsComplete (change_of S.left S.faults src.old src.new)
+        (change_of O.contents O.faults out.old out.new) result }
 {
     let input = read_available(alloc, src);
     match input.end {

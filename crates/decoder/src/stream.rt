@@ -91,7 +91,10 @@ impl Decoder {
 
     /// Takes a unit and writes the pictures that go out then.
     fn take_unit<O: Sink>(&mut self, framer: &mut Framer, out: &mut O) -> Result<Taken, Outcome>
-        ensures { (ended : Bool) (bytes : List ℕ) (later : List Told) → StillTells framer.old ended bytes later → stop_of self.old.planner.next ≡ None → Takes (change_of O.contents O.faults out.old out.new) framer.new self.old self.new ended bytes later result }
+        ensures { (ended : Bool) (bytes : List ℕ) (later : List Told) → StillTells framer.old ended bytes later
+            → stop_of self.old.planner.next ≡ None
+            → Takes (change_of O.contents O.faults out.old out.new) framer.new self.old self.new
+            ended bytes later result }
     {
         let Ok(next) = framer.next() else {
             return Err(Outcome::Memory);
@@ -108,7 +111,11 @@ impl Decoder {
 
     /// Plans a unit and writes the pictures that go out then.
     fn plan_unit<O: Sink>(&mut self, next: Next, out: &mut O) -> Result<(), Outcome>
-        ensures wrote { (ended : Bool) (t : Told) (later : List Told) → told_by next ≡ t ∷ [] → stop_of self.old.planner.next ≡ None → LeadsTo (change_of O.contents O.faults out.old out.new) (owed_behind ended self.old.planner (buffer_of self.old.buffer) (t ∷ later)) (owed_behind ended self.new.planner (buffer_of self.new.buffer) later) result }
+        ensures wrote { (ended : Bool) (t : Told) (later : List Told) → told_by next ≡ t ∷ []
+            → stop_of self.old.planner.next ≡ None
+            → LeadsTo (change_of O.contents O.faults out.old out.new)
+            (owed_behind ended self.old.planner (buffer_of self.old.buffer) (t ∷ later))
+            (owed_behind ended self.new.planner (buffer_of self.new.buffer) later) result }
         ensures left { OnOk result ((behind_unit self.old.planner (told_by next)).left ≡ self.new.planner) }
         ensures going { OnOk result (stop_of self.new.planner.next ≡ None) }
     {
@@ -123,7 +130,8 @@ impl Decoder {
 
     /// Writes the pictures that are left behind the last unit.
     fn write_rest<O: Sink>(&mut self, ended: bool, out: &mut O) -> Outcome
-        ensures { IsAnswered (owed_behind ended self.old.planner (buffer_of self.old.buffer) []) (change_of O.contents O.faults out.old out.new) result }
+        ensures { IsAnswered (owed_behind ended self.old.planner (buffer_of self.old.buffer) [])
+            (change_of O.contents O.faults out.old out.new) result }
     {
         if ended {
             return self.write_end(out);
@@ -133,7 +141,8 @@ impl Decoder {
 
     /// Writes the pictures that are left where the input ended.
     fn write_end<O: Sink>(&mut self, out: &mut O) -> Outcome
-        ensures { IsAnswered (owed_behind true self.old.planner (buffer_of self.old.buffer) []) (change_of O.contents O.faults out.old out.new) result }
+        ensures { IsAnswered (owed_behind true self.old.planner (buffer_of self.old.buffer) [])
+            (change_of O.contents O.faults out.old out.new) result }
     {
         match self.planner.finish() {
             Ok(planned) => write_last(planned, &mut self.buffer, out),

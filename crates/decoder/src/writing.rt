@@ -15,7 +15,9 @@ use plan_types::PicturePlan;
 
 /// Decodes the pictures of the last flights, writes what then goes out, and answers how decoding ends.
 pub(crate) fn write_last<O: Sink>(planned: Planned, buffer: &mut Buffer, out: &mut O) -> Outcome
-    ensures { IsAnswered (decoded_from (finished planned.last planned.stop) (pictures_of planned.flights) (buffer_of buffer.old)) (change_of O.contents O.faults out.old out.new) result }
+    ensures { IsAnswered
+        (decoded_from (finished planned.last planned.stop) (pictures_of planned.flights) (buffer_of buffer.old))
+        (change_of O.contents O.faults out.old out.new) result }
 {
     match write_flights(planned.flights, buffer, out) {
         Ok(()) => write_end(planned.last.as_slice(), planned.stop, buffer, out),
@@ -25,7 +27,8 @@ pub(crate) fn write_last<O: Sink>(planned: Planned, buffer: &mut Buffer, out: &m
 
 /// Writes the pictures that go out behind all others, and answers how decoding ends.
 fn write_end<O: Sink>(last: &[u32], stop: Option<Stop>, buffer: &Buffer, out: &mut O) -> Outcome
-    ensures { IsAnswered (finished last.now stop (buffer_of buffer.now)) (change_of O.contents O.faults out.old out.new) result }
+    ensures { IsAnswered (finished last.now stop (buffer_of buffer.now))
+        (change_of O.contents O.faults out.old out.new) result }
 {
     match buffer.write(last, out) {
         Ok(()) => outcome_of(stop),
@@ -50,7 +53,8 @@ pub(crate) fn write_flights<O: Sink>(
     buffer: &mut Buffer,
     out: &mut O,
 ) -> Result<(), Outcome>
-    ensures { WritesFirst (change_of O.contents O.faults out.old out.new) (pictures_of flights) (buffer_of buffer.old) (buffer_of buffer.new) result }
+    ensures { WritesFirst (change_of O.contents O.faults out.old out.new) (pictures_of flights) (buffer_of buffer.old)
+        (buffer_of buffer.new) result }
 {
     let mut left = flights;
     while let Some(flight) = left.next() {
@@ -65,7 +69,8 @@ fn write_pictures<O: Sink>(
     buffer: &mut Buffer,
     out: &mut O,
 ) -> Result<(), Outcome>
-    ensures { WritesFirst (change_of O.contents O.faults out.old out.new) pictures.now (buffer_of buffer.old) (buffer_of buffer.new) result }
+    ensures { WritesFirst (change_of O.contents O.faults out.old out.new) pictures.now (buffer_of buffer.old)
+        (buffer_of buffer.new) result }
 {
     for picture in pictures {
         write_picture(picture, buffer, out)?;
@@ -79,7 +84,8 @@ fn write_picture<O: Sink>(
     buffer: &mut Buffer,
     out: &mut O,
 ) -> Result<(), Outcome>
-    ensures { TakesPicture (change_of O.contents O.faults out.old out.new) picture.now (buffer_of buffer.old) (buffer_of buffer.new) result }
+    ensures { TakesPicture (change_of O.contents O.faults out.old out.new) picture.now (buffer_of buffer.old)
+        (buffer_of buffer.new) result }
 {
     buffer.write(picture.outputs.before.as_slice(), out)?;
     buffer.decode(picture)?;

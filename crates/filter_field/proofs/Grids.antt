@@ -1,8 +1,10 @@
 -- Values by column and row.
-use Rattle.std.proofs.Common.{◌≡◌, ℕ, ◌+◌, ◌-◌, ◌*◌, ◌<◌, ◌≤◌, ◌==◌, ◌&&◌, cond, List, inl, inr, length, get_or, take, drop, slice_set, ap, ◌∙◌, arith}
+use Rattle.std.proofs.Common.{◌≡◌, ℕ, ◌+◌, ◌-◌, ◌*◌, ◌<◌, ◌≤◌, ◌==◌, ◌&&◌, cond, List, inl, inr, length, get_or, take}
+use Rattle.std.proofs.Common.{drop, slice_set, ap, ◌∙◌, arith}
 use Rattle.std.proofs.lemmas.Bool.{cases_lt}
 use Rattle.std.proofs.lemmas.Bool.Decides.{nat_tests}
-use Rattle.std.proofs.lemmas.List.{get_or-set_same, get_or-set_other, get_or-take, get_or-drop, get_or_past, get_or_default, length-take}
+use Rattle.std.proofs.lemmas.List.{get_or-set_same, get_or-set_other, get_or-take, get_or-drop, get_or_past}
+use Rattle.std.proofs.lemmas.List.{get_or_default, length-take}
 use Rattle.std.proofs.Math.Nat.{mul-le-mul_left}
 use Rattle.filter_field.specs.Grids.{cell}
 
@@ -21,7 +23,8 @@ cells_differ n x y i j hx hi e = elim (cases_lt j y) [
 ]
 
 -- a value that is put leaves all others
-pub put_at : {X : Type 0} (across down x y : ℕ) (cells : List X) (value outside : X) → length cells ≡ across * down → x < across → y < down
+pub put_at : {X : Type 0} (across down x y : ℕ) (cells : List X) (value outside : X) → length cells ≡ across * down
+    → x < across → y < down
     → (i j : ℕ) → cell across down (slice_set cells (across * y + x) value) outside i j
     ≡ cond (i == x && j == y) value (cell across down cells outside i j)
 unfolding cell
@@ -34,12 +37,16 @@ put_at across down x y cells value outside count hx hy i j =
     grind (arith, nat_tests)
 
 -- a value of a part of a list
-part_at : {X : Type 0} (from count k : ℕ) (xs : List X) (other : X) → k < count → get_or (take count (drop from xs)) k other ≡ get_or xs (from + k) other
+part_at : {X : Type 0} (from count k : ℕ) (xs : List X) (other : X) → k < count
+    → get_or (take count (drop from xs)) k other ≡ get_or xs (from + k) other
 part_at from count k xs other lt = get_or-take count (drop from xs) k other lt ∙ get_or-drop from xs k other
 
 -- the values of a row
-pub row_at : {X : Type 0} (across down y : ℕ) (cells : List X) (outside other : X) → length cells ≡ across * down → y < down
-    → (x : ℕ) → x < across → get_or (take (across * y + across - across * y) (drop (across * y) cells)) x other ≡ cell across down cells outside x y
+pub row_at : {X : Type 0} (across down y : ℕ) (cells : List X) (outside other : X) → length cells ≡ across * down
+    → y < down
+    → (x : ℕ) → x < across
+    → get_or (take (across * y + across - across * y) (drop (across * y) cells)) x other
+    ≡ cell across down cells outside x y
 unfolding cell
 row_at across down y cells outside other count hy x hx =
     let room = row_below across y down hy in
@@ -49,18 +56,26 @@ row_at across down y cells outside other count hy x hx =
 
 -- the values of rows one below the other
 pub rows_at : {X : Type 0} (across down from lines : ℕ) (cells : List X) (outside : X) → from + lines ≤ down
-    → (x j : ℕ) → x < across → j < lines → get_or (take (across * from + across * lines - across * from) (drop (across * from) cells)) (across * j + x) outside ≡ cell across down cells outside x (from + j)
+    → (x j : ℕ) → x < across → j < lines
+    → get_or (take (across * from + across * lines - across * from) (drop (across * from) cells))
+    (across * j + x) outside
+    ≡ cell across down cells outside x (from + j)
 unfolding cell
 rows_at across down from lines cells outside room x j hx hj =
     let below = row_below across j lines hj in
-    let t = part_at (across * from) (across * from + across * lines - across * from) (across * j + x) cells outside (omega (arith, below, hx)) in
+    let t =
+    part_at (across * from) (across * from + across * lines - across * from) (across * j + x) cells outside
+    (omega (arith, below, hx)) in
     let place : across * from + (across * j + x) ≡ across * (from + j) + x = grind arith in
     let e = ap (λ (n : ℕ). get_or cells n outside) place in
     grind (arith, nat_tests)
 
 -- nothing stands behind the rows
 pub behind_rows : {X : Type 0} (across from lines : ℕ) (cells : List X) (outside : X)
-    → (x j : ℕ) → lines ≤ j → get_or (take (across * from + across * lines - across * from) (drop (across * from) cells)) (across * j + x) outside ≡ outside
+    → (x j : ℕ) → lines ≤ j
+    → get_or (take (across * from + across * lines - across * from) (drop (across * from) cells))
+    (across * j + x) outside
+    ≡ outside
 behind_rows across from lines cells outside x j le =
     let n = length-take (across * from + across * lines - across * from) (drop (across * from) cells) in
     let m : across * lines ≤ across * j = mul-le-mul_left across le in

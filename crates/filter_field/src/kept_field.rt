@@ -1,6 +1,7 @@
 //! Which samples of a picture stay.
 
-ghost use Rattle.std.specs.Prelude.{◌≡◌, ℕ, ◌+◌, ◌-◌, ◌*◌, ◌<◌, ◌≤◌, ◌==◌, ◌&&◌, min, length, slice_index_or, IfOk, false, if◌then◌else◌};
+ghost use Rattle.std.specs.Prelude.{◌≡◌, ℕ, ◌+◌, ◌-◌, ◌*◌, ◌<◌, ◌≤◌, ◌==◌, ◌&&◌, min, length, slice_index_or, IfOk};
+ghost use Rattle.std.specs.Prelude.{false, if◌then◌else◌};
 ghost use Rattle.filter_field.specs.Kept.{HasFlags, kept_of};
 
 use crate::cells::cell;
@@ -76,7 +77,8 @@ impl KeptField {
     pub fn row(&self, row: usize, side: usize) -> &[bool]
         requires { side ≤ 16 }
         ensures count { length result.now ≡ self.now.across * min side (self.now.down - side * row) }
-        ensures flags { (x j : ℕ) → x < self.now.across → j < side → slice_index_or result.now (self.now.across * j + x) false ≡ kept_of self.now x (side * row + j) }
+        ensures flags { (x j : ℕ) → x < self.now.across → j < side
+            → slice_index_or result.now (self.now.across * j + x) false ≡ kept_of self.now x (side * row + j) }
     {
         let across = self.across as usize;
         let down = self.down as usize;

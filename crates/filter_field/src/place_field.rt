@@ -1,6 +1,7 @@
 //! The places of a picture.
 
-ghost use Rattle.std.specs.Prelude.{◌≡◌, ℕ, ◌+◌, ◌-◌, ◌*◌, ◌<◌, ◌≤◌, ◌==◌, ◌&&◌, min, nat_le, nat_lt, length, slice_index_or, IfOk, false, if◌then◌else◌};
+ghost use Rattle.std.specs.Prelude.{◌≡◌, ℕ, ◌+◌, ◌-◌, ◌*◌, ◌<◌, ◌≤◌, ◌==◌, ◌&&◌, min, nat_le, nat_lt, length};
+ghost use Rattle.std.specs.Prelude.{slice_index_or, IfOk, false, if◌then◌else◌};
 ghost use Rattle.filter_field.specs.Places.{HasPlaces, first_place, places_of};
 
 use crate::cells::cell;
@@ -88,7 +89,8 @@ impl PlaceField {
         requires column { x < self.old.across }
         requires row { y < self.old.down }
         ensures sides { (across down : ℕ) → HasPlaces self.old across down → HasPlaces self.new across down }
-        ensures places { (i j : ℕ) → places_of self.new i j ≡ (if i == x && j == y then place else places_of self.old i j) }
+        ensures places { (i j : ℕ)
+            → places_of self.new i j ≡ (if i == x && j == y then place else places_of self.old i j) }
     {
         let cell = self.across as usize * y + x;
         self.places[cell] = place;
@@ -100,7 +102,10 @@ impl PlaceField {
         requires columns { x + length places.now ≤ self.old.across }
         requires row { y < self.old.down }
         ensures sides { (across down : ℕ) → HasPlaces self.old across down → HasPlaces self.new across down }
-        ensures places { (i j : ℕ) → places_of self.new i j ≡ (if j == y && (nat_le x i && nat_lt i (x + length places.now)) then slice_index_or places.now (i - x) first_place else places_of self.old i j) }
+        ensures places { (i j : ℕ) → places_of self.new i j
+            ≡ (if j == y && (nat_le x i && nat_lt i (x + length places.now))
+            then slice_index_or places.now (i - x) first_place
+            else places_of self.old i j) }
     {
         // Its sides bound the columns.
         let _ = &self.across;
@@ -115,7 +120,9 @@ impl PlaceField {
     pub fn kept_row(&self, row: usize, side: usize) -> &[bool]
         requires { side ≤ 16 }
         ensures count { length result.now ≡ self.now.across * min side (self.now.down - side * row) }
-        ensures flags { (x j : ℕ) → x < self.now.across → j < side → slice_index_or result.now (self.now.across * j + x) false ≡ (places_of self.now x (side * row + j)).place.kept }
+        ensures flags { (x j : ℕ) → x < self.now.across → j < side
+            → slice_index_or result.now (self.now.across * j + x) false
+            ≡ (places_of self.now x (side * row + j)).place.kept }
     {
         self.kept.row(row, side)
     }

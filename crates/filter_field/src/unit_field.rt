@@ -1,6 +1,7 @@
 //! The coding tree units of a picture.
 
-ghost use Rattle.std.specs.Prelude.{◌≡◌, ℕ, ◌+◌, ◌*◌, ◌<◌, ◌≤◌, ◌==◌, ◌&&◌, nat_lt, length, slice_index_or, IfOk, if◌then◌else◌};
+ghost use Rattle.std.specs.Prelude.{◌≡◌, ℕ, ◌+◌, ◌*◌, ◌<◌, ◌≤◌, ◌==◌, ◌&&◌, nat_lt, length, slice_index_or, IfOk};
+ghost use Rattle.std.specs.Prelude.{if◌then◌else◌};
 ghost use Rattle.spec_sample_adaptive_offset.specs.declared.unit.OffsetUnit.{OffsetUnit};
 ghost use Rattle.filter_field.specs.Units.{HasUnits, first_unit, units_of};
 
@@ -82,7 +83,8 @@ impl UnitField {
         requires column { column < self.old.columns }
         requires row { row < self.old.rows }
         ensures sides { (columns rows : ℕ) → HasUnits self.old columns rows → HasUnits self.new columns rows }
-        ensures units { (d i j : ℕ) → units_of self.new d i j ≡ (if d == c && (i == column && j == row) then unit else units_of self.old d i j) }
+        ensures units { (d i j : ℕ) → units_of self.new d i j
+            ≡ (if d == c && (i == column && j == row) then unit else units_of self.old d i j) }
     {
         let cell = self.columns as usize * (self.rows as usize * c + row) + column;
         self.units[cell] = unit;
@@ -105,7 +107,8 @@ impl UnitField {
     #[tactic(auto, unfolding(crate::specs::Units::units_of))]
     pub fn row(&self, c: usize, row: usize) -> &[OffsetUnit]
         ensures count { length result.now ≡ (if nat_lt c 3 && nat_lt row self.now.rows then self.now.columns else 0) }
-        ensures units { (column : ℕ) (other : OffsetUnit) → column < length result.now → slice_index_or result.now column other ≡ units_of self.now c column row }
+        ensures units { (column : ℕ) (other : OffsetUnit) → column < length result.now
+            → slice_index_or result.now column other ≡ units_of self.now c column row }
     {
         if c < 3 && row < self.rows as usize {
             let columns = self.columns as usize;

@@ -1,5 +1,6 @@
 -- The flights over a stream of units hold the pictures that are planned.
-use Rattle.std.proofs.Common.{◌≡◌, ℕ, Bool, true, false, List, [], ◌∷◌, ◌++◌, Result, Ok, Err, refl, sym, ap, ◌∙◌, append_assoc, append-nil}
+use Rattle.std.proofs.Common.{◌≡◌, ℕ, Bool, true, false, List, [], ◌∷◌, ◌++◌, Result, Ok, Err, refl, sym, ap, ◌∙◌}
+use Rattle.std.proofs.Common.{append_assoc, append-nil}
 use Rattle.hv_base.specs.declared.refusal.Stop.{Stop}
 use Rattle.plan_types.specs.declared.picture_plan.PicturePlan.{PicturePlan}
 use Rattle.plan_types.specs.declared.between.Between.{Between}
@@ -31,8 +32,10 @@ unit-gives pending closed g r p all h = record {
   stop = h.stop;
 }
 
-over-gives : (ended : Bool) (last : Plans → Given) → EndGives ended last → (ahead : ℕ) (pending : List PicturePlan) (next : Result Between Stop) (ts : List Told)
-    → AreGiven pending (over last (record { ahead = ahead; pending = pending; next = next }) ts) (planned_behind ended next ts)
+over-gives : (ended : Bool) (last : Plans → Given) → EndGives ended last
+    → (ahead : ℕ) (pending : List PicturePlan) (next : Result Between Stop) (ts : List Told)
+    → AreGiven pending (over last (record { ahead = ahead; pending = pending; next = next }) ts)
+    (planned_behind ended next ts)
 unfolding behind_unit
 over-gives ended last ends ahead pending next [] = ends (record { ahead = ahead; pending = pending; next = next })
 over-gives ended last ends ahead pending (Err e) (t ∷ ts) =
@@ -41,7 +44,8 @@ over-gives ended last ends ahead pending (Err e) (t ∷ ts) =
 over-gives ended last ends ahead pending (Ok s) (t ∷ ts) =
     let u : Stepped = step s t in
     let g : Gathered = cut_at_stop u.next (with_pictures ahead (waiting pending) u.closed) in
-    unit-gives pending u.closed g _ _ (step-all ahead pending u.closed u.next) (over-gives ended last ends ahead g.pending u.next ts)
+    unit-gives pending u.closed g _ _ (step-all ahead pending u.closed u.next)
+    (over-gives ended last ends ahead g.pending u.next ts)
 
 -- ---- the last calls
 
@@ -51,10 +55,13 @@ still-gives ahead pending (Ok s) = record { pictures = sym (append-nil pending);
 still-gives ahead pending (Err e) = record { pictures = sym (append-nil pending); last = refl; stop = refl }
 
 halted-gives : (ahead : ℕ) (pending : List PicturePlan) (next : Result Between Stop)
-    → AreGiven pending (halted (record { ahead = ahead; pending = pending; next = next })) (planned_behind false next [])
+    → AreGiven pending (halted (record { ahead = ahead; pending = pending; next = next }))
+    (planned_behind false next [])
 unfolding halted
-halted-gives ahead pending (Ok s) = record { pictures = cut-all (waiting pending) ∙ sym (append-nil pending); last = refl; stop = refl }
-halted-gives ahead pending (Err e) = record { pictures = cut-all (waiting pending) ∙ sym (append-nil pending); last = refl; stop = refl }
+halted-gives ahead pending (Ok s) =
+    record { pictures = cut-all (waiting pending) ∙ sym (append-nil pending); last = refl; stop = refl }
+halted-gives ahead pending (Err e) =
+    record { pictures = cut-all (waiting pending) ∙ sym (append-nil pending); last = refl; stop = refl }
 
 halted-none : (p : Plans) → (halted p).left.pending ≡ []
 unfolding halted
@@ -73,18 +80,30 @@ end-gives : (ahead : ℕ) (pending : List PicturePlan) (next : Result Between St
     → AreGiven pending (at_end (record { ahead = ahead; pending = pending; next = next })) (planned_behind true next [])
 end-gives ahead pending (Ok s) =
     let h = end-goes ahead pending s in
-    record { pictures = none-append _ _ _ h.pictures (end-none (record { ahead = ahead; pending = pending; next = Ok s })); last = h.last; stop = h.stop }
+    record {
+      pictures = none-append _ _ _ h.pictures (end-none (record { ahead = ahead; pending = pending; next = Ok s }));
+      last = h.last;
+      stop = h.stop;
+    }
 end-gives ahead pending (Err e) =
     let h = stopped-goes ahead pending e [] in
-    record { pictures = none-append _ _ _ h.pictures (end-none (record { ahead = ahead; pending = pending; next = Err e })); last = h.last; stop = h.stop }
+    record {
+      pictures = none-append _ _ _ h.pictures (end-none (record { ahead = ahead; pending = pending; next = Err e }));
+      last = h.last;
+      stop = h.stop;
+    }
 
-over-none : (last : Plans → Given) → ((p : Plans) → (last p).left.pending ≡ []) → (p : Plans) (ts : List Told) → (over last p ts).left.pending ≡ []
+over-none : (last : Plans → Given) → ((p : Plans) → (last p).left.pending ≡ [])
+    → (p : Plans) (ts : List Told) → (over last p ts).left.pending ≡ []
 over-none last none p [] = none p
 over-none last none p (t ∷ ts) = over-none last none (behind_unit p (t ∷ [])).left ts
 
-all_given : (before : List PicturePlan) (g : Given) (p : Planned) → AreGiven before g p → g.left.pending ≡ [] → AreAllGiven before g p
+all_given : (before : List PicturePlan) (g : Given) (p : Planned) → AreGiven before g p → g.left.pending ≡ []
+    → AreAllGiven before g p
 all_given before g p h none = record {
-  pictures = sym (append-nil (pictures_of g.flights)) ∙ sym (ap (λ (ps : List PicturePlan). pictures_of g.flights ++ ps) none) ∙ h.pictures;
+  pictures =
+      sym (append-nil (pictures_of g.flights)) ∙ sym (ap (λ (ps : List PicturePlan). pictures_of g.flights ++ ps) none)
+      ∙ h.pictures;
   last = h.last;
   stop = h.stop;
   none = none;
@@ -93,12 +112,16 @@ all_given before g p h none = record {
 pub so_far : (p : Plans) (told : List Told) → AreGiven p.pending (over still p told) (planned_behind false p.next told)
 so_far p told = over-gives false still (λ q. still-gives q.ahead q.pending q.next) p.ahead p.pending p.next told
 
-pub where_halted : (p : Plans) (told : List Told) → AreAllGiven p.pending (over halted p told) (planned_behind false p.next told)
+pub where_halted : (p : Plans) (told : List Told)
+    → AreAllGiven p.pending (over halted p told) (planned_behind false p.next told)
 where_halted p told =
     all_given p.pending (over halted p told) (planned_behind false p.next told)
-    (over-gives false halted (λ q. halted-gives q.ahead q.pending q.next) p.ahead p.pending p.next told) (over-none halted halted-none p told)
+    (over-gives false halted (λ q. halted-gives q.ahead q.pending q.next) p.ahead p.pending p.next told)
+    (over-none halted halted-none p told)
 
-pub where_finished : (p : Plans) (told : List Told) → AreAllGiven p.pending (over at_end p told) (planned_behind true p.next told)
+pub where_finished : (p : Plans) (told : List Told)
+    → AreAllGiven p.pending (over at_end p told) (planned_behind true p.next told)
 where_finished p told =
     all_given p.pending (over at_end p told) (planned_behind true p.next told)
-    (over-gives true at_end (λ q. end-gives q.ahead q.pending q.next) p.ahead p.pending p.next told) (over-none at_end end-none p told)
+    (over-gives true at_end (λ q. end-gives q.ahead q.pending q.next) p.ahead p.pending p.next told)
+    (over-none at_end end-none p told)

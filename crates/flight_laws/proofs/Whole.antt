@@ -1,5 +1,6 @@
 -- The flights over a whole input.
-use Rattle.std.proofs.Common.{◌≡◌, ℕ, true, List, [], ◌∷◌, ◌++◌, Some, Result, Ok, Err, refl, sym, ap, ◌∙◌, append_assoc, append-nil}
+use Rattle.std.proofs.Common.{◌≡◌, ℕ, true, List, [], ◌∷◌, ◌++◌, Some, Result, Ok, Err, refl, sym, ap, ◌∙◌}
+use Rattle.std.proofs.Common.{append_assoc, append-nil}
 use Rattle.hv_base.specs.declared.refusal.Stop.{Stop}
 use Rattle.plan_types.specs.declared.picture_plan.PicturePlan.{PicturePlan}
 use Rattle.spec_units.specs.Judged.{Told}
@@ -25,7 +26,9 @@ stops (Err e) = refl
 
 -- all that waits is cut at the end
 pub cut-pictures : (g : Gathered) → pictures_of (cut g).flights ≡ pictures_of g.flights ++ g.pending
-cut-pictures g = sym (append-nil (pictures_of (cut g).flights)) ∙ sym (ap (λ (ps : List PicturePlan). pictures_of (cut g).flights ++ ps) (cut-none g)) ∙ cut-all g
+cut-pictures g =
+    sym (append-nil (pictures_of (cut g).flights))
+    ∙ sym (ap (λ (ps : List PicturePlan). pictures_of (cut g).flights ++ ps) (cut-none g)) ∙ cut-all g
 
 pub end-goes : (ahead : ℕ) (pending : List PicturePlan) (s : Between)
     → Goes (at_end (record { ahead = ahead; pending = pending; next = Ok s })) pending (planned_from true s [])
@@ -41,7 +44,8 @@ end-goes ahead pending s =
 
 -- behind a stop nothing comes but what waited
 pub stopped-goes : (ahead : ℕ) (pending : List PicturePlan) (e : Stop) (ts : List Told)
-    → Goes (run (record { ahead = ahead; pending = pending; next = Err e }) ts) pending (record { pictures = []; last = []; stop = Some e })
+    → Goes (run (record { ahead = ahead; pending = pending; next = Err e }) ts) pending
+    (record { pictures = []; last = []; stop = Some e })
 unfolding at_end behind_unit
 stopped-goes ahead pending e [] = record {
   pictures = cut-pictures (waiting pending) ∙ sym (append-nil pending);
@@ -51,8 +55,10 @@ stopped-goes ahead pending e [] = record {
 stopped-goes ahead pending e (t ∷ ts) = stopped-goes ahead pending e ts
 
 next-goes : (ahead : ℕ) (pending : List PicturePlan) (next : Result Between Stop) (ts : List Told)
-    → ((s : Between) → Goes (run (record { ahead = ahead; pending = pending; next = Ok s }) ts) pending (planned_from true s ts))
-    → Goes (run (record { ahead = ahead; pending = pending; next = next }) ts) pending (planned_next next (λ n. planned_from true n ts))
+    → ((s : Between)
+    → Goes (run (record { ahead = ahead; pending = pending; next = Ok s }) ts) pending (planned_from true s ts))
+    → Goes (run (record { ahead = ahead; pending = pending; next = next }) ts) pending
+    (planned_next next (λ n. planned_from true n ts))
 next-goes ahead pending (Ok s) ts h = h s
 next-goes ahead pending (Err e) ts h = stopped-goes ahead pending e ts
 
@@ -79,7 +85,8 @@ all-goes ahead pending s (t ∷ ts) =
     unit-goes ahead pending u.closed g _ _ (step-all ahead pending u.closed u.next)
     (next-goes ahead g.pending u.next ts (λ n. all-goes ahead g.pending n ts))
 
-pub are_planned : (ahead : ℕ) (told : List Told) → ArePlanned (run (new_plans ahead) told) (planned_from true beginning told)
+pub are_planned : (ahead : ℕ) (told : List Told)
+    → ArePlanned (run (new_plans ahead) told) (planned_from true beginning told)
 are_planned ahead told =
     let h = all-goes ahead [] beginning told in
     record { pictures = h.pictures; last = h.last; stop = h.stop }

@@ -13,21 +13,25 @@ ghost use Rattle.flight_laws.specs.Runs.{AreFlights, ArePlanned, new_plans, run}
 /// The flights over units that have come so far, and the pictures that then wait, hold the pictures that waited before
 /// and then those that are planned, in the same order; and the same stops the stream.
 pub fn flights_so_far_are_the_pictures()
-    ensures { (p : Plans) (told : List Told) → AreGiven p.pending (over still p told) (planned_behind false p.next told) }
+    ensures { (p : Plans) (told : List Told)
+        → AreGiven p.pending (over still p told) (planned_behind false p.next told) }
 {}
 
 /// The flights over all units of an input hold the pictures that are planned, in the same order, the same pictures go
 /// out at the end, and the same stops the stream: over a whole input (`whole`), and behind pictures that already waited
 /// (`behind`).
 pub fn flights_are_the_pictures()
-    ensures whole { (ahead : ℕ) (told : List Told) → ArePlanned (run (new_plans ahead) told) (planned_from true beginning told) }
-    ensures behind { (p : Plans) (told : List Told) → AreAllGiven p.pending (over at_end p told) (planned_behind true p.next told) }
+    ensures whole { (ahead : ℕ) (told : List Told)
+        → ArePlanned (run (new_plans ahead) told) (planned_from true beginning told) }
+    ensures behind { (p : Plans) (told : List Told)
+        → AreAllGiven p.pending (over at_end p told) (planned_behind true p.next told) }
 {}
 
 /// Where no more units come though the input hasn't ended, the flights hold the pictures that waited before and then
 /// those that are over, in the same order; and the same stops the stream.
 pub fn halted_flights_are_the_pictures()
-    ensures { (p : Plans) (told : List Told) → AreAllGiven p.pending (over halted p told) (planned_behind false p.next told) }
+    ensures { (p : Plans) (told : List Told)
+        → AreAllGiven p.pending (over halted p told) (planned_behind false p.next told) }
 {}
 
 /// No flight could have taken the next picture: it is full, or that picture is of another sequence parameter set. So it

@@ -1,11 +1,13 @@
 -- A flight with one more picture is a flight.
-use Rattle.std.proofs.Common.{ℕ, ◌≡◌, ◌+◌, ◌*◌, ◌<◌, ◌≤◌, List, [], ◌∷◌, ◌++◌, length, get_or, inl, inr, arith, rules, sym, subst, ap, All, slice_index_or, take}
+use Rattle.std.proofs.Common.{ℕ, ◌≡◌, ◌+◌, ◌*◌, ◌<◌, ◌≤◌, List, [], ◌∷◌, ◌++◌, length, get_or, inl, inr, arith, rules}
+use Rattle.std.proofs.Common.{sym, subst, ap, All, slice_index_or, take}
 use Rattle.std.proofs.Math.Nat.{mul-le-mul}
 use Rattle.std.proofs.lemmas.Bool.{cases_lt}
 use Rattle.std.proofs.lemmas.List.{get_or_append_left, get_or-append_right, length-append, take-append-le}
 use Rattle.std.proofs.lemmas.List.Sums.{sum_by_more_le, sum_by_push}
 use Rattle.std.proofs.lemmas.List.Elements.{All-push, All-weaker}
-use Rattle.flight_plan.specs.Flight.{FlightRows, PictureRows, IsFlight, IsInRange, IsTreeUnit, ReadsEarlier, no_picture, picture_units, tree_units, units_of}
+use Rattle.flight_plan.specs.Flight.{FlightRows, PictureRows, IsFlight, IsInRange, IsTreeUnit, ReadsEarlier, no_picture}
+use Rattle.flight_plan.specs.Flight.{picture_units, tree_units, units_of}
 
 each_and_last : (P : ℕ → PictureRows → Type 0) (ps : List PictureRows) (p : PictureRows)
     → ((k : ℕ) → k < length ps → P k (slice_index_or ps k no_picture)) → P (length ps) p
@@ -25,7 +27,8 @@ more_units ps p = sum_by_push picture_units ps p
 more_tree_unit : (ps : List PictureRows) (p : PictureRows) (u : ℕ) → IsTreeUnit ps u → IsTreeUnit (ps ++ p ∷ []) u
 more_tree_unit ps p u (k, unit) =
     let before : take k (ps ++ p ∷ []) ≡ take k ps = take-append-le k ps (p ∷ []) (omega (arith, unit.picture)) in
-    let at : get_or (ps ++ p ∷ []) k no_picture ≡ get_or ps k no_picture = get_or_append_left ps (p ∷ []) no_picture k unit.picture in
+    let at : get_or (ps ++ p ∷ []) k no_picture ≡ get_or ps k no_picture =
+    get_or_append_left ps (p ∷ []) no_picture k unit.picture in
     let first = ap units_of before in
     let units = ap tree_units at in (
       k,
@@ -44,10 +47,12 @@ tree_unit_inside ps u (k, unit) =
 
 pub bad_inside : (plan : FlightRows) → IsFlight plan → All (λ unit. unit < units_of plan.pictures) plan.bad
 bad_inside plan flight =
-    All-weaker (IsTreeUnit plan.pictures) (λ unit. unit < units_of plan.pictures) (λ unit is. tree_unit_inside plan.pictures unit is) plan.bad flight.bad
+    All-weaker (IsTreeUnit plan.pictures) (λ unit. unit < units_of plan.pictures)
+    (λ unit is. tree_unit_inside plan.pictures unit is) plan.bad flight.bad
 
 pub one_more : (ps : List PictureRows) (bad : List ℕ) (p : PictureRows) → IsFlight (record { pictures = ps; bad = bad })
-    → length ps < 65536 → IsInRange p → ReadsEarlier (length ps) p → IsFlight (record { pictures = ps ++ p ∷ []; bad = bad })
+    → length ps < 65536 → IsInRange p → ReadsEarlier (length ps) p
+    → IsFlight (record { pictures = ps ++ p ∷ []; bad = bad })
 one_more ps bad p flight room in_range earlier = record {
   few = omega (arith, length-append ps (p ∷ []));
   sizes = All-push IsInRange ps p flight.sizes in_range;

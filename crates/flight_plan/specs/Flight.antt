@@ -1,5 +1,6 @@
 -- A flight of pictures as contracts see it: sizes in coding tree blocks, references, and units that break a rule.
-use Rattle.std.specs.Prelude.{ℕ, ◌+◌, ◌*◌, ◌<◌, ◌≤◌, Bool, false, List, [], Option, Some, None, sum_by, take, length, slice_index_or, All}
+use Rattle.std.specs.Prelude.{ℕ, ◌+◌, ◌*◌, ◌<◌, ◌≤◌, Bool, false, List, [], Option, Some, None, sum_by, take, length}
+use Rattle.std.specs.Prelude.{slice_index_or, All}
 use Rattle.flight_plan.specs.declared.row_range.Reference.{Reference}
 use Rattle.flight_plan.specs.declared.row_range.Reference.TheVariants.{Base, Flight}
 use Rattle.flight_plan.specs.declared.row_range.RowRange.{RowRange}

@@ -1,7 +1,9 @@
 //! What a flight of pictures is to do: the pictures that are decoded together, each with the rows that it waits for.
 
-ghost use Rattle.std.specs.Prelude.{◌≡◌, ◌<◌, ◌≤◌, ◌*◌, ◌++◌, ◌∷◌, ◌↔◌, [], None, length, OnOk, OnErr, IsTrue, All, slice_index_or};
-ghost use Rattle.flight_plan.specs.Flight.{IsEarlier, IsFlight, IsInRange, IsNoneOrEarlier, IsTreeUnit, ReadsEarlier, picture_units, tree_units, units_of};
+ghost use Rattle.std.specs.Prelude.{◌≡◌, ◌<◌, ◌≤◌, ◌*◌, ◌++◌, ◌∷◌, ◌↔◌, [], None, length, OnOk, OnErr, IsTrue, All};
+ghost use Rattle.std.specs.Prelude.{slice_index_or};
+ghost use Rattle.flight_plan.specs.Flight.{IsEarlier, IsFlight, IsInRange, IsNoneOrEarlier, IsTreeUnit, ReadsEarlier};
+ghost use Rattle.flight_plan.specs.Flight.{picture_units, tree_units, units_of};
 
 use crate::row_range::{Reference, RowRange, RowRanges};
 use hv_base::Unit;
@@ -221,7 +223,8 @@ impl FlightPlan {
     pub fn push(&mut self, picture: FlightPicture) -> Result<(), AllocError>
         requires room { length self.old.pictures < 65536 }
         requires earlier { ReadsEarlier (length self.old.pictures) picture }
-        ensures ok { OnOk result (self.new ≡ record { pictures = self.old.pictures ++ picture ∷ []; bad = self.old.bad }) }
+        ensures ok { OnOk result
+            (self.new ≡ record { pictures = self.old.pictures ++ picture ∷ []; bad = self.old.bad }) }
         ensures err { OnErr result (self.new ≡ self.old) }
     {
         let units = picture.units();

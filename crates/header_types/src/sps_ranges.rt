@@ -1,7 +1,10 @@
 //! A sequence parameter set whose fields are in range, and the variables that are derived from them (7.4.3.2).
 
 ghost use Rattle.std.specs.Prelude.{◌≡◌, ◌<◌, ◌≤◌, ◌^◌, ◌+◌};
-ghost use Rattle.header_types.specs.SequenceParameterSets.{IsSps, min_cb_log2, ctb_log2, min_tb_log2, max_tb_log2, max_lsb, ctb_size, width_in_ctbs, height_in_ctbs, size_in_ctbs, highest_ordering, cropped_width, cropped_height, blocks_across};
+ghost use Rattle.header_types.specs.SequenceParameterSets.{IsSps, min_cb_log2, ctb_log2, min_tb_log2, max_tb_log2};
+ghost use Rattle.header_types.specs.SequenceParameterSets.{max_lsb, ctb_size, width_in_ctbs, height_in_ctbs};
+ghost use Rattle.header_types.specs.SequenceParameterSets.{size_in_ctbs, highest_ordering, cropped_width};
+ghost use Rattle.header_types.specs.SequenceParameterSets.{cropped_height, blocks_across};
 
 use crate::sps::{SpsFields, SubLayerOrdering};
 use std::marker::Model;

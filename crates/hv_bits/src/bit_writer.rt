@@ -1,6 +1,7 @@
 //! A writer of fields as bits.
 
-ghost use Rattle.std.specs.Prelude.{◌≡◌, ℕ, ◌+◌, ◌-◌, ◌*◌, ◌/◌, ◌%◌, ◌^◌, ◌<◌, ◌≤◌, ℤ, negsuc, ◌≤ℤ◌, Bool, false, List, [], ◌++◌, length, replicate, drop, IfOk, OnOk, OnErr};
+ghost use Rattle.std.specs.Prelude.{◌≡◌, ℕ, ◌+◌, ◌-◌, ◌*◌, ◌/◌, ◌%◌, ◌^◌, ◌<◌, ◌≤◌, ℤ, negsuc, ◌≤ℤ◌, Bool, false, List};
+ghost use Rattle.std.specs.Prelude.{[], ◌++◌, length, replicate, drop, IfOk, OnOk, OnErr};
 ghost use Rattle.spec_bits.specs.Bits.{bits};
 ghost use Rattle.spec_bits.specs.Spelling.{u_bits, ue_bits, code_of, se_bits, aligned_bits};
 ghost use Rattle.hv_bits.specs.Written.{Holds};
@@ -110,7 +111,8 @@ fn append(bytes: &mut Vec<u8>, free: u32, n: u32, v: u64) -> Result<u32, AllocEr
     requires small { v < 2 ^ n }
     requires free { free < 8 }
     requires inside { free ≤ 8 * length bytes.old.items }
-    ensures ok { (bs : List Bool) → Holds bytes.old.items free bs → IfOk result (λ left. Holds bytes.new.items left (bs ++ u_bits n v)) }
+    ensures ok { (bs : List Bool) → Holds bytes.old.items free bs
+        → IfOk result (λ left. Holds bytes.new.items left (bs ++ u_bits n v)) }
     ensures err { OnErr result (bytes.new.items ≡ bytes.old.items) }
 {
     let used = (8 - free) % 8;
@@ -132,7 +134,8 @@ fn joined(begun: u8, used: u32, n: u32, v: u64) -> [u8; 16]
     requires used { used < 8 }
     requires few { n ≤ 64 }
     requires small { v < 2 ^ n }
-    ensures { (bs : List Bool) → length bs ≡ used → u_bits 8 begun ≡ bs ++ replicate (8 - used) false → bits (drop 7 result) ≡ bs ++ (u_bits n v ++ replicate (72 - used - n) false) }
+    ensures { (bs : List Bool) → length bs ≡ used → u_bits 8 begun ≡ bs ++ replicate (8 - used) false
+        → bits (drop 7 result) ≡ bs ++ (u_bits n v ++ replicate (72 - used - n) false) }
 {
     let number = (u128::from(begun) << 64) + (u128::from(v) << (72 - used - n));
     number.to_be_bytes()

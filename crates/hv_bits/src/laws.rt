@@ -8,5 +8,7 @@ ghost use Rattle.hv_bits.specs.Fields.{Field, IsInRange, with_fields, ReadsAll};
 /// Fields that were written one after another read back from the bytes, in the same order, up to the zeros that fill
 /// the last byte.
 pub fn fields_read_back()
-    ensures { (fields : List Field) (bytes : List ℕ) (free : ℕ) → All IsInRange fields → bits bytes ≡ with_fields [] fields ++ replicate free false → ReadsAll fields (bits bytes) (replicate free false) }
+    ensures { (fields : List Field) (bytes : List ℕ) (free : ℕ) → All IsInRange fields
+        → bits bytes ≡ with_fields [] fields ++ replicate free false
+        → ReadsAll fields (bits bytes) (replicate free false) }
 {}

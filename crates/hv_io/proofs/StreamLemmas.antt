@@ -1,5 +1,6 @@
 -- Lemmas on what several reads or writes do, one after the other.
-use Rattle.std.proofs.Common.{◌≡◌, ℕ, ◌+◌, ◌-◌, ◌≤◌, List, [], ◌++◌, length, take, drop, Option, Some, None, sym, ap, ◌∙◌, append_assoc, append-nil, length-append, length-drop, take_all, arith}
+use Rattle.std.proofs.Common.{◌≡◌, ℕ, ◌+◌, ◌-◌, ◌≤◌, List, [], ◌++◌, length, take, drop, Option, Some, None, sym, ap}
+use Rattle.std.proofs.Common.{◌∙◌, append_assoc, append-nil, length-append, length-drop, take_all, arith}
 use Rattle.std.proofs.Math.Seq.{take-add, take-append-add}
 use Rattle.std.proofs.lemmas.List.{take-append-le}
 use Rattle.hv_io.specs.Streams.{Takes, Gains, GainsPrefix}
@@ -51,4 +52,5 @@ pub Takes-append : (a b c : Option (List ℕ)) (first second : List ℕ)
 Takes-append None b c first second p q = tt
 Takes-append (Some x) None c first second p q = absurd p
 Takes-append (Some x) (Some y) None first second p q = absurd q
-Takes-append (Some x) (Some y) (Some z) first second p q = p ∙ ap (λ l. first ++ l) q ∙ sym (append_assoc first second z)
+Takes-append (Some x) (Some y) (Some z) first second p q =
+    p ∙ ap (λ l. first ++ l) q ∙ sym (append_assoc first second z)

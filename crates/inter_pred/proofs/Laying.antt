@@ -1,5 +1,6 @@
 -- Places of a list of which a part was written.
-use Rattle.std.proofs.Common.{◌≡◌, ℕ, ◌+◌, ◌-◌, ◌*◌, ◌<◌, ◌≤◌, ◌&&◌, cond, nat_le, nat_lt, List, slice_set, inl, inr, length, take, drop, ap, ◌∙◌, arith}
+use Rattle.std.proofs.Common.{◌≡◌, ℕ, ◌+◌, ◌-◌, ◌*◌, ◌<◌, ◌≤◌, ◌&&◌, cond, nat_le, nat_lt, List, slice_set, inl, inr}
+use Rattle.std.proofs.Common.{length, take, drop, ap, ◌∙◌, arith}
 use Rattle.std.specs.List.{All}
 use Rattle.std.proofs.lemmas.Grind.{common_steps}
 use Rattle.std.proofs.lemmas.Bool.{cases_lt}
@@ -14,11 +15,14 @@ before_part a k xs ys q room lt =
     let e : length (take a xs) ≡ a = length-take-le a xs room in
     get_or_append_left (take a xs) _ 0 q (omega (arith, e)) ∙ get_or-take a xs q 0 lt
 
-in_part : (a k : ℕ) (xs ys : List ℕ) (q : ℕ) → a ≤ length xs → a ≤ q → q < a + length ys → at (put_mid a k xs ys) q ≡ at ys (q - a)
+in_part : (a k : ℕ) (xs ys : List ℕ) (q : ℕ) → a ≤ length xs → a ≤ q → q < a + length ys
+    → at (put_mid a k xs ys) q ≡ at ys (q - a)
 in_part a k xs ys q room le lt =
-    get_or-append_right (take a xs) _ a q 0 (length-take-le a xs room) le ∙ get_or_append_left ys _ 0 (q - a) (omega arith)
+    get_or-append_right (take a xs) _ a q 0 (length-take-le a xs room) le
+    ∙ get_or_append_left ys _ 0 (q - a) (omega arith)
 
-behind_part : (a k : ℕ) (xs ys : List ℕ) (q : ℕ) → a ≤ length xs → length ys ≡ k → a + k ≤ q → at (put_mid a k xs ys) q ≡ at xs q
+behind_part : (a k : ℕ) (xs ys : List ℕ) (q : ℕ) → a ≤ length xs → length ys ≡ k → a + k ≤ q
+    → at (put_mid a k xs ys) q ≡ at xs q
 behind_part a k xs ys q room e le =
     let place : a + (k + (q - a - k)) ≡ q = omega arith in
     get_or-append_right (take a xs) _ a q 0 (length-take-le a xs room) (omega arith)
@@ -28,12 +32,15 @@ behind_part a k xs ys q room e le =
     ∙ ap (λ (n : ℕ). at xs n) place
 
 -- a part of w places that was written from a on, each as s has it
-pub part_laid : (a w k : ℕ) (xs ys : List ℕ) (s : ℕ → ℕ) → a + w ≤ length xs → length ys ≡ k → k ≡ w → ((i : ℕ) → i < w → at ys i ≡ s i)
+pub part_laid : (a w k : ℕ) (xs ys : List ℕ) (s : ℕ → ℕ) → a + w ≤ length xs → length ys ≡ k → k ≡ w
+    → ((i : ℕ) → i < w → at ys i ≡ s i)
     → (q : ℕ) → at (put_mid a k xs ys) q ≡ cond (nat_le a q && nat_lt q (a + w)) (s (q - a)) (at xs q)
 part_laid a w k xs ys s room e kw told q = elim (cases_lt q a) [
   | inl lt ↦ let t = before_part a k xs ys q (omega arith) lt in grind (arith, nat_tests)
   | inr le ↦ elim (cases_lt q (a + w)) [
-    | inl lt ↦ let t = in_part a k xs ys q (omega arith) le (omega (arith, e)) in let s = told (q - a) (omega arith) in grind (arith, nat_tests)
+    | inl lt ↦
+        let t = in_part a k xs ys q (omega arith) le (omega (arith, e)) in
+        let s = told (q - a) (omega arith) in grind (arith, nat_tests)
     | inr past ↦ let t = behind_part a k xs ys q (omega arith) e (omega (arith, kw)) in grind (arith, nat_tests)
   ]
 ]
@@ -56,7 +63,8 @@ line_laid width j i k before now s l m n told old =
 -- one more place of a line
 pub set_laid : (from k v : ℕ) (first before : List ℕ) (s : ℕ → ℕ) → from + k < length before → v ≡ s (from + k) →
     ((q : ℕ) → at before q ≡ cond (nat_le from q && nat_lt q (from + k)) (s q) (at first q)) →
-    (q : ℕ) → at (slice_set before (from + k) v) q ≡ cond (nat_le from q && nat_lt q (from + (k + 1))) (s q) (at first q)
+    (q : ℕ)
+    → at (slice_set before (from + k) v) q ≡ cond (nat_le from q && nat_lt q (from + (k + 1))) (s q) (at first q)
 set_laid from k v first before s room e told q =
     let t = told q in
     grind (arith, common_steps, nat_tests)

@@ -10,7 +10,8 @@ pub product_within : (a b : ℤ) (m n : ℕ) → unsigned_abs a ≤ m → unsign
 product_within a b m n p q = rw (unsigned_abs-mul a b) (mul-le-mul p q)
 
 -- the product as the code computes it, which loses nothing
-pub product_is : (a b : ℤ) (m n : ℕ) → unsigned_abs a ≤ m → unsigned_abs b ≤ n → m * n < 2147483648 → SFits w32 a → SFits w32 b
+pub product_is : (a b : ℤ) (m n : ℕ) → unsigned_abs a ≤ m → unsigned_abs b ≤ n → m * n < 2147483648 → SFits w32 a
+    → SFits w32 b
     → to_z w32 (of_z w32 (to_z w32 (of_z w32 a) *ℤ to_z w32 (of_z w32 b))) ≡ a *ℤ b
 product_is a b m n p q few f g =
     let fits : SFits w32 (a *ℤ b) = fits_signed_mul w32 a b m n p q few in

@@ -1,5 +1,6 @@
 -- Samples at 14 bits.
-use Rattle.std.proofs.Common.{◌≡◌, ℕ, zero, suc, ◌+◌, ◌-◌, ◌*◌, ◌%◌, ◌^◌, ◌<◌, ◌≤◌, inl, inr, sym, ap, mod-eq_of_lt, ℤ, pos, negsuc, ◌*ℤ◌, ◌∙◌, arith}
+use Rattle.std.proofs.Common.{◌≡◌, ℕ, zero, suc, ◌+◌, ◌-◌, ◌*◌, ◌%◌, ◌^◌, ◌<◌, ◌≤◌, inl, inr, sym, ap, mod-eq_of_lt, ℤ}
+use Rattle.std.proofs.Common.{pos, negsuc, ◌*ℤ◌, ◌∙◌, arith}
 use Rattle.std.proofs.lemmas.Int.{ints}
 use Rattle.std.specs.Int.{int_shr}
 use Rattle.spec_inter_prediction.specs.Taps.{luma_taps, chroma_taps, luma_filter, chroma_filter, IsDepth}
@@ -22,7 +23,8 @@ raised_high depth sample is small =
     let e : 14 - (14 - depth) ≡ depth = omega (arith, is) in
     power_less (14 - depth) sample (omega (arith, is)) (rw e small)
 
-pub raised_is : (depth sample : ℕ) → IsDepth depth → sample < 2 ^ depth → sample * 2 ^ (14 - depth) % 65536 ≡ 2 ^ (14 - depth) * sample
+pub raised_is : (depth sample : ℕ) → IsDepth depth → sample < 2 ^ depth
+    → sample * 2 ^ (14 - depth) % 65536 ≡ 2 ^ (14 - depth) * sample
 raised_is depth sample is small =
     let h = raised_high depth sample is small in
     let c : sample * 2 ^ (14 - depth) ≡ 2 ^ (14 - depth) * sample = grind arith in
@@ -49,24 +51,34 @@ halved (suc (suc (suc (suc zero)))) (negsuc n) few = grind (arith, ints)
 halved (suc (suc (suc (suc (suc zero))))) (negsuc n) few = grind (arith, ints)
 halved (suc (suc (suc (suc (suc (suc k)))))) z few = absurd (omega (arith, few))
 
-third_double : (a b c d e f g h : ℤ) → luma_taps 3 (pos 2 *ℤ a) (pos 2 *ℤ b) (pos 2 *ℤ c) (pos 2 *ℤ d) (pos 2 *ℤ e) (pos 2 *ℤ f) (pos 2 *ℤ g) (pos 2 *ℤ h) ≡ pos 2 *ℤ luma_taps 3 a b c d e f g h
+third_double : (a b c d e f g h : ℤ)
+    → luma_taps 3 (pos 2 *ℤ a) (pos 2 *ℤ b) (pos 2 *ℤ c) (pos 2 *ℤ d) (pos 2 *ℤ e) (pos 2 *ℤ f) (pos 2 *ℤ g)
+    (pos 2 *ℤ h)
+    ≡ pos 2 *ℤ luma_taps 3 a b c d e f g h
 unfolding luma_taps
 third_double a b c d e f g h = omega (arith, ints)
 
-luma_double : (q : ℕ) (a b c d e f g h : ℤ) → luma_taps q (pos 2 *ℤ a) (pos 2 *ℤ b) (pos 2 *ℤ c) (pos 2 *ℤ d) (pos 2 *ℤ e) (pos 2 *ℤ f) (pos 2 *ℤ g) (pos 2 *ℤ h) ≡ pos 2 *ℤ luma_taps q a b c d e f g h
+luma_double : (q : ℕ) (a b c d e f g h : ℤ)
+    → luma_taps q (pos 2 *ℤ a) (pos 2 *ℤ b) (pos 2 *ℤ c) (pos 2 *ℤ d) (pos 2 *ℤ e) (pos 2 *ℤ f) (pos 2 *ℤ g)
+    (pos 2 *ℤ h)
+    ≡ pos 2 *ℤ luma_taps q a b c d e f g h
 unfolding luma_taps
 luma_double zero a b c d e f g h = omega (arith, ints)
 luma_double (suc zero) a b c d e f g h = omega (arith, ints)
 luma_double (suc (suc zero)) a b c d e f g h = omega (arith, ints)
 luma_double (suc (suc (suc n))) a b c d e f g h =
     let lt : 2 < suc (suc (suc n)) = omega arith in
-    last_luma _ (pos 2 *ℤ a) (pos 2 *ℤ b) (pos 2 *ℤ c) (pos 2 *ℤ d) (pos 2 *ℤ e) (pos 2 *ℤ f) (pos 2 *ℤ g) (pos 2 *ℤ h) lt ∙ third_double a b c d e f g h ∙ ap (λ (v : ℤ). pos 2 *ℤ v) (sym (last_luma _ a b c d e f g h lt))
+    last_luma _ (pos 2 *ℤ a) (pos 2 *ℤ b) (pos 2 *ℤ c) (pos 2 *ℤ d) (pos 2 *ℤ e) (pos 2 *ℤ f) (pos 2 *ℤ g)
+    (pos 2 *ℤ h) lt
+    ∙ third_double a b c d e f g h ∙ ap (λ (v : ℤ). pos 2 *ℤ v) (sym (last_luma _ a b c d e f g h lt))
 
-seventh_double : (a b c d : ℤ) → chroma_taps 7 (pos 2 *ℤ a) (pos 2 *ℤ b) (pos 2 *ℤ c) (pos 2 *ℤ d) ≡ pos 2 *ℤ chroma_taps 7 a b c d
+seventh_double : (a b c d : ℤ)
+    → chroma_taps 7 (pos 2 *ℤ a) (pos 2 *ℤ b) (pos 2 *ℤ c) (pos 2 *ℤ d) ≡ pos 2 *ℤ chroma_taps 7 a b c d
 unfolding chroma_taps
 seventh_double a b c d = omega (arith, ints)
 
-chroma_double : (q : ℕ) (a b c d : ℤ) → chroma_taps q (pos 2 *ℤ a) (pos 2 *ℤ b) (pos 2 *ℤ c) (pos 2 *ℤ d) ≡ pos 2 *ℤ chroma_taps q a b c d
+chroma_double : (q : ℕ) (a b c d : ℤ)
+    → chroma_taps q (pos 2 *ℤ a) (pos 2 *ℤ b) (pos 2 *ℤ c) (pos 2 *ℤ d) ≡ pos 2 *ℤ chroma_taps q a b c d
 unfolding chroma_taps
 chroma_double zero a b c d = omega (arith, ints)
 chroma_double (suc zero) a b c d = omega (arith, ints)
@@ -77,7 +89,8 @@ chroma_double (suc (suc (suc (suc (suc zero))))) a b c d = omega (arith, ints)
 chroma_double (suc (suc (suc (suc (suc (suc zero)))))) a b c d = omega (arith, ints)
 chroma_double (suc (suc (suc (suc (suc (suc (suc n))))))) a b c d =
     let lt : 6 < suc (suc (suc (suc (suc (suc (suc n)))))) = omega arith in
-    last_chroma _ (pos 2 *ℤ a) (pos 2 *ℤ b) (pos 2 *ℤ c) (pos 2 *ℤ d) lt ∙ seventh_double a b c d ∙ ap (λ (v : ℤ). pos 2 *ℤ v) (sym (last_chroma _ a b c d lt))
+    last_chroma _ (pos 2 *ℤ a) (pos 2 *ℤ b) (pos 2 *ℤ c) (pos 2 *ℤ d) lt ∙ seventh_double a b c d
+    ∙ ap (λ (v : ℤ). pos 2 *ℤ v) (sym (last_chroma _ a b c d lt))
 
 filter_double : (taps q : ℕ) (s : ℕ → ℤ) → filter taps q (λ k. pos 2 *ℤ s k) ≡ pos 2 *ℤ filter taps q s
 filter_double taps q s = elim (cases_eq taps) [
@@ -106,14 +119,20 @@ chroma_same q s t h =
     cc
 
 -- a filter depends on as many values as it has taps
-pub filter_same : (taps q : ℕ) (s t : ℕ → ℤ) → 4 ≤ taps → ((k : ℕ) → k < taps → s k ≡ t k) → filter taps q s ≡ filter taps q t
+pub filter_same : (taps q : ℕ) (s t : ℕ → ℤ) → 4 ≤ taps → ((k : ℕ) → k < taps → s k ≡ t k)
+    → filter taps q s ≡ filter taps q t
 filter_same taps q s t few h = elim (cases_eq taps) [
-  | inl eight ↦ let e : taps ≡ 8 = grind (arith, nat_tests) in rw eight (luma_same q s t (λ k lt. h k (omega (arith, e))))
+  | inl eight ↦
+      let e : taps ≡ 8 = grind (arith, nat_tests) in rw eight (luma_same q s t (λ k lt. h k (omega (arith, e))))
   | inr other ↦ rw other (chroma_same q s t (λ k lt. h k (omega (arith, few))))
 ]
 
-shifted : (n m taps q : ℕ) (s : ℕ → ℕ) → 4 ≤ taps → n + m ≤ 6 → int_shr (filter taps q (λ k. pos (2 ^ n * s k))) (n + m) ≡ int_shr (filter taps q (λ k. pos (s k))) m
-shifted zero m taps q s four few = let z : 0 + m ≡ m = omega arith in rw z (ap (λ (z : ℤ). int_shr z m) (filter_same taps q _ _ four (λ k lt. let e : 2 ^ 0 * s k ≡ s k = omega arith in ap (λ (v : ℕ). pos v) e)))
+shifted : (n m taps q : ℕ) (s : ℕ → ℕ) → 4 ≤ taps → n + m ≤ 6
+    → int_shr (filter taps q (λ k. pos (2 ^ n * s k))) (n + m) ≡ int_shr (filter taps q (λ k. pos (s k))) m
+shifted zero m taps q s four few =
+    let z : 0 + m ≡ m = omega arith in
+    rw z (ap (λ (z : ℤ). int_shr z m)
+    (filter_same taps q _ _ four (λ k lt. let e : 2 ^ 0 * s k ≡ s k = omega arith in ap (λ (v : ℕ). pos v) e)))
 shifted (suc n) m taps q s four few =
     let d : filter taps q (λ k. pos (2 ^ suc n * s k)) ≡ pos 2 *ℤ filter taps q (λ k. pos (2 ^ n * s k)) =
     filter_same taps q _ _ four (λ k lt. doubled n (s k)) ∙ filter_double taps q (λ k. pos (2 ^ n * s k)) in
@@ -121,7 +140,9 @@ shifted (suc n) m taps q s four few =
     rw (d, z) (halved (n + m) _ (omega (arith, few)) ∙ shifted n m taps q s four (omega (arith, few)))
 
 -- samples at 14 bits in units of 64 are samples in units of 2^(depth - 8)
-pub raised_filter : (depth taps q : ℕ) (s : ℕ → ℕ) → IsDepth depth → 4 ≤ taps → int_shr (filter taps q (λ k. pos (2 ^ (14 - depth) * s k))) 6 ≡ int_shr (filter taps q (λ k. pos (s k))) (depth - 8)
+pub raised_filter : (depth taps q : ℕ) (s : ℕ → ℕ) → IsDepth depth → 4 ≤ taps
+    → int_shr (filter taps q (λ k. pos (2 ^ (14 - depth) * s k))) 6
+    ≡ int_shr (filter taps q (λ k. pos (s k))) (depth - 8)
 raised_filter depth taps q s is four =
     let e : 14 - depth + (depth - 8) ≡ 6 = omega (arith, is) in
     let f : 14 - depth + (depth - 8) ≤ 6 = omega (arith, e) in

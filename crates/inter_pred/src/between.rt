@@ -36,8 +36,10 @@ pub fn interpolate<V: RefWindow, const TAPS: usize>(
     requires size { (first.width ≤ 64) × (first.height ≤ 64) }
     requires place { (first.x ≤ℤ pos 536870912) × (first.y ≤ℤ pos 536870912) }
     requires small { (x y : ℤ) → V.reference_at view.now first.picture first.component x y < 2 ^ depth }
-    ensures { (x y : ℕ) → x < first.width → y < first.height → at_z out.new (64 * y + x) ≡ filtered (filter TAPS fractions.across) (filter TAPS fractions.down) depth
-        (λ i j. pos (V.reference_at view.now first.picture first.component (first.x +ℤ pos x +ℤ pos i) (first.y +ℤ pos y +ℤ pos j))) }
+    ensures { (x y : ℕ) → x < first.width → y < first.height
+        → at_z out.new (64 * y + x) ≡ filtered (filter TAPS fractions.across) (filter TAPS fractions.down) depth
+        (λ i j. pos (V.reference_at view.now first.picture first.component (first.x +ℤ pos x +ℤ pos i)
+        (first.y +ℤ pos y +ℤ pos j))) }
 {
     if fractions.across == 0 && fractions.down == 0 {
         whole::<V, TAPS>(view, first, depth, scratch, out);
@@ -59,8 +61,10 @@ fn whole<V: RefWindow, const TAPS: usize>(
     requires size { (first.width ≤ 64) × (first.height ≤ 64) }
     requires place { (first.x ≤ℤ pos 536870912) × (first.y ≤ℤ pos 536870912) }
     requires small { (x y : ℤ) → V.reference_at view.now first.picture first.component x y < 2 ^ depth }
-    ensures { (x y : ℕ) → x < first.width → y < first.height → at_z out.new (64 * y + x) ≡ filtered (filter TAPS 0) (filter TAPS 0) depth
-        (λ i j. pos (V.reference_at view.now first.picture first.component (first.x +ℤ pos x +ℤ pos i) (first.y +ℤ pos y +ℤ pos j))) }
+    ensures { (x y : ℕ) → x < first.width → y < first.height
+        → at_z out.new (64 * y + x) ≡ filtered (filter TAPS 0) (filter TAPS 0) depth
+        (λ i j. pos (V.reference_at view.now first.picture first.component (first.x +ℤ pos x +ℤ pos i)
+        (first.y +ℤ pos y +ℤ pos j))) }
 {
     let before = (TAPS / 2) as i32 - 1;
     let place = Window {
@@ -87,8 +91,10 @@ fn between<V: RefWindow, const TAPS: usize>(
     requires size { (first.width ≤ 64) × (first.height ≤ 64) }
     requires place { (first.x ≤ℤ pos 536870912) × (first.y ≤ℤ pos 536870912) }
     requires small { (x y : ℤ) → V.reference_at view.now first.picture first.component x y < 2 ^ depth }
-    ensures { (x y : ℕ) → x < first.width → y < first.height → at_z out.new (64 * y + x) ≡ filtered (filter TAPS fractions.across) (filter TAPS fractions.down) depth
-        (λ i j. pos (V.reference_at view.now first.picture first.component (first.x +ℤ pos x +ℤ pos i) (first.y +ℤ pos y +ℤ pos j))) }
+    ensures { (x y : ℕ) → x < first.width → y < first.height
+        → at_z out.new (64 * y + x) ≡ filtered (filter TAPS fractions.across) (filter TAPS fractions.down) depth
+        (λ i j. pos (V.reference_at view.now first.picture first.component (first.x +ℤ pos x +ℤ pos i)
+        (first.y +ℤ pos y +ℤ pos j))) }
 {
     let (width, height) = (first.width, first.height);
     let window = Window {

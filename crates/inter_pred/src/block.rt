@@ -78,7 +78,9 @@ pub fn luma<V: RefWindow>(
     requires size { (block.width ≤ 64) × (block.height ≤ 64) }
     requires place { (block.x ≤ 65536) × (block.y ≤ 65536) }
     requires small { (x y : ℤ) → V.reference_at view.now picture 0 x y < 2 ^ depth }
-    ensures { (x y : ℕ) → x < block.width → y < block.height → at_z out.new (64 * y + x) ≡ luma_sample depth (V.reference_at view.now picture 0) mv.x mv.y (block.x + x) (block.y + y) }
+    ensures { (x y : ℕ) → x < block.width → y < block.height
+        → at_z out.new (64 * y + x)
+        ≡ luma_sample depth (V.reference_at view.now picture 0) mv.x mv.y (block.x + x) (block.y + y) }
 {
     let first = Window {
         picture,
@@ -111,7 +113,9 @@ pub fn chroma<V: RefWindow>(
     requires size { (block.width ≤ 64) × (block.height ≤ 64) }
     requires place { (block.x ≤ 65536) × (block.y ≤ 65536) }
     requires small { (x y : ℤ) → V.reference_at view.now picture component x y < 2 ^ depth }
-    ensures { (x y : ℕ) → x < block.width → y < block.height → at_z out.new (64 * y + x) ≡ chroma_sample depth (V.reference_at view.now picture component) mv.x mv.y (block.x + x) (block.y + y) }
+    ensures { (x y : ℕ) → x < block.width → y < block.height
+        → at_z out.new (64 * y + x)
+        ≡ chroma_sample depth (V.reference_at view.now picture component) mv.x mv.y (block.x + x) (block.y + y) }
 {
     let first = Window {
         picture,

@@ -1,6 +1,7 @@
 //! Columns of what the lines of a window give, filtered.
 
-ghost use Rattle.std.specs.Prelude.{◌≡◌, ◌<◌, ◌≤◌, ◌+◌, ◌-◌, ◌*◌, ◌^◌, ℕ, ℤ, length, pos, ◌+ℤ◌, ◌-ℤ◌, cond, nat_le, nat_lt, ◌&&◌};
+ghost use Rattle.std.specs.Prelude.{◌≡◌, ◌<◌, ◌≤◌, ◌+◌, ◌-◌, ◌*◌, ◌^◌, ℕ, ℤ, length, pos, ◌+ℤ◌, ◌-ℤ◌, cond, nat_le};
+ghost use Rattle.std.specs.Prelude.{nat_lt, ◌&&◌};
 ghost use Rattle.std.specs.Int.{int_shr};
 ghost use Rattle.std.specs.List.{All};
 ghost use Rattle.inter_pred.specs.Passes.{at, at_z, filter, down, IsSmall};
@@ -86,7 +87,8 @@ fn line<const TAPS: usize, const Q: u32>(middle: &[u16], from: usize, width: usi
     requires middle { from + width + 64 * TAPS ≤ length middle.now + 64 }
     requires out { from + width ≤ length out.old }
     requires small { All IsSmall out.old }
-    ensures value { (q : ℕ) → at_z out.new q ≡ cond (nat_le from q && nat_lt q (from + width)) (down TAPS Q middle.now q) (at_z out.old q) }
+    ensures value { (q : ℕ)
+        → at_z out.new q ≡ cond (nat_le from q && nat_lt q (from + width)) (down TAPS Q middle.now q) (at_z out.old q) }
     ensures small { All IsSmall out.new }
 {
     for k in 0..width {
@@ -104,7 +106,8 @@ fn columns<const TAPS: usize, const Q: u32>(
     requires taps { (4 ≤ TAPS) × (TAPS ≤ 8) }
     requires size { (width ≤ 64) × (height ≤ 64) }
     requires small { All IsSmall out.old }
-    ensures value { (x y : ℕ) → x < width → y < height → at_z out.new (64 * y + x) ≡ down TAPS Q middle.now (64 * y + x) }
+    ensures value { (x y : ℕ) → x < width → y < height
+        → at_z out.new (64 * y + x) ≡ down TAPS Q middle.now (64 * y + x) }
     ensures small { All IsSmall out.new }
 {
     for y in 0..height {
@@ -123,7 +126,8 @@ pub fn columns_at<const TAPS: usize>(
     requires taps { (4 ≤ TAPS) × (TAPS ≤ 8) }
     requires fraction { fraction < 8 }
     requires size { (width ≤ 64) × (height ≤ 64) }
-    ensures { (x y : ℕ) → x < width → y < height → at_z out.new (64 * y + x) ≡ down TAPS fraction middle.now (64 * y + x) }
+    ensures { (x y : ℕ) → x < width → y < height
+        → at_z out.new (64 * y + x) ≡ down TAPS fraction middle.now (64 * y + x) }
 {
     let samples = &mut out.samples;
     match fraction {

@@ -1,6 +1,7 @@
 //! Lines and columns of a window, filtered.
 
-ghost use Rattle.std.specs.Prelude.{◌≡◌, ◌<◌, ◌≤◌, ◌+◌, ◌-◌, ◌*◌, ◌^◌, ℕ, ℤ, length, pos, ◌+ℤ◌, cond, nat_le, nat_lt, ◌&&◌};
+ghost use Rattle.std.specs.Prelude.{◌≡◌, ◌<◌, ◌≤◌, ◌+◌, ◌-◌, ◌*◌, ◌^◌, ℕ, ℤ, length, pos, ◌+ℤ◌, cond, nat_le, nat_lt};
+ghost use Rattle.std.specs.Prelude.{◌&&◌};
 ghost use Rattle.std.specs.List.{All};
 ghost use Rattle.inter_pred.specs.Passes.{at, filter, across, IsRaised};
 
@@ -83,7 +84,9 @@ fn line<const TAPS: usize, const Q: u32>(
     requires window { from + width + TAPS ≤ length window.now + 1 }
     requires raised { All IsRaised window.now }
     requires middle { to + width ≤ length middle.old }
-    ensures { (q : ℕ) → pos (at middle.new q) ≡ cond (nat_le to q && nat_lt q (to + width)) (pos 8192 +ℤ across TAPS Q window.now (from + (q - to))) (pos (at middle.old q)) }
+    ensures { (q : ℕ) → pos (at middle.new q)
+        ≡ cond (nat_le to q && nat_lt q (to + width)) (pos 8192 +ℤ across TAPS Q window.now (from + (q - to)))
+        (pos (at middle.old q)) }
 {
     for k in 0..width {
         middle[to + k] = across::<TAPS, Q>(window, from + k);
@@ -100,7 +103,8 @@ fn lines<const TAPS: usize, const Q: u32>(
     requires taps { (4 ≤ TAPS) × (TAPS ≤ 8) }
     requires size { (width ≤ 64) × (height ≤ 71) }
     requires raised { All IsRaised window.now }
-    ensures { (x y : ℕ) → x < width → y < height → pos (at middle.new (64 * y + x)) ≡ pos 8192 +ℤ across TAPS Q window.now (72 * y + x) }
+    ensures { (x y : ℕ) → x < width → y < height
+        → pos (at middle.new (64 * y + x)) ≡ pos 8192 +ℤ across TAPS Q window.now (72 * y + x) }
 {
     for y in 0..height {
         line::<TAPS, Q>(window, 72 * y, width, middle, 64 * y);
@@ -119,7 +123,8 @@ pub fn lines_at<const TAPS: usize>(
     requires fraction { fraction < 8 }
     requires size { (width ≤ 64) × (height ≤ 71) }
     requires raised { All IsRaised window.now }
-    ensures { (x y : ℕ) → x < width → y < height → pos (at middle.new (64 * y + x)) ≡ pos 8192 +ℤ across TAPS fraction window.now (72 * y + x) }
+    ensures { (x y : ℕ) → x < width → y < height
+        → pos (at middle.new (64 * y + x)) ≡ pos 8192 +ℤ across TAPS fraction window.now (72 * y + x) }
 {
     match fraction {
         0 => lines::<TAPS, 0>(window, width, height, middle),

@@ -13,5 +13,6 @@ pub trait RefWindow {
     fn row(&self, picture: u32, component: u8, x: i32, y: i32, out: &mut [u16])
         requires count { length out.old ≤ 71 }
         requires place { x ≤ℤ pos 1073741824 }
-        ensures { (k : ℕ) → k < length out.old → at out.new k ≡ reference_at self.now picture component (x +ℤ pos k) y };
+        ensures { (k : ℕ) → k < length out.old
+            → at out.new k ≡ reference_at self.now picture component (x +ℤ pos k) y };
 }

@@ -3,7 +3,8 @@
 ghost use Rattle.std.specs.Prelude.{◌≡◌, ◌≤◌, ◌+◌, ◌-◌, ◌*◌, ◌^◌, ℤ, pos, negsuc, ◌+ℤ◌, ◌-ℤ◌, ◌*ℤ◌, ◌≤ℤ◌};
 ghost use Rattle.std.specs.Int.{int_shr};
 ghost use Rattle.spec_inter_prediction.specs.Taps.{IsDepth};
-ghost use Rattle.spec_inter_prediction.specs.Weighting.{clip1, rounded, scaled_offset, default_one, default_two, explicit_one, explicit_two, IsWeight};
+ghost use Rattle.spec_inter_prediction.specs.Weighting.{clip1, rounded, scaled_offset, default_one, default_two};
+ghost use Rattle.spec_inter_prediction.specs.Weighting.{explicit_one, explicit_two, IsWeight};
 ghost use Rattle.inter_pred.specs.Passes.{IsSmall};
 
 use spec_inter_prediction::Weight;
@@ -220,7 +221,8 @@ pub fn explicit_one(depth: u32, log2_wd: u32, w: Weight, p: i32) -> u16
 fn bias(depth: u32, log2_wd: u32, w: Weight, v: Weight) -> i32
     requires depth { IsDepth depth }
     requires log2_wd { log2_wd ≤ 13 }
-    ensures value { result ≡ (scaled_offset depth w.offset +ℤ scaled_offset depth v.offset +ℤ pos 1) *ℤ pos (2 ^ log2_wd) }
+    ensures value { result
+        ≡ (scaled_offset depth w.offset +ℤ scaled_offset depth v.offset +ℤ pos 1) *ℤ pos (2 ^ log2_wd) }
     ensures low { negsuc 268451839 ≤ℤ result }
     ensures high { result ≤ℤ pos 268451840 }
 {

@@ -18,8 +18,10 @@ pub fn luma_sum<const Q: u32>(
     h: u32,
 ) -> u32
     requires base { base ≤ 2 ^ 21 }
-    requires small { (24 * a ≤ base) × (24 * b ≤ base) × (24 * c ≤ base) × (24 * d ≤ base) × (24 * e ≤ base) × (24 * f ≤ base) × (24 * g ≤ base) × (24 * h ≤ base) }
-    ensures value { pos result ≡ pos base +ℤ luma_taps Q (pos a) (pos b) (pos c) (pos d) (pos e) (pos f) (pos g) (pos h) }
+    requires small { (24 * a ≤ base) × (24 * b ≤ base) × (24 * c ≤ base) × (24 * d ≤ base) × (24 * e ≤ base)
+        × (24 * f ≤ base) × (24 * g ≤ base) × (24 * h ≤ base) }
+    ensures value { pos result
+        ≡ pos base +ℤ luma_taps Q (pos a) (pos b) (pos c) (pos d) (pos e) (pos f) (pos g) (pos h) }
     ensures high { 24 * result ≤ 24 * base + 88 * base }
 {
     match Q {

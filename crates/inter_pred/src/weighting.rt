@@ -62,7 +62,9 @@ fn line<const KIND: u32>(
     requires p { All IsSmall p.now }
     requires q { All IsSmall q.now }
     requires room { (from + width ≤ length p.now) × (from + width ≤ length q.now) × (from + width ≤ length out.old) }
-    ensures { (i : ℕ) → at out.new i ≡ cond (nat_le from i && nat_lt i (from + width)) (sample KIND scale.depth scale.log2_wd scale.first scale.second (at_z p.now i) (at_z q.now i)) (at out.old i) }
+    ensures { (i : ℕ) → at out.new i
+        ≡ cond (nat_le from i && nat_lt i (from + width))
+        (sample KIND scale.depth scale.log2_wd scale.first scale.second (at_z p.now i) (at_z q.now i)) (at out.old i) }
 {
     for k in 0..width {
         out[from + k] = sample::<KIND>(scale, p[from + k], q[from + k]);
@@ -83,7 +85,10 @@ fn lines<const KIND: u32>(
     requires first { IsWeight scale.first }
     requires second { IsWeight scale.second }
     requires size { (width ≤ 64) × (height ≤ 64) }
-    ensures { (x y : ℕ) → x < width → y < height → at out.new (64 * y + x) ≡ sample KIND scale.depth scale.log2_wd scale.first scale.second (at_z p.now (64 * y + x)) (at_z q.now (64 * y + x)) }
+    ensures { (x y : ℕ) → x < width → y < height
+        → at out.new (64 * y + x)
+        ≡ sample KIND scale.depth scale.log2_wd scale.first scale.second (at_z p.now (64 * y + x))
+        (at_z q.now (64 * y + x)) }
 {
     for y in 0..height {
         line::<KIND>(scale, &p.samples, &q.samples, 64 * y, width, out);
@@ -105,7 +110,8 @@ pub fn weigh_one(
     requires depth { IsDepth depth }
     requires weights { IsWeighting weighting }
     requires size { (width ≤ 64) × (height ≤ 64) }
-    ensures { (x y : ℕ) → x < width → y < height → at out.new (64 * y + x) ≡ weighted_one depth weighting list (at_z prediction.now (64 * y + x)) }
+    ensures { (x y : ℕ) → x < width → y < height
+        → at out.new (64 * y + x) ≡ weighted_one depth weighting list (at_z prediction.now (64 * y + x)) }
 {
     match weighting {
         Weighting::Default => {
@@ -142,7 +148,9 @@ pub fn weigh_two(
     requires depth { IsDepth depth }
     requires weights { IsWeighting weighting }
     requires size { (width ≤ 64) × (height ≤ 64) }
-    ensures { (x y : ℕ) → x < width → y < height → at out.new (64 * y + x) ≡ weighted_two depth weighting (at_z list0.now (64 * y + x)) (at_z list1.now (64 * y + x)) }
+    ensures { (x y : ℕ) → x < width → y < height
+        → at out.new (64 * y + x)
+        ≡ weighted_two depth weighting (at_z list0.now (64 * y + x)) (at_z list1.now (64 * y + x)) }
 {
     match weighting {
         Weighting::Default => lines::<1>(unweighted(depth), list0, list1, width, height, out),

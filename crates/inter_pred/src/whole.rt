@@ -22,7 +22,8 @@ fn copy_line(window: &[u16], from: usize, width: usize, out: &mut [i32], to: usi
     requires window { from + width ≤ length window.now }
     requires out { to + width ≤ length out.old }
     requires small { All IsSmall out.old }
-    ensures value { (q : ℕ) → at_z out.new q ≡ cond (nat_le to q && nat_lt q (to + width)) (pos (at window.now (from + (q - to)))) (at_z out.old q) }
+    ensures value { (q : ℕ) → at_z out.new q
+        ≡ cond (nat_le to q && nat_lt q (to + width)) (pos (at window.now (from + (q - to)))) (at_z out.old q) }
     ensures small { All IsSmall out.new }
 {
     for k in 0..width {

@@ -1,6 +1,7 @@
 //! The window of a reference picture that a block reads.
 
-ghost use Rattle.std.specs.Prelude.{◌≡◌, ◌<◌, ◌≤◌, ◌+◌, ◌-◌, ◌*◌, ◌^◌, ℕ, ℤ, pos, ◌+ℤ◌, ◌≤ℤ◌, length, cond, nat_le, nat_lt, ◌&&◌};
+ghost use Rattle.std.specs.Prelude.{◌≡◌, ◌<◌, ◌≤◌, ◌+◌, ◌-◌, ◌*◌, ◌^◌, ℕ, ℤ, pos, ◌+ℤ◌, ◌≤ℤ◌, length, cond, nat_le};
+ghost use Rattle.std.specs.Prelude.{nat_lt, ◌&&◌};
 ghost use Rattle.std.specs.List.{All};
 ghost use Rattle.spec_inter_prediction.specs.Taps.{IsDepth};
 ghost use Rattle.inter_pred.specs.Passes.{at, IsRaised};
@@ -31,7 +32,9 @@ pub fn gather<V: RefWindow>(view: &V, from: Window, depth: u32, window: &mut [u1
     requires place { (from.x ≤ℤ pos 1073741824) × (from.y ≤ℤ pos 1073741824) }
     requires small { (x y : ℤ) → V.reference_at view.now from.picture from.component x y < 2 ^ depth }
     requires raised { All IsRaised window.old }
-    ensures value { (i j : ℕ) → i < from.width → j < from.height → at window.new (72 * j + i) ≡ 2 ^ (14 - depth) * V.reference_at view.now from.picture from.component (from.x +ℤ pos i) (from.y +ℤ pos j) }
+    ensures value { (i j : ℕ) → i < from.width → j < from.height
+        → at window.new (72 * j + i)
+        ≡ 2 ^ (14 - depth) * V.reference_at view.now from.picture from.component (from.x +ℤ pos i) (from.y +ℤ pos j) }
     ensures raised { All IsRaised window.new }
 {
     for j in 0..from.height {
@@ -47,7 +50,10 @@ fn lay_line<V: RefWindow>(view: &V, from: Window, y: i32, depth: u32, window: &m
     requires place { from.x ≤ℤ pos 1073741824 }
     requires small { (x y : ℤ) → V.reference_at view.now from.picture from.component x y < 2 ^ depth }
     requires raised { All IsRaised window.old }
-    ensures value { (q : ℕ) → at window.new q ≡ cond (nat_le to q && nat_lt q (to + from.width)) (2 ^ (14 - depth) * V.reference_at view.now from.picture from.component (from.x +ℤ pos (q - to)) y) (at window.old q) }
+    ensures value { (q : ℕ) → at window.new q
+        ≡ cond (nat_le to q && nat_lt q (to + from.width))
+        (2 ^ (14 - depth) * V.reference_at view.now from.picture from.component (from.x +ℤ pos (q - to)) y)
+        (at window.old q) }
     ensures raised { All IsRaised window.new }
 {
     gather_line(view, from, y, depth, &mut window[to..to + from.width]);
@@ -59,7 +65,8 @@ fn gather_line<V: RefWindow>(view: &V, from: Window, y: i32, depth: u32, line: &
     requires count { length line.old ≤ 71 }
     requires place { from.x ≤ℤ pos 1073741824 }
     requires small { (x y : ℤ) → V.reference_at view.now from.picture from.component x y < 2 ^ depth }
-    ensures value { (k : ℕ) → k < length line.old → at line.new k ≡ 2 ^ (14 - depth) * V.reference_at view.now from.picture from.component (from.x +ℤ pos k) y }
+    ensures value { (k : ℕ) → k < length line.old
+        → at line.new k ≡ 2 ^ (14 - depth) * V.reference_at view.now from.picture from.component (from.x +ℤ pos k) y }
     ensures raised { All IsRaised line.new }
 {
     view.row(from.picture, from.component, from.x, y, line);

@@ -48,7 +48,13 @@ pub fn predict<V: RefWindow>(
     requires weighting { IsSliceWeighting inter.now.weighting.now }
     requires place { (inter.now.column ≤ 8192) × (inter.now.row ≤ 8192) }
     requires small { AreSmall format.now (V.reference_at view.now) }
-    ensures { (x y : ℕ) → x < samples_of_place c * block.width → y < samples_of_place c * block.height → at out.new (64 * y + x) ≡ inter_sample format.now (inter_unit (held inter.now.motion.now) inter.now.slice.now inter.now.weighting.now (V.reference_at view.now) inter.now.column inter.now.row) c motion.now (samples_of_place c * inter.now.column + (samples_of_place c * block.x + x)) (samples_of_place c * inter.now.row + (samples_of_place c * block.y + y)) }
+    ensures { (x y : ℕ) → x < samples_of_place c * block.width → y < samples_of_place c * block.height
+        → at out.new (64 * y + x)
+        ≡ inter_sample format.now
+        (inter_unit (held inter.now.motion.now) inter.now.slice.now inter.now.weighting.now (V.reference_at view.now)
+        inter.now.column inter.now.row)
+        c motion.now (samples_of_place c * inter.now.column + (samples_of_place c * block.x + x))
+        (samples_of_place c * inter.now.row + (samples_of_place c * block.y + y)) }
 {
     let part = Part {
         block: block_of(block, inter.column, inter.row, c),

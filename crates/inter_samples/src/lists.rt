@@ -42,7 +42,12 @@ fn predict_list<V: RefWindow>(
     requires format { IsFormat format.now }
     requires part { IsPart part }
     requires small { AreSmall format.now (V.reference_at view.now) }
-    ensures { (x y : ℕ) → x < part.block.width → y < part.block.height → at_z out.new (64 * y + x) ≡ predicted_by format.now (inter_unit (held inter.now.motion.now) inter.now.slice.now inter.now.weighting.now (V.reference_at view.now) inter.now.column inter.now.row) list part.c vector (part.block.x + x) (part.block.y + y) }
+    ensures { (x y : ℕ) → x < part.block.width → y < part.block.height
+        → at_z out.new (64 * y + x)
+        ≡ predicted_by format.now
+        (inter_unit (held inter.now.motion.now) inter.now.slice.now inter.now.weighting.now (V.reference_at view.now)
+        inter.now.column inter.now.row)
+        list part.c vector (part.block.x + x) (part.block.y + y) }
 {
     let picture = reference_in(inter.slice, list, vector.ref_idx).picture;
     let depth = depth_of(format, part.c);
@@ -71,7 +76,13 @@ pub fn by_one<V: RefWindow>(
     requires part { IsPart part }
     requires weighting { IsWeighting weighting }
     requires small { AreSmall format.now (V.reference_at view.now) }
-    ensures { (x y : ℕ) → x < part.block.width → y < part.block.height → at out.new (64 * y + x) ≡ weighted_one (depth_of format.now part.c) weighting list (predicted_by format.now (inter_unit (held inter.now.motion.now) inter.now.slice.now inter.now.weighting.now (V.reference_at view.now) inter.now.column inter.now.row) list part.c vector (part.block.x + x) (part.block.y + y)) }
+    ensures { (x y : ℕ) → x < part.block.width → y < part.block.height
+        → at out.new (64 * y + x)
+        ≡ weighted_one (depth_of format.now part.c) weighting list
+        (predicted_by format.now
+        (inter_unit (held inter.now.motion.now) inter.now.slice.now inter.now.weighting.now (V.reference_at view.now)
+        inter.now.column inter.now.row)
+        list part.c vector (part.block.x + x) (part.block.y + y)) }
 {
     predict_list(
         view,
@@ -104,7 +115,17 @@ pub fn by_both<V: RefWindow>(
     requires part { IsPart part }
     requires weighting { IsWeighting weighting }
     requires small { AreSmall format.now (V.reference_at view.now) }
-    ensures { (x y : ℕ) → x < part.block.width → y < part.block.height → at out.new (64 * y + x) ≡ weighted_two (depth_of format.now part.c) weighting (predicted_by format.now (inter_unit (held inter.now.motion.now) inter.now.slice.now inter.now.weighting.now (V.reference_at view.now) inter.now.column inter.now.row) 0 part.c first (part.block.x + x) (part.block.y + y)) (predicted_by format.now (inter_unit (held inter.now.motion.now) inter.now.slice.now inter.now.weighting.now (V.reference_at view.now) inter.now.column inter.now.row) 1 part.c second (part.block.x + x) (part.block.y + y)) }
+    ensures { (x y : ℕ) → x < part.block.width → y < part.block.height
+        → at out.new (64 * y + x)
+        ≡ weighted_two (depth_of format.now part.c) weighting
+        (predicted_by format.now
+        (inter_unit (held inter.now.motion.now) inter.now.slice.now inter.now.weighting.now (V.reference_at view.now)
+        inter.now.column inter.now.row)
+        0 part.c first (part.block.x + x) (part.block.y + y))
+        (predicted_by format.now
+        (inter_unit (held inter.now.motion.now) inter.now.slice.now inter.now.weighting.now (V.reference_at view.now)
+        inter.now.column inter.now.row)
+        1 part.c second (part.block.x + x) (part.block.y + y)) }
 {
     predict_list(
         view,

@@ -2,7 +2,8 @@
 
 ghost use Rattle.std.specs.Prelude.{◌≡◌, ◌<◌};
 ghost use Rattle.std.specs.List.{All};
-ghost use Rattle.spec_inter_prediction.specs.Tables.{AreWeights, IsSliceWeighting, IsTable, component_weight, weight_at, weighting_of, weights_of};
+ghost use Rattle.spec_inter_prediction.specs.Tables.{AreWeights, IsSliceWeighting, IsTable, component_weight};
+ghost use Rattle.spec_inter_prediction.specs.Tables.{weight_at, weighting_of, weights_of};
 ghost use Rattle.spec_inter_prediction.specs.Weighting.{IsWeight, IsWeighting, IsWeights};
 
 use spec_inter_prediction::{

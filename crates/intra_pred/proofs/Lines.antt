@@ -1,5 +1,6 @@
 -- Lines of a block laid one after the other.
-use Rattle.std.proofs.Common.{◌≡◌, ℕ, ◌+◌, ◌-◌, ◌*◌, ◌<◌, ◌≤◌, List, length, slice_set, cond, nat_le, nat_lt, ◌&&◌, arith}
+use Rattle.std.proofs.Common.{◌≡◌, ℕ, ◌+◌, ◌-◌, ◌*◌, ◌<◌, ◌≤◌, List, length, slice_set, cond, nat_le, nat_lt, ◌&&◌}
+use Rattle.std.proofs.Common.{arith}
 use Rattle.std.proofs.lemmas.Grind.{common_steps}
 use Rattle.std.proofs.lemmas.Bool.Decides.{nat_tests}
 use Rattle.std.proofs.Math.Nat.{mul-le-mul_left}
@@ -8,7 +9,8 @@ use Rattle.spec_intra_prediction.specs.Neighbours.{at}
 -- one more sample of a line
 pub one_more : (first k v : ℕ) (start before : List ℕ) (s : ℕ → ℕ) → first + k < length before → v ≡ s k →
     ((q : ℕ) → at before q ≡ cond (nat_le first q && nat_lt q (first + k)) (s (q - first)) (at start q)) →
-    (q : ℕ) → at (slice_set before (first + k) v) q ≡ cond (nat_le first q && nat_lt q (first + (k + 1))) (s (q - first)) (at start q)
+    (q : ℕ) → at (slice_set before (first + k) v) q
+    ≡ cond (nat_le first q && nat_lt q (first + (k + 1))) (s (q - first)) (at start q)
 one_more first k v start before s room is told q =
     let t = told q in
     grind (arith, common_steps, nat_tests)

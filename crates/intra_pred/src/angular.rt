@@ -1,10 +1,12 @@
 //! Prediction along a direction (8.4.4.2.6).
 
-ghost use Rattle.std.specs.Prelude.{◌≡◌, ◌≤◌, ◌<◌, ◌+◌, ◌-◌, ◌*◌, ◌^◌, ◌/◌, ◌%◌, ℕ, pos, negsuc, ◌+ℤ◌, ◌-ℤ◌, ◌≤ℤ◌, length, cond, nat_le, nat_lt, ◌&&◌, ◌||◌, ◌==◌};
+ghost use Rattle.std.specs.Prelude.{◌≡◌, ◌≤◌, ◌<◌, ◌+◌, ◌-◌, ◌*◌, ◌^◌, ◌/◌, ◌%◌, ℕ, pos, negsuc, ◌+ℤ◌, ◌-ℤ◌, ◌≤ℤ◌};
+ghost use Rattle.std.specs.Prelude.{length, cond, nat_le, nat_lt, ◌&&◌, ◌||◌, ◌==◌};
 ghost use Rattle.std.specs.Int.{int_shr};
 ghost use Rattle.intra_pred.specs.Reference.{IsReference};
 ghost use Rattle.spec_intra_prediction.specs.Neighbours.{at};
-ghost use Rattle.spec_intra_prediction.specs.Angular.{angle, angular, inverse_angle, met, met_sample, between, reference, stepped};
+ghost use Rattle.spec_intra_prediction.specs.Angular.{angle, angular, inverse_angle, met, met_sample, between};
+ghost use Rattle.spec_intra_prediction.specs.Angular.{reference, stepped};
 
 use crate::rows::columns;
 use spec_intra_prediction::{inverse_angle, pred_angle};
@@ -31,7 +33,9 @@ pub fn angular(main: &[u16], side: &[u16], direction: Direction, out: &mut [u16]
     requires main { length main.now ≡ 2 * 2 ^ direction.log2 + 1 }
     requires side { length side.now ≡ 2 * 2 ^ direction.log2 + 1 }
     requires out { 2 ^ direction.log2 * 2 ^ direction.log2 ≤ length out.old }
-    ensures value { (x y : ℕ) → x < 2 ^ direction.log2 → y < 2 ^ direction.log2 → at out.new (2 ^ direction.log2 * y + x) ≡ angular direction.edges direction.log2 direction.mode direction.depth main.now side.now x y }
+    ensures value { (x y : ℕ) → x < 2 ^ direction.log2 → y < 2 ^ direction.log2
+        → at out.new (2 ^ direction.log2 * y + x)
+        ≡ angular direction.edges direction.log2 direction.mode direction.depth main.now side.now x y }
     ensures rest { (k : ℕ) → 2 ^ direction.log2 * 2 ^ direction.log2 ≤ k → at out.new k ≡ at out.old k }
 {
     let n = columns(direction.log2);
@@ -82,7 +86,8 @@ fn fill(main: &[u16], side: &[u16], mode: u8, n: usize, reference: &mut [u16; 98
 fn lay_main(main: &[u16], n: usize, reference: &mut [u16; 98])
     requires n { n ≤ 32 }
     requires main { length main.now ≡ 2 * n + 1 }
-    ensures { (q : ℕ) → at reference.new q ≡ cond (nat_le n q && nat_lt q (n + (2 * n + 1))) (at main.now (q - n)) (at reference.old q) }
+    ensures { (q : ℕ) → at reference.new q
+        ≡ cond (nat_le n q && nat_lt q (n + (2 * n + 1))) (at main.now (q - n)) (at reference.old q) }
 {
     for k in 0..2 * n + 1 {
         reference[n + k] = main[k];
@@ -96,7 +101,9 @@ fn lay_side(side: &[u16], n: usize, size: usize, inverse: usize, reference: &mut
     requires inverse { inverse ≤ 4096 }
     requires product { size * inverse ≤ 8208 }
     requires side { length side.now ≡ 2 * n + 1 }
-    ensures { (q : ℕ) → at reference.new q ≡ cond (nat_lt q n && nat_lt (32 * (n - q)) (n * size)) (at side.now (((n - q) * inverse + 128) / 256)) (at reference.old q) }
+    ensures { (q : ℕ) → at reference.new q
+        ≡ cond (nat_lt q n && nat_lt (32 * (n - q)) (n * size)) (at side.now (((n - q) * inverse + 128) / 256))
+        (at reference.old q) }
 {
     for j in 1..(n * size + 31) / 32 {
         reference[n - j] = side[side_place(j, inverse)];
@@ -131,7 +138,11 @@ fn line(
     requires side { length sides.now.side.now ≡ 2 * line.n + 1 }
     requires reference { IsReference line.n direction.mode sides.now.main.now sides.now.side.now reference.now }
     requires out { line.n * line.y + line.n ≤ length out.old }
-    ensures { (q : ℕ) → at out.new q ≡ cond (nat_le (line.n * line.y) q && nat_lt q (line.n * line.y + line.n)) (angular direction.edges direction.log2 direction.mode direction.depth sides.now.main.now sides.now.side.now (q - line.n * line.y) line.y) (at out.old q) }
+    ensures { (q : ℕ) → at out.new q
+        ≡ cond (nat_le (line.n * line.y) q && nat_lt q (line.n * line.y + line.n))
+        (angular direction.edges direction.log2 direction.mode direction.depth sides.now.main.now sides.now.side.now
+        (q - line.n * line.y) line.y)
+        (at out.old q) }
 {
     let first = line.n * line.y;
     let place = met(line.n, pred_angle(direction.mode), line.y);
@@ -172,7 +183,11 @@ fn met_line(reference: &[u16; 98], place: usize, n: usize, first: usize, out: &m
     requires n { n ≤ 32 }
     requires place { place ≤ 64 * n }
     requires out { first + n ≤ length out.old }
-    ensures { (q : ℕ) → at out.new q ≡ cond (nat_le first q && nat_lt q (first + n)) (between (place % 32) (at reference.now (place / 32 + (q - first) + 1)) (at reference.now (place / 32 + (q - first) + 2))) (at out.old q) }
+    ensures { (q : ℕ) → at out.new q
+        ≡ cond (nat_le first q && nat_lt q (first + n))
+        (between (place % 32) (at reference.now (place / 32 + (q - first) + 1))
+        (at reference.now (place / 32 + (q - first) + 2)))
+        (at out.old q) }
 {
     let whole = place / 32;
     let part = (place % 32) as u32;

@@ -1,6 +1,7 @@
 //! The neighbours of a block.
 
-ghost use Rattle.std.specs.Prelude.{◌≡◌, ◌≤◌, ◌<◌, ◌+◌, ◌-◌, ◌*◌, ◌^◌, ℕ, Option, cond, nat_le, nat_lt, ◌&&◌, length, take, slice_index_or};
+ghost use Rattle.std.specs.Prelude.{◌≡◌, ◌≤◌, ◌<◌, ◌+◌, ◌-◌, ◌*◌, ◌^◌, ℕ, Option, cond, nat_le, nat_lt, ◌&&◌, length};
+ghost use Rattle.std.specs.Prelude.{take, slice_index_or};
 ghost use Rattle.spec_intra_prediction.specs.Neighbours.{beside, known_beside};
 ghost use Rattle.spec_intra_prediction.specs.Substitution.{substituted};
 

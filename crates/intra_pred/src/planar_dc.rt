@@ -1,6 +1,7 @@
 //! Planar and DC prediction (8.4.4.2.4, 8.4.4.2.5).
 
-ghost use Rattle.std.specs.Prelude.{◌≡◌, ◌≤◌, ◌<◌, ◌+◌, ◌-◌, ◌*◌, ◌^◌, ◌/◌, ℕ, true, length, cond, nat_le, nat_lt, ◌&&◌};
+ghost use Rattle.std.specs.Prelude.{◌≡◌, ◌≤◌, ◌<◌, ◌+◌, ◌-◌, ◌*◌, ◌^◌, ◌/◌, ℕ, true, length, cond, nat_le, nat_lt};
+ghost use Rattle.std.specs.Prelude.{◌&&◌};
 ghost use Rattle.spec_intra_prediction.specs.Neighbours.{at, left_at, above_at};
 ghost use Rattle.spec_intra_prediction.specs.PlanarDc.{planar, dc, levelled, mean_beside, sum_below};
 
@@ -28,7 +29,8 @@ fn planar_line(edge: &[u16], log2: u32, n: usize, y: usize, out: &mut [u16])
     requires y { y < n }
     requires edge { length edge.now ≡ 4 * n + 1 }
     requires out { n * y + n ≤ length out.old }
-    ensures { (q : ℕ) → at out.new q ≡ cond (nat_le (n * y) q && nat_lt q (n * y + n)) (planar log2 edge.now (q - n * y) y) (at out.old q) }
+    ensures { (q : ℕ) → at out.new q
+        ≡ cond (nat_le (n * y) q && nat_lt q (n * y + n)) (planar log2 edge.now (q - n * y) y) (at out.old q) }
 {
     let left = edge[2 * n - (y + 1)];
     let right = edge[2 * n + 1 + n];
@@ -67,7 +69,8 @@ pub fn dc(edge: &[u16], edges: bool, log2: u32, out: &mut [u16])
     requires log2 { (2 ≤ log2) × (log2 ≤ 5) }
     requires edge { length edge.now ≡ 4 * 2 ^ log2 + 1 }
     requires out { 2 ^ log2 * 2 ^ log2 ≤ length out.old }
-    ensures value { (x y : ℕ) → x < 2 ^ log2 → y < 2 ^ log2 → at out.new (2 ^ log2 * y + x) ≡ dc edges log2 edge.now x y }
+    ensures value { (x y : ℕ) → x < 2 ^ log2 → y < 2 ^ log2
+        → at out.new (2 ^ log2 * y + x) ≡ dc edges log2 edge.now x y }
     ensures rest { (k : ℕ) → 2 ^ log2 * 2 ^ log2 ≤ k → at out.new k ≡ at out.old k }
 {
     let n = columns(log2);
@@ -107,7 +110,9 @@ fn level_line(edge: &[u16], level: Level, n: usize, y: usize, out: &mut [u16])
     requires y { y < n }
     requires edge { length edge.now ≡ 4 * n + 1 }
     requires out { n * y + n ≤ length out.old }
-    ensures { (q : ℕ) → at out.new q ≡ cond (nat_le (n * y) q && nat_lt q (n * y + n)) (levelled level.edges n edge.now level.mean (q - n * y) y) (at out.old q) }
+    ensures { (q : ℕ) → at out.new q
+        ≡ cond (nat_le (n * y) q && nat_lt q (n * y + n)) (levelled level.edges n edge.now level.mean (q - n * y) y)
+        (at out.old q) }
 {
     if level.edges && y == 0 {
         first_line(edge, n, level.mean, out);

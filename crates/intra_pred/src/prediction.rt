@@ -20,7 +20,8 @@ pub fn predict(edge: &[u16], c: u8, log2: u32, mode: u8, strong: bool, depth: u3
     requires depth { (8 ≤ depth) × (depth ≤ 16) }
     requires edge { length edge.now ≡ 4 * 2 ^ log2 + 1 }
     requires out { 2 ^ log2 * 2 ^ log2 ≤ length out.old }
-    ensures value { (x y : ℕ) → x < 2 ^ log2 → y < 2 ^ log2 → at out.new (2 ^ log2 * y + x) ≡ predicted c log2 mode strong depth edge.now x y }
+    ensures value { (x y : ℕ) → x < 2 ^ log2 → y < 2 ^ log2
+        → at out.new (2 ^ log2 * y + x) ≡ predicted c log2 mode strong depth edge.now x y }
     ensures rest { (k : ℕ) → 2 ^ log2 * 2 ^ log2 ≤ k → at out.new k ≡ at out.old k }
 {
     let predicted = Predicted {
@@ -55,7 +56,8 @@ fn predict_from(edge: &[u16], block: Predicted, out: &mut [u16])
     requires depth { (8 ≤ block.depth) × (block.depth ≤ 16) }
     requires edge { length edge.now ≡ 4 * 2 ^ block.log2 + 1 }
     requires out { 2 ^ block.log2 * 2 ^ block.log2 ≤ length out.old }
-    ensures value { (x y : ℕ) → x < 2 ^ block.log2 → y < 2 ^ block.log2 → at out.new (2 ^ block.log2 * y + x) ≡ predicted_from block.c block.log2 block.mode block.depth edge.now x y }
+    ensures value { (x y : ℕ) → x < 2 ^ block.log2 → y < 2 ^ block.log2
+        → at out.new (2 ^ block.log2 * y + x) ≡ predicted_from block.c block.log2 block.mode block.depth edge.now x y }
     ensures rest { (k : ℕ) → 2 ^ block.log2 * 2 ^ block.log2 ≤ k → at out.new k ≡ at out.old k }
 {
     let edges = has_filtered_edges(block.c, block.log2);
@@ -89,7 +91,9 @@ fn directed(edge: &[u16], direction: Direction, out: &mut [u16])
     requires depth { (8 ≤ direction.depth) × (direction.depth ≤ 16) }
     requires edge { length edge.now ≡ 4 * 2 ^ direction.log2 + 1 }
     requires out { 2 ^ direction.log2 * 2 ^ direction.log2 ≤ length out.old }
-    ensures value { (x y : ℕ) → x < 2 ^ direction.log2 → y < 2 ^ direction.log2 → at out.new (2 ^ direction.log2 * y + x) ≡ directed direction.edges direction.log2 direction.mode direction.depth edge.now x y }
+    ensures value { (x y : ℕ) → x < 2 ^ direction.log2 → y < 2 ^ direction.log2
+        → at out.new (2 ^ direction.log2 * y + x)
+        ≡ directed direction.edges direction.log2 direction.mode direction.depth edge.now x y }
     ensures rest { (k : ℕ) → 2 ^ direction.log2 * 2 ^ direction.log2 ≤ k → at out.new k ≡ at out.old k }
 {
     let n = columns(direction.log2);
@@ -115,7 +119,9 @@ fn across(left: &[u16], above: &[u16], direction: Direction, turned: &mut [u16],
     requires above { length above.now ≡ 2 * 2 ^ direction.log2 + 1 }
     requires turned { 2 ^ direction.log2 * 2 ^ direction.log2 ≤ length turned.old }
     requires out { 2 ^ direction.log2 * 2 ^ direction.log2 ≤ length out.old }
-    ensures value { (x y : ℕ) → x < 2 ^ direction.log2 → y < 2 ^ direction.log2 → at out.new (2 ^ direction.log2 * y + x) ≡ angular direction.edges direction.log2 direction.mode direction.depth left.now above.now y x }
+    ensures value { (x y : ℕ) → x < 2 ^ direction.log2 → y < 2 ^ direction.log2
+        → at out.new (2 ^ direction.log2 * y + x)
+        ≡ angular direction.edges direction.log2 direction.mode direction.depth left.now above.now y x }
     ensures rest { (k : ℕ) → 2 ^ direction.log2 * 2 ^ direction.log2 ≤ k → at out.new k ≡ at out.old k }
 {
     angular(left, above, direction, turned);
@@ -152,7 +158,8 @@ fn transpose_line(turned: &[u16], n: usize, y: usize, out: &mut [u16])
     requires y { y < n }
     requires turned { n * n ≤ length turned.now }
     requires out { n * y + n ≤ length out.old }
-    ensures { (q : ℕ) → at out.new q ≡ cond (nat_le (n * y) q && nat_lt q (n * y + n)) (at turned.now (n * (q - n * y) + y)) (at out.old q) }
+    ensures { (q : ℕ) → at out.new q
+        ≡ cond (nat_le (n * y) q && nat_lt q (n * y + n)) (at turned.now (n * (q - n * y) + y)) (at out.old q) }
 {
     for x in 0..n {
         out[n * y + x] = turned[n * x + y];

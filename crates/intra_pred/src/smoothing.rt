@@ -2,7 +2,8 @@
 
 ghost use Rattle.std.specs.Prelude.{◌≡◌, ◌≤◌, ◌<◌, ◌+◌, ◌-◌, ◌*◌, ◌^◌, ◌/◌, length, take, Bool, if◌then◌else◌};
 ghost use Rattle.spec_intra_prediction.specs.Neighbours.{at};
-ghost use Rattle.spec_intra_prediction.specs.Smoothing.{is_filtered, is_flat, is_strong, smoothed, smoothed_at, straightened, straight_at, distance_threshold};
+ghost use Rattle.spec_intra_prediction.specs.Smoothing.{is_filtered, is_flat, is_strong, smoothed, smoothed_at};
+ghost use Rattle.spec_intra_prediction.specs.Smoothing.{straightened, straight_at, distance_threshold};
 
 /// Whether a block's neighbours are filtered before a mode predicts from them.
 #[tactic(auto, unfolding(spec_intra_prediction::specs::Smoothing::is_filtered))]
@@ -30,7 +31,8 @@ pub fn filter(edge: &[u16], log2: u32, strong: bool, depth: u32, smooth: &mut [u
     requires log2 { log2 ≤ 5 }
     requires depth_low { 5 ≤ depth }
     requires depth { depth ≤ 16 }
-    ensures { take (length edge.now) smooth.new ≡ if is_strong log2 strong depth edge.now then straightened edge.now else smoothed edge.now }
+    ensures { take (length edge.now) smooth.new
+        ≡ if is_strong log2 strong depth edge.now then straightened edge.now else smoothed edge.now }
 {
     if is_strong(edge, log2, strong, depth) {
         straighten(edge, smooth);

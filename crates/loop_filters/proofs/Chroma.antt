@@ -13,7 +13,8 @@ twice_times : (s m n : ℕ) → s ≡ 2 * m → s * n ≡ 2 * (m * n)
 twice_times s m n e = rw e (grind arith)
 
 -- the same of half a side in half as great blocks
-pub half_covered : (w s : ℕ) → w % 2 ≡ 0 → s % 2 ≡ 0 → 0 < s → (w / 2 ≤ s / 2 * ((w + s - 1) / s)) × (s / 2 * ((w + s - 1) / s) < w / 2 + s / 2)
+pub half_covered : (w s : ℕ) → w % 2 ≡ 0 → s % 2 ≡ 0 → 0 < s
+    → (w / 2 ≤ s / 2 * ((w + s - 1) / s)) × (s / 2 * ((w + s - 1) / s) < w / 2 + s / 2)
 half_covered w s even_w even_s some =
     let n : ℕ = (w + s - 1) / s in
     let c = covered w s some in

@@ -21,7 +21,8 @@ luma_of format c = record {
   rows = rows_of format;
 }
 
-cb_one : (format : FilterFormat) → IsFormat format → IsComponent format (halved format (luma_of format 1) format.pps_cb_qp_offset)
+cb_one : (format : FilterFormat) → IsFormat format
+    → IsComponent format (halved format (luma_of format 1) format.pps_cb_qp_offset)
 cb_one format f =
     let even_w : format.width % 2 ≡ 0 = omega (arith, f.columns) in
     let even_h : format.height % 2 ≡ 0 = omega (arith, f.lines) in
@@ -53,10 +54,12 @@ cb_one format f =
       block = omega (arith, f.grid);
     }
 
-pub cb_is : (format : FilterFormat) (c : ℕ) → c ≡ 1 → IsFormat format → IsComponent format (halved format (luma_of format c) format.pps_cb_qp_offset)
+pub cb_is : (format : FilterFormat) (c : ℕ) → c ≡ 1 → IsFormat format
+    → IsComponent format (halved format (luma_of format c) format.pps_cb_qp_offset)
 cb_is format c e f = rw e (cb_one format f)
 
-cr_one : (format : FilterFormat) → IsFormat format → IsComponent format (halved format (luma_of format 2) format.pps_cr_qp_offset)
+cr_one : (format : FilterFormat) → IsFormat format
+    → IsComponent format (halved format (luma_of format 2) format.pps_cr_qp_offset)
 cr_one format f =
     let even_w : format.width % 2 ≡ 0 = omega (arith, f.columns) in
     let even_h : format.height % 2 ≡ 0 = omega (arith, f.lines) in
@@ -88,27 +91,32 @@ cr_one format f =
       block = omega (arith, f.grid);
     }
 
-pub cr_is : (format : FilterFormat) (c : ℕ) → c ≡ 2 → IsFormat format → IsComponent format (halved format (luma_of format c) format.pps_cr_qp_offset)
+pub cr_is : (format : FilterFormat) (c : ℕ) → c ≡ 2 → IsFormat format
+    → IsComponent format (halved format (luma_of format c) format.pps_cr_qp_offset)
 cr_is format c e f = rw e (cr_one format f)
 
 once : (n : ℕ) → n ≡ n / 1
 once n = omega arith
 
-widths : (p : PictureSamples) (format : FilterFormat) (c : ℕ) → c < 3 → HasSides p format.width format.height → plane_width p c ≡ width_of format c
+widths : (p : PictureSamples) (format : FilterFormat) (c : ℕ) → c < 3 → HasSides p format.width format.height
+    → plane_width p c ≡ width_of format c
 widths p format zero lt sides = sides.luma_width ∙ once format.width
 widths p format (suc zero) lt sides = sides.cb_width
 widths p format (suc (suc zero)) lt sides = sides.cr_width
 widths p format (suc (suc (suc c))) lt sides = absurd (omega (arith, lt))
 
-heights : (p : PictureSamples) (format : FilterFormat) (c : ℕ) → c < 3 → HasSides p format.width format.height → plane_height p c ≡ height_of format c
+heights : (p : PictureSamples) (format : FilterFormat) (c : ℕ) → c < 3 → HasSides p format.width format.height
+    → plane_height p c ≡ height_of format c
 heights p format zero lt sides = sides.luma_height ∙ once format.height
 heights p format (suc zero) lt sides = sides.cb_height
 heights p format (suc (suc zero)) lt sides = sides.cr_height
 heights p format (suc (suc (suc c))) lt sides = absurd (omega (arith, lt))
 
 -- the sides of a component's plane
-pub width_is : (p : PictureSamples) (format : FilterFormat) (component : Component) → IsComponent format component → HasSides p format.width format.height → plane_width p component.c ≡ component.width
+pub width_is : (p : PictureSamples) (format : FilterFormat) (component : Component) → IsComponent format component
+    → HasSides p format.width format.height → plane_width p component.c ≡ component.width
 width_is p format component e sides = widths p format component.c e.c sides ∙ sym e.width
 
-pub height_is : (p : PictureSamples) (format : FilterFormat) (component : Component) → IsComponent format component → HasSides p format.width format.height → plane_height p component.c ≡ component.height
+pub height_is : (p : PictureSamples) (format : FilterFormat) (component : Component) → IsComponent format component
+    → HasSides p format.width format.height → plane_height p component.c ≡ component.height
 height_is p format component e sides = heights p format component.c e.c sides ∙ sym e.height

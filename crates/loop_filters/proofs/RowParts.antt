@@ -1,5 +1,6 @@
 -- Rows of coding tree blocks in a plane.
-use Rattle.std.proofs.Common.{◌==◌, ◌&&◌, ◌^◌, nat_le, nat_lt, Bool, false, cond, ◌≡◌, ℕ, ◌+◌, ◌-◌, ◌*◌, ◌/◌, ◌<◌, ◌≤◌, List, inl, inr, length, get_or, take, drop, ap, sym, subst, ◌∙◌, arith}
+use Rattle.std.proofs.Common.{◌==◌, ◌&&◌, ◌^◌, nat_le, nat_lt, Bool, false, cond, ◌≡◌, ℕ, ◌+◌, ◌-◌, ◌*◌, ◌/◌, ◌<◌, ◌≤◌}
+use Rattle.std.proofs.Common.{List, inl, inr, length, get_or, take, drop, ap, sym, subst, ◌∙◌, arith}
 use Rattle.std.specs.Prelude.{min}
 use Rattle.std.proofs.Math.Nat.{mul-le-mul_left, mul-le-mul, lt_of_mul-lt-mul_left, mul-add-div}
 use Rattle.std.proofs.lemmas.List.{get_or-drop, get_or-take}
@@ -43,16 +44,20 @@ apart : (d s m row j : ℕ) → s ≡ d * m → s * row + j ≡ d * (m * row) + 
 apart d s m row j is = rw is (grind arith)
 
 -- the lines that a row reads are there
-pub has_lines : (w h t s sat : ℕ) (D : List ℕ) → length D ≡ w * h → sat ≡ t - 1 → t < h → w * (min (t + s + 1) h - (t - 1)) ≤ length (take (length D - w * sat) (drop (w * sat) D))
+pub has_lines : (w h t s sat : ℕ) (D : List ℕ) → length D ≡ w * h → sat ≡ t - 1 → t < h
+    → w * (min (t + s + 1) h - (t - 1)) ≤ length (take (length D - w * sat) (drop (w * sat) D))
 has_lines w h t s sat D count is lt =
     let inside = lines_inside w sat h (omega (arith, is, lt)) in
     let size = piece_length D (w * sat) (length D - w * sat) (omega (arith, inside, count)) in
-    let le : w * (min (t + s + 1) h - (t - 1) + sat) ≤ w * h = lines_inside w (min (t + s + 1) h - (t - 1) + sat) h (omega (arith, is, lt)) in
-    let e : w * (min (t + s + 1) h - (t - 1) + sat) ≡ w * (min (t + s + 1) h - (t - 1)) + w * sat = times_sum w (min (t + s + 1) h - (t - 1)) sat in
+    let le : w * (min (t + s + 1) h - (t - 1) + sat) ≤ w * h =
+    lines_inside w (min (t + s + 1) h - (t - 1) + sat) h (omega (arith, is, lt)) in
+    let e : w * (min (t + s + 1) h - (t - 1) + sat) ≡ w * (min (t + s + 1) h - (t - 1)) + w * sat =
+    times_sum w (min (t + s + 1) h - (t - 1)) sat in
     omega (arith, size, le, e, count)
 
 -- a sample of the plane among them
-pub sample_among : (w h t sat x y : ℕ) (D : List ℕ) → length D ≡ w * h → sat ≡ t - 1 → t < h → x < w → y < h → t ≤ y + 1 →
+pub sample_among : (w h t sat x y : ℕ) (D : List ℕ) → length D ≡ w * h → sat ≡ t - 1 → t < h → x < w → y < h →
+    t ≤ y + 1 →
     get_or D (w * y + x) 0 ≡ get_or (take (length D - w * sat) (drop (w * sat) D)) (w * (y - (t - 1)) + x) 0
 sample_among w h t sat x y D count is lt column row above =
     let below = line_below w y h row in
@@ -61,7 +66,8 @@ sample_among w h t sat x y D count is lt column row above =
     let place : w * (y - (t - 1)) + w * sat ≡ w * y = sym e ∙ ap (λ (k : ℕ). w * k) same in
     let fits : w * (y - (t - 1)) + x < length D - w * sat = omega (arith, place, below, count, column) in
     ap (λ (k : ℕ). get_or D k 0) (omega (arith, place))
-    ∙ sym (get_or-take (length D - w * sat) (drop (w * sat) D) (w * (y - (t - 1)) + x) 0 fits ∙ get_or-drop (w * sat) D (w * (y - (t - 1)) + x) 0)
+    ∙ sym (get_or-take (length D - w * sat) (drop (w * sat) D) (w * (y - (t - 1)) + x) 0 fits
+    ∙ get_or-drop (w * sat) D (w * (y - (t - 1)) + x) 0)
 
 some : (p : Plane) → 0 < side p
 some Luma = omega arith
@@ -79,10 +85,12 @@ place_inside Luma x w n e lt = omega (arith, e, lt)
 place_inside (Chroma offset) x w n e lt = omega (arith, e, lt)
 
 -- whether a sample is kept, by the places of its row
-pub kept_among : (p q : Plane) (log2 places s row w h x j fw m fh : ℕ) (K : List Bool) (P : ℕ → ℕ → Place) → p ≡ q → 2 ^ log2 ≡ side p → places ≡ fw → w ≡ side p * fw → h ≡ side p * fh → s ≡ side p * m →
+pub kept_among : (p q : Plane) (log2 places s row w h x j fw m fh : ℕ) (K : List Bool) (P : ℕ → ℕ → Place) → p ≡ q →
+    2 ^ log2 ≡ side p → places ≡ fw → w ≡ side p * fw → h ≡ side p * fh → s ≡ side p * m →
     ((i l : ℕ) → i < fw → l < m → m * row + l < fh → get_or K (fw * l + i) false ≡ (P i (m * row + l)).kept) →
     x < w → j < min s (h - s * row) →
-    (P (x / side q) ((s * row + j) / side q)).kept ≡ get_or K (places * ((s * row + j - s * row) / 2 ^ log2) + x / 2 ^ log2) false
+    (P (x / side q) ((s * row + j) / side q)).kept
+    ≡ get_or K (places * ((s * row + j - s * row) / 2 ^ log2) + x / 2 ^ log2) false
 kept_among p q log2 places s row w h x j fw m fh K P same power count across down block known column line =
     let back : s * row + j - s * row ≡ j = omega arith in
     let e = place_line p s m row j block in
@@ -98,9 +106,13 @@ kept_among p q log2 places s row w h x j fw m fh K P same power count across dow
     ∙ ap (λ (l : ℕ). get_or K (places * (l / 2 ^ log2) + x / 2 ^ log2) false) (sym back)
 
 -- one more row
-pub rows_more : (c w h s row lines : ℕ) (out : List ℕ) (F : ℕ → ℕ → ℕ) (mid new : ℕ → ℕ → ℕ → ℕ) → lines ≡ min s (h - s * row)
+pub rows_more : (c w h s row lines : ℕ) (out : List ℕ) (F : ℕ → ℕ → ℕ) (mid new : ℕ → ℕ → ℕ → ℕ)
+    → lines ≡ min s (h - s * row)
     → ((i j : ℕ) → i < w → j < min s (h - s * row) → at w out i j ≡ F i (s * row + j))
-    → ((i j k : ℕ) → new i j k ≡ cond (i == c && ((nat_le (s * row) k && nat_lt k (s * row + lines)) && nat_lt j w)) (at w out j (k - s * row)) (mid i j k))
+    → ((i j k : ℕ)
+    → new i j k
+    ≡ cond (i == c && ((nat_le (s * row) k && nat_lt k (s * row + lines)) && nat_lt j w)) (at w out j (k - s * row))
+    (mid i j k))
     → ((x y : ℕ) → x < w → y < h → y < s * row → mid c x y ≡ F x y)
     → (x y : ℕ) → x < w → y < h → y < s * (row + 1) → new c x y ≡ F x y
 rows_more c w h s row lines out F mid new is value laid told x y column inside below =
@@ -118,7 +130,9 @@ rows_more c w h s row lines out F mid new is value laid told x y column inside b
 
 -- the other components stay
 pub others_stay : (c w t b : ℕ) (out : List ℕ) (mid new : ℕ → ℕ → ℕ → ℕ)
-    → ((i j k : ℕ) → new i j k ≡ cond (i == c && ((nat_le t k && nat_lt k b) && nat_lt j w)) (at w out j (k - t)) (mid i j k))
+    → ((i j k : ℕ)
+    → new i j k ≡ cond (i == c && ((nat_le t k && nat_lt k b) && nat_lt j w)) (at w out j (k - t)) (mid i j k))
     → (i x y : ℕ) → (i == c) ≡ false → new i x y ≡ mid i x y
 others_stay c w t b out mid new laid i x y apart =
-    laid i x y ∙ ap (λ (d : Bool). cond (d && ((nat_le t y && nat_lt y b) && nat_lt x w)) (at w out x (y - t)) (mid i x y)) apart
+    laid i x y
+    ∙ ap (λ (d : Bool). cond (d && ((nat_le t y && nat_lt y b) && nat_lt x w)) (at w out x (y - t)) (mid i x y)) apart

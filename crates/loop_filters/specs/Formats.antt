@@ -51,8 +51,10 @@ pub record IsComponent (format : FilterFormat) (component : Component) : Type 0 
   pub places : component.places ≡ format.width / 4
   pub rows : component.rows ≡ rows_of format
   pub size_few : (8 ≤ component.size) × (component.size ≤ 64)
-  pub wide : (component.width ≤ component.size * columns_of format) × (component.size * columns_of format < component.width + component.size)
-  pub high : (component.height ≤ component.size * component.rows) × (component.size * component.rows < component.height + component.size)
+  pub wide : (component.width ≤ component.size * columns_of format)
+      × (component.size * columns_of format < component.width + component.size)
+  pub high : (component.height ≤ component.size * component.rows)
+      × (component.size * component.rows < component.height + component.size)
   pub across : component.width ≡ side component.plane * (format.width / 4)
   pub down : component.height ≡ side component.plane * (format.height / 4)
   pub block : component.size ≡ side component.plane * (format.ctb_size / 4)

@@ -15,8 +15,10 @@ pub fn copy_plane(component: &Component, planes: &Planes, out: &mut [u16])
     requires height { plane_height planes.now component.now.c ≡ component.now.height }
     requires few { (component.now.width ≤ 8192) × (component.now.height ≤ 8192) }
     requires room { length out.old ≡ component.now.width * component.now.height }
-    ensures value { (x y : ℕ) → x < component.now.width → y < component.now.height → at component.now.width out.new x y ≡ samples_of planes.now component.now.c x y }
-    ensures bounded { (greatest : ℕ) → ((x y : ℕ) → samples_of planes.now component.now.c x y ≤ greatest) → IsBounded greatest out.new }
+    ensures value { (x y : ℕ) → x < component.now.width → y < component.now.height
+        → at component.now.width out.new x y ≡ samples_of planes.now component.now.c x y }
+    ensures bounded { (greatest : ℕ) → ((x y : ℕ) → samples_of planes.now component.now.c x y ≤ greatest)
+        → IsBounded greatest out.new }
 {
     for y in 0..component.height {
         let line = planes.row(component.c, y as u32);

@@ -20,7 +20,10 @@ pub fn filter_edges<V: Places>(
     requires samples { length samples.old ≡ component.now.width * component.now.height }
     requires bounded { IsBounded (2 ^ component.now.depth - 1) samples.old }
     requires room { length between.old ≡ component.now.width * component.now.height }
-    ensures value { (x y : ℕ) → x < component.now.width → y < component.now.height → at component.now.width samples.new x y ≡ deblocked component.now.plane component.now.depth component.now.width component.now.height (V.place_at view.now) (at component.now.width samples.old) x y }
+    ensures value { (x y : ℕ) → x < component.now.width → y < component.now.height
+        → at component.now.width samples.new x y
+        ≡ deblocked component.now.plane component.now.depth component.now.width component.now.height
+        (V.place_at view.now) (at component.now.width samples.old) x y }
     ensures bounded { IsBounded (2 ^ component.now.depth - 1) samples.new }
 {
     let row = Row {

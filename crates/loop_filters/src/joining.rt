@@ -28,8 +28,12 @@ pub(crate) fn filter_plane<V: FilterView>(
     requires bounded { (x y : ℕ) → samples_of planes.old component.now.c x y ≤ 2 ^ component.now.depth - 1 }
     requires samples { component.now.width * component.now.height ≤ length samples.old }
     requires between { component.now.width * component.now.height ≤ length between.old }
-    ensures value { (x y : ℕ) → x < component.now.width → y < component.now.height → samples_of planes.new component.now.c x y ≡ final_samples (filters_of format.now (V.place_at view.now) (V.unit_at view.now)) (samples_of planes.old) component.now.c x y }
-    ensures others { (i x y : ℕ) → (i == component.now.c) ≡ false → samples_of planes.new i x y ≡ samples_of planes.old i x y }
+    ensures value { (x y : ℕ) → x < component.now.width → y < component.now.height
+        → samples_of planes.new component.now.c x y
+        ≡ final_samples (filters_of format.now (V.place_at view.now) (V.unit_at view.now))
+        (samples_of planes.old) component.now.c x y }
+    ensures others { (i x y : ℕ) → (i == component.now.c) ≡ false
+        → samples_of planes.new i x y ≡ samples_of planes.old i x y }
     ensures sides { HasSides planes.new format.now.width format.now.height }
 {
     let count = component.width * component.height;

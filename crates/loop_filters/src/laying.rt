@@ -22,7 +22,9 @@ pub fn lay_lines(
     requires sides { HasSides planes.old format.now.width format.now.height }
     requires inside { top + lines ≤ component.now.height }
     requires room { component.now.width * lines ≤ length samples.now }
-    ensures value { (i j k : ℕ) → samples_of planes.new i j k ≡ cond (i == component.now.c && ((nat_le top k && nat_lt k (top + lines)) && nat_lt j component.now.width)) (at component.now.width samples.now j (k - top)) (samples_of planes.old i j k) }
+    ensures value { (i j k : ℕ) → samples_of planes.new i j k
+        ≡ cond (i == component.now.c && ((nat_le top k && nat_lt k (top + lines)) && nat_lt j component.now.width))
+        (at component.now.width samples.now j (k - top)) (samples_of planes.old i j k) }
     ensures sides { HasSides planes.new format.now.width format.now.height }
 {
     for line in 0..lines {

@@ -26,7 +26,12 @@ fn offset_row<V: FilterView>(
     requires row { row < component.now.rows }
     requires deblocked { length deblocked.now ≡ component.now.width * component.now.height }
     requires room { length out.old ≡ component.now.width * component.now.height }
-    ensures { (i j : ℕ) → i < component.now.width → j < min component.now.size (component.now.height - component.now.size * row) → at component.now.width out.new i j ≡ offset_sample (offset_plane (filters_of (V.shape view.now) (V.place_at view.now) (V.unit_at view.now)) component.now.c) (at component.now.width deblocked.now) i (component.now.size * row + j) }
+    ensures { (i j : ℕ) → i < component.now.width
+        → j < min component.now.size (component.now.height - component.now.size * row)
+        → at component.now.width out.new i j
+        ≡ offset_sample
+        (offset_plane (filters_of (V.shape view.now) (V.place_at view.now) (V.unit_at view.now)) component.now.c)
+        (at component.now.width deblocked.now) i (component.now.size * row + j) }
 {
     let offsets = OffsetRow {
         width: component.width,
@@ -59,8 +64,13 @@ pub fn lay_offsets<V: FilterView>(
     requires sides { HasSides planes.old format.now.width format.now.height }
     requires deblocked { length deblocked.now ≡ component.now.width * component.now.height }
     requires room { length out.old ≡ component.now.width * component.now.height }
-    ensures value { (x y : ℕ) → x < component.now.width → y < component.now.height → samples_of planes.new component.now.c x y ≡ offset_sample (offset_plane (filters_of format.now (V.place_at view.now) (V.unit_at view.now)) component.now.c) (at component.now.width deblocked.now) x y }
-    ensures others { (i x y : ℕ) → (i == component.now.c) ≡ false → samples_of planes.new i x y ≡ samples_of planes.old i x y }
+    ensures value { (x y : ℕ) → x < component.now.width → y < component.now.height
+        → samples_of planes.new component.now.c x y
+        ≡ offset_sample
+        (offset_plane (filters_of format.now (V.place_at view.now) (V.unit_at view.now)) component.now.c)
+        (at component.now.width deblocked.now) x y }
+    ensures others { (i x y : ℕ) → (i == component.now.c) ≡ false
+        → samples_of planes.new i x y ≡ samples_of planes.old i x y }
     ensures sides { HasSides planes.new format.now.width format.now.height }
 {
     for row in 0..component.rows {

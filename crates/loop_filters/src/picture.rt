@@ -25,7 +25,10 @@ pub fn filter_picture<V: FilterView>(
     requires sides { HasSides planes.old format.now.width format.now.height }
     requires bounded { (c x y : ℕ) → c < 3 → samples_of planes.old c x y ≤ 2 ^ depth_of format.now c - 1 }
     requires room { HasRoom scratch.old format.now.width format.now.height }
-    ensures value { (c x y : ℕ) → c < 3 → x < width_of format.now c → y < height_of format.now c → samples_of planes.new c x y ≡ final_samples (filters_of format.now (V.place_at view.now) (V.unit_at view.now)) (samples_of planes.old) c x y }
+    ensures value { (c x y : ℕ) → c < 3 → x < width_of format.now c → y < height_of format.now c
+        → samples_of planes.new c x y
+        ≡ final_samples (filters_of format.now (V.place_at view.now) (V.unit_at view.now))
+        (samples_of planes.old) c x y }
     ensures sides { HasSides planes.new format.now.width format.now.height }
     ensures room { HasRoom scratch.new format.now.width format.now.height }
 {

@@ -27,5 +27,8 @@ pub trait FilterView: Places {
     /// does.
     fn kept(&self, row: usize) -> &[bool]
         requires { row < rows_of (shape self.now) }
-        ensures { (i j : ℕ) → i < (shape self.now).width / 4 → j < (shape self.now).ctb_size / 4 → (shape self.now).ctb_size / 4 * row + j < (shape self.now).height / 4 → slice_index_or result.now ((shape self.now).width / 4 * j + i) false ≡ (Self.place_at self.now i ((shape self.now).ctb_size / 4 * row + j)).kept };
+        ensures { (i j : ℕ) → i < (shape self.now).width / 4 → j < (shape self.now).ctb_size / 4
+            → (shape self.now).ctb_size / 4 * row + j < (shape self.now).height / 4
+            → slice_index_or result.now ((shape self.now).width / 4 * j + i) false
+            ≡ (Self.place_at self.now i ((shape self.now).ctb_size / 4 * row + j)).kept };
 }

@@ -1,5 +1,6 @@
 -- The choice between predictors of a vector.
-use Rattle.std.proofs.Common.{◌≡◌, Bool, true, false, Option, Some, None, List, [], ◌∷◌, ◌++◌, take, get_or, option_to_list, unwrap_or, if◌then◌else◌, refl, sym, ap, ◌∙◌}
+use Rattle.std.proofs.Common.{◌≡◌, Bool, true, false, Option, Some, None, List, [], ◌∷◌, ◌++◌, take, get_or}
+use Rattle.std.proofs.Common.{option_to_list, unwrap_or, if◌then◌else◌, refl, sym, ap, ◌∙◌}
 use Rattle.ctu_records.specs.declared.prediction.Mv.{Mv}
 use Rattle.spec_motion.specs.Vectors.{zero_mv}
 use Rattle.motion_candidates.specs.Predictors.{is_needed, nth}
@@ -11,14 +12,16 @@ nth_both a b None false = refl
 nth_both a b (Some t) true = refl
 nth_both a b (Some t) false = refl
 
-pub nth_first : (a : Mv) (t : Option Mv) (mvp : Bool) → nth (Some a) None t mvp ≡ (if mvp then unwrap_or t zero_mv else a)
+pub nth_first : (a : Mv) (t : Option Mv) (mvp : Bool)
+    → nth (Some a) None t mvp ≡ (if mvp then unwrap_or t zero_mv else a)
 unfolding nth
 nth_first a None true = refl
 nth_first a None false = refl
 nth_first a (Some t) true = refl
 nth_first a (Some t) false = refl
 
-pub nth_second : (a : Mv) (t : Option Mv) (mvp : Bool) → nth None (Some a) t mvp ≡ (if mvp then unwrap_or t zero_mv else a)
+pub nth_second : (a : Mv) (t : Option Mv) (mvp : Bool)
+    → nth None (Some a) t mvp ≡ (if mvp then unwrap_or t zero_mv else a)
 unfolding nth
 nth_second a None true = refl
 nth_second a None false = refl
@@ -44,10 +47,13 @@ without None (Some a) t false = nth_second a None false ∙ sym (nth_second a t 
 without None None t true = nth_none None true ∙ sym (nth_none t true)
 without None None t false = refl
 
-pub chosen : (x y t taken : Option Mv) (mvp needed : Bool) (spatial : List Mv) (r : Mv) → r ≡ nth x y taken mvp → taken ≡ (if needed then t else None) → needed ≡ is_needed x y mvp
+pub chosen : (x y t taken : Option Mv) (mvp needed : Bool) (spatial : List Mv) (r : Mv) → r ≡ nth x y taken mvp
+    → taken ≡ (if needed then t else None) → needed ≡ is_needed x y mvp
     → option_to_list x ++ option_to_list y ≡ spatial
     → r ≡ get_or (take 2 (spatial ++ option_to_list t ++ zero_mv ∷ zero_mv ∷ [])) (if mvp then 1 else 0) zero_mv
 unfolding nth
 chosen x y t taken mvp needed spatial r is by asks joined =
     is ∙ ap (λ (o : Option Mv). nth x y o mvp) (by ∙ ap (λ (b : Bool). if b then t else None) asks) ∙ without x y t mvp
-    ∙ ap (λ (s : List Mv). get_or (take 2 (s ++ option_to_list t ++ zero_mv ∷ zero_mv ∷ [])) (if mvp then 1 else 0) zero_mv) joined
+    ∙ ap
+    (λ (s : List Mv). get_or (take 2 (s ++ option_to_list t ++ zero_mv ∷ zero_mv ∷ [])) (if mvp then 1 else 0) zero_mv)
+    joined

@@ -10,7 +10,8 @@ abbrev pub computed : ℤ → ℤ → ℤ
 computed a b = to_z w32 (of_z w32 (to_z w32 (of_z w32 a) *ℤ to_z w32 (of_z w32 b)))
 
 -- the product as the code computes it, which loses nothing
-pub product_is : (a b : ℤ) (m n : ℕ) → unsigned_abs a ≤ m → unsigned_abs b ≤ n → m * n < 2 ^ 31 → m < 2 ^ 31 → n < 2 ^ 31 → computed a b ≡ a *ℤ b
+pub product_is : (a b : ℤ) (m n : ℕ) → unsigned_abs a ≤ m → unsigned_abs b ≤ n → m * n < 2 ^ 31 → m < 2 ^ 31
+    → n < 2 ^ 31 → computed a b ≡ a *ℤ b
 product_is a b m n p q few low high =
     let f : SFits w32 a = omega (arith, ints) in
     let g : SFits w32 b = omega (arith, ints) in
@@ -25,10 +26,14 @@ not_above : (z : ℤ) (n : ℕ) → unsigned_abs z ≤ n → z ≤ℤ pos n
 not_above (pos z) n h = omega (arith, ints)
 not_above (negsuc z) n h = omega (arith, ints)
 
-pub product_low : (a b : ℤ) (m n k : ℕ) → unsigned_abs a ≤ m → unsigned_abs b ≤ n → m * n ≡ k + 1 → m * n < 2 ^ 31 → m < 2 ^ 31 → n < 2 ^ 31 → negsuc k ≤ℤ computed a b
+pub product_low : (a b : ℤ) (m n k : ℕ) → unsigned_abs a ≤ m → unsigned_abs b ≤ n → m * n ≡ k + 1 → m * n < 2 ^ 31
+    → m < 2 ^ 31 → n < 2 ^ 31 → negsuc k ≤ℤ computed a b
 product_low a b m n k p q e few low high =
-    rw (product_is a b m n p q few low high) (not_below (a *ℤ b) k (rw (unsigned_abs-mul a b) (rw (sym e) (mul-le-mul p q))))
+    rw (product_is a b m n p q few low high)
+    (not_below (a *ℤ b) k (rw (unsigned_abs-mul a b) (rw (sym e) (mul-le-mul p q))))
 
-pub product_high : (a b : ℤ) (m n k : ℕ) → unsigned_abs a ≤ m → unsigned_abs b ≤ n → m * n ≡ k → m * n < 2 ^ 31 → m < 2 ^ 31 → n < 2 ^ 31 → computed a b ≤ℤ pos k
+pub product_high : (a b : ℤ) (m n k : ℕ) → unsigned_abs a ≤ m → unsigned_abs b ≤ n → m * n ≡ k → m * n < 2 ^ 31
+    → m < 2 ^ 31 → n < 2 ^ 31 → computed a b ≤ℤ pos k
 product_high a b m n k p q e few low high =
-    rw (product_is a b m n p q few low high) (not_above (a *ℤ b) k (rw (unsigned_abs-mul a b) (rw (sym e) (mul-le-mul p q))))
+    rw (product_is a b m n p q few low high)
+    (not_above (a *ℤ b) k (rw (unsigned_abs-mul a b) (rw (sym e) (mul-le-mul p q))))

@@ -1,5 +1,6 @@
 -- Which vector a search takes, and which of two spatial predictors, a temporal one and vectors of 0 is taken.
-use Rattle.std.specs.Prelude.{ℕ, Bool, true, false, Option, Some, None, [], ◌∷◌, ◌++◌, take, option_and_then, option_to_list, slice_index_or, if◌then◌else◌}
+use Rattle.std.specs.Prelude.{ℕ, Bool, true, false, Option, Some, None, [], ◌∷◌, ◌++◌, take, option_and_then}
+use Rattle.std.specs.Prelude.{option_to_list, slice_index_or, if◌then◌else◌}
 use Rattle.ctu_records.specs.declared.prediction.Mv.{Mv}
 use Rattle.motion_candidates.specs.declared.pointing.Search.{Search}
 use Rattle.motion_candidates.specs.declared.pointing.Search.TheVariants.{SameMark, SamePicture}
@@ -19,8 +20,10 @@ taken SameMark slice target reference mv = if_same_mark slice target reference m
 abbrev pub of_motion : Search → SliceMotion → ℕ → Reference → Motion → Option Mv
 of_motion search slice list target motion =
     or_else
-    (option_and_then (λ (v : Vector). taken search slice target (reference_in slice list v.ref_idx) v.mv) (in_list list motion))
-    (option_and_then (λ (v : Vector). taken search slice target (reference_in_other slice list v.ref_idx) v.mv) (in_other list motion))
+    (option_and_then (λ (v : Vector). taken search slice target (reference_in slice list v.ref_idx) v.mv)
+    (in_list list motion))
+    (option_and_then (λ (v : Vector). taken search slice target (reference_in_other slice list v.ref_idx) v.mv)
+    (in_other list motion))
 
 -- that of a place
 abbrev pub sought : Search → SliceMotion → ℕ → Reference → Option Motion → Option Mv
@@ -30,7 +33,9 @@ sought SameMark = reaching
 -- the first or the second of those that are there, and of vectors of 0 behind them
 unfoldable pub nth : Option Mv → Option Mv → Option Mv → Bool → Mv
 nth first second temporal mvp =
-    slice_index_or (take 2 (option_to_list first ++ option_to_list second ++ option_to_list temporal ++ zero_mv ∷ zero_mv ∷ [])) (if mvp then 1 else 0) zero_mv
+    slice_index_or
+    (take 2 (option_to_list first ++ option_to_list second ++ option_to_list temporal ++ zero_mv ∷ zero_mv ∷ []))
+    (if mvp then 1 else 0) zero_mv
 
 -- whether it depends on the temporal predictor
 abbrev pub is_needed : Option Mv → Option Mv → Bool → Bool

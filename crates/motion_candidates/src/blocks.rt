@@ -3,7 +3,8 @@
 ghost use Rattle.std.specs.Prelude.{◌≡◌, ◌≤◌, ◌^◌, ◌+◌, ◌-◌, ◌*◌, ◌/◌};
 ghost use Rattle.ctu_records.specs.Prediction.{left_or_right, part_block, part_of, rectangle, upper_or_lower};
 ghost use Rattle.spec_motion.specs.Derivation.{IsBlock, IsPlaced};
-ghost use Rattle.spec_motion.specs.Merging.{is_cut_level, is_cut_upright, is_lower_part, is_right_part, is_shared, merge_block};
+ghost use Rattle.spec_motion.specs.Merging.{is_cut_level, is_cut_upright, is_lower_part, is_right_part, is_shared};
+ghost use Rattle.spec_motion.specs.Merging.{merge_block};
 
 use ctu_records::{PartMode, PredictionUnit, Rectangle};
 use spec_motion::SliceMotion;
@@ -132,7 +133,9 @@ fn quarter_of(unit: CodingBlock, part: u8) -> Rectangle
     requires x { unit.x + unit.side ≤ 16 }
     requires y { unit.y + unit.side ≤ 16 }
     requires part { part ≤ 3 }
-    ensures value { result ≡ rectangle (unit.x + unit.side / 2 * (part - part / 2 * 2)) (unit.y + unit.side / 2 * (part / 2)) (unit.side / 2) (unit.side / 2) }
+    ensures value { result
+        ≡ rectangle (unit.x + unit.side / 2 * (part - part / 2 * 2)) (unit.y + unit.side / 2 * (part / 2))
+        (unit.side / 2) (unit.side / 2) }
     ensures inside { IsBlock result }
 {
     let half = unit.side / 2;

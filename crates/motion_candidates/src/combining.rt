@@ -1,7 +1,9 @@
 //! Combined bi-predictive merging candidates (8.5.3.2.3), and zero candidates (8.5.3.2.4).
 
-ghost use Rattle.std.specs.Prelude.{◌≡◌, ◌≤◌, ◌<◌, ◌+◌, ◌-◌, ◌*◌, IfOk, IfErr, Ok, Err, length, take, filter_map, slice_index_or, min, nat_lt, if◌then◌else◌};
-ghost use Rattle.spec_motion.specs.Merging.{combination, combination_of, combinations, is_doubled, zero_candidate, zero_vector};
+ghost use Rattle.std.specs.Prelude.{◌≡◌, ◌≤◌, ◌<◌, ◌+◌, ◌-◌, ◌*◌, IfOk, IfErr, Ok, Err, length, take, filter_map};
+ghost use Rattle.std.specs.Prelude.{slice_index_or, min, nat_lt, if◌then◌else◌};
+ghost use Rattle.spec_motion.specs.Merging.{combination, combination_of, combinations, is_doubled, zero_candidate};
+ghost use Rattle.spec_motion.specs.Merging.{zero_vector};
 ghost use Rattle.spec_motion.specs.Vectors.{no_motion};
 
 use crate::candidates::Candidates;
@@ -16,7 +18,8 @@ pub(crate) fn nth_combination(
     found: &Candidates,
     wanted: usize,
 ) -> Result<Motion, usize>
-    ensures within { IfOk result (λ m. (wanted < length (combinations slice.now found.now)) × (m ≡ slice_index_or (combinations slice.now found.now) wanted no_motion)) }
+    ensures within { IfOk result (λ m. (wanted < length (combinations slice.now found.now))
+        × (m ≡ slice_index_or (combinations slice.now found.now) wanted no_motion)) }
     ensures beyond { IfErr result (λ n. (n ≡ length (combinations slice.now found.now)) × (n ≤ wanted)) }
 {
     let mut count = 0;

@@ -1,8 +1,10 @@
 //! Merging (8.5.3.2.1).
 
-ghost use Rattle.std.specs.Prelude.{◌≡◌, ◌≤◌, ◌<◌, ◌+◌, ◌-◌, length, true, slice_index_or, IfOk, IfErr, if◌then◌else◌, None};
+ghost use Rattle.std.specs.Prelude.{◌≡◌, ◌≤◌, ◌<◌, ◌+◌, ◌-◌, length, true, slice_index_or, IfOk, IfErr, if◌then◌else◌};
+ghost use Rattle.std.specs.Prelude.{None};
 ghost use Rattle.spec_motion.specs.Derivation.{IsBlock, IsPlaced};
-ghost use Rattle.spec_motion.specs.Merging.{combined_candidates, completed, first_alone, first_reference, merge_candidates, merged, motion_of, restricted, temporal_candidate};
+ghost use Rattle.spec_motion.specs.Merging.{combined_candidates, completed, first_alone, first_reference};
+ghost use Rattle.spec_motion.specs.Merging.{merge_candidates, merged, motion_of, restricted, temporal_candidate};
 ghost use Rattle.spec_motion.specs.Temporal.{temporal_mv};
 ghost use Rattle.spec_motion.specs.Vectors.{no_motion};
 
@@ -37,7 +39,9 @@ fn candidate<V: MotionView>(
     index: u8,
 ) -> Motion
     requires { IsPlaced unit.now }
-    ensures { result ≡ slice_index_or (merge_candidates slice.now (V.collocated_at view.now) (V.motion_at view.now) unit.now) index no_motion }
+    ensures { result
+        ≡ slice_index_or (merge_candidates slice.now (V.collocated_at view.now) (V.motion_at view.now) unit.now)
+        index no_motion }
 {
     let mut found = spatial_candidates(view, slice, unit);
     if usize::from(index) < found.len() {
@@ -64,7 +68,9 @@ fn temporal_candidate<V: MotionView>(
 /// The temporal candidate's vector in list 1.
 fn second_vector<V: MotionView>(view: &V, slice: &SliceMotion, block: Rectangle) -> Option<Vector>
     requires { IsBlock block }
-    ensures { result ≡ if slice.now.is_b then first_reference (temporal_mv slice.now (V.collocated_at view.now) block 1 0) else None }
+    ensures { result
+        ≡ if slice.now.is_b then first_reference (temporal_mv slice.now (V.collocated_at view.now) block 1 0)
+        else None }
 {
     if slice.is_b {
         first_reference(temporal_mv(view, slice, block, 1, 0))
@@ -121,7 +127,8 @@ fn following(slice: &SliceMotion, found: &Candidates, place: usize) -> Motion
 /// A combined bi-predictive candidate, or how many there are.
 fn combined(slice: &SliceMotion, found: &Candidates, wanted: usize) -> Result<Motion, usize>
     requires { length found.now + wanted < slice.now.max_candidates }
-    ensures within { IfOk result (λ m. (wanted < length (combined_candidates slice.now found.now)) × (m ≡ slice_index_or (combined_candidates slice.now found.now) wanted no_motion)) }
+    ensures within { IfOk result (λ m. (wanted < length (combined_candidates slice.now found.now))
+        × (m ≡ slice_index_or (combined_candidates slice.now found.now) wanted no_motion)) }
     ensures beyond { IfErr result (λ n. (n ≡ length (combined_candidates slice.now found.now)) × (n ≤ wanted)) }
 {
     if slice.is_b {
@@ -139,7 +146,8 @@ fn combined_of_several(
 ) -> Result<Motion, usize>
     requires is_b { slice.now.is_b ≡ true }
     requires room { length found.now + wanted < slice.now.max_candidates }
-    ensures within { IfOk result (λ m. (wanted < length (combined_candidates slice.now found.now)) × (m ≡ slice_index_or (combined_candidates slice.now found.now) wanted no_motion)) }
+    ensures within { IfOk result (λ m. (wanted < length (combined_candidates slice.now found.now))
+        × (m ≡ slice_index_or (combined_candidates slice.now found.now) wanted no_motion)) }
     ensures beyond { IfErr result (λ n. (n ≡ length (combined_candidates slice.now found.now)) × (n ≤ wanted)) }
 {
     if 1 < found.len() {

@@ -62,7 +62,9 @@ fn own_taken(
     target: Reference,
     vector: Option<Vector>,
 ) -> Option<Mv>
-    ensures { result ≡ option_and_then (λ (v : Vector). taken search slice.now target (reference_in slice.now list v.ref_idx) v.mv) vector }
+    ensures { result
+        ≡ option_and_then (λ (v : Vector). taken search slice.now target (reference_in slice.now list v.ref_idx) v.mv)
+        vector }
 {
     let v = vector?;
     taken(
@@ -82,7 +84,9 @@ fn other_taken(
     target: Reference,
     vector: Option<Vector>,
 ) -> Option<Mv>
-    ensures { result ≡ option_and_then (λ (v : Vector). taken search slice.now target (reference_in_other slice.now list v.ref_idx) v.mv) vector }
+    ensures { result
+        ≡ option_and_then
+        (λ (v : Vector). taken search slice.now target (reference_in_other slice.now list v.ref_idx) v.mv) vector }
 {
     let v = vector?;
     let reference = reference_in_other(slice, list, v.ref_idx);

@@ -1,10 +1,12 @@
 //! Advanced motion vector prediction (8.5.3.2.6, 8.5.3.2.7).
 
-ghost use Rattle.std.specs.Prelude.{◌≡◌, ◌∷◌, [], ◌++◌, ◌||◌, None, map, option_to_list, slice_index_or, unwrap_or, if◌then◌else◌};
+ghost use Rattle.std.specs.Prelude.{◌≡◌, ◌∷◌, [], ◌++◌, ◌||◌, None, map, option_to_list, slice_index_or, unwrap_or};
+ghost use Rattle.std.specs.Prelude.{if◌then◌else◌};
 ghost use Rattle.motion_candidates.specs.Predictors.{is_needed, nth, sought};
 ghost use Rattle.spec_motion.specs.Derivation.{IsBlock};
 ghost use Rattle.spec_motion.specs.Temporal.{temporal_mv};
-ghost use Rattle.spec_motion.specs.VectorPrediction.{distinct, first_of, is_same_mv, is_there, predicted_mv, pointing, reaching, spatial_mvs, spatial_predictors};
+ghost use Rattle.spec_motion.specs.VectorPrediction.{distinct, first_of, is_same_mv, is_there, predicted_mv, pointing};
+ghost use Rattle.spec_motion.specs.VectorPrediction.{reaching, spatial_mvs, spatial_predictors};
 ghost use Rattle.spec_motion.specs.Vectors.{or_else, zero_mv};
 
 use crate::pointing::{Search, sought};
@@ -63,7 +65,8 @@ fn spatial_predictors<V: MotionView>(
     target: Reference,
 ) -> (Option<Mv>, Option<Mv>)
     requires { IsBlock block }
-    ensures { option_to_list result.0 ++ option_to_list result.1 ≡ spatial_predictors slice.now (V.motion_at view.now) block list target }
+    ensures { option_to_list result.0 ++ option_to_list result.1
+        ≡ spatial_predictors slice.now (V.motion_at view.now) block list target }
 {
     let (column, row) = (block.x + block.width, block.y + block.height);
     let left = [at(view, block.x, row + 1), at(view, block.x, row)];
@@ -91,7 +94,9 @@ fn spatial_mvs(
     left: [Option<Motion>; 2],
     above: [Option<Motion>; 3],
 ) -> (Option<Mv>, Option<Mv>)
-    ensures { option_to_list result.0 ++ option_to_list result.1 ≡ spatial_mvs slice.now list target left above (is_there (slice_index_or left 0 None) || is_there (slice_index_or left 1 None)) }
+    ensures { option_to_list result.0 ++ option_to_list result.1
+        ≡ spatial_mvs slice.now list target left above
+        (is_there (slice_index_or left 0 None) || is_there (slice_index_or left 1 None)) }
 {
     let pointing_above = first_sought(Search::SamePicture, slice, list, target, &above);
     if is_there(left[0]) || is_there(left[1]) {
@@ -104,7 +109,9 @@ fn spatial_mvs(
 
 /// Candidate A, where there is motion on the left.
 fn left_mv(slice: &SliceMotion, list: u8, target: Reference, left: &[Option<Motion>]) -> Option<Mv>
-    ensures { result ≡ or_else (first_of (map (pointing slice.now list target) left.now)) (first_of (map (reaching slice.now list target) left.now)) }
+    ensures { result
+        ≡ or_else (first_of (map (pointing slice.now list target) left.now))
+        (first_of (map (reaching slice.now list target) left.now)) }
 {
     match first_sought(Search::SamePicture, slice, list, target, left) {
         Some(mv) => Some(mv),

@@ -2,7 +2,8 @@
 
 ghost use Rattle.std.specs.Prelude.{◌≡◌, ◌≤◌, ◌/◌, ◌+◌, ◌≢◌, false, pos, negsuc, ◌+ℤ◌, ◌-ℤ◌, ◌*ℤ◌, ◌≤ℤ◌};
 ghost use Rattle.std.specs.Int.{int_shr};
-ghost use Rattle.spec_motion.specs.Scaling.{clip3, distance, inverse, is_kept, scale_factor, scaled, scaled_component, shortened, stretched};
+ghost use Rattle.spec_motion.specs.Scaling.{clip3, distance, inverse, is_kept, scale_factor, scaled, scaled_component};
+ghost use Rattle.spec_motion.specs.Scaling.{shortened, stretched};
 
 use ctu_records::Mv;
 

@@ -2,7 +2,8 @@
 
 ghost use Rattle.std.specs.Prelude.{◌≡◌, ◌≤◌, ◌+◌, ◌-◌, ◌^◌, ◌/◌, [], ◌∷◌, None, length, if◌then◌else◌};
 ghost use Rattle.spec_motion.specs.Derivation.{IsBlock, IsPlaced};
-ghost use Rattle.spec_motion.specs.Merging.{is_in_region, is_lower_part, is_right_part, merge_motion, present, spatial_candidates, spatial_of, unless_same};
+ghost use Rattle.spec_motion.specs.Merging.{is_in_region, is_lower_part, is_right_part, merge_motion, present};
+ghost use Rattle.spec_motion.specs.Merging.{spatial_candidates, spatial_of, unless_same};
 
 use crate::blocks::{is_lower_part, is_right_part, merge_block};
 use crate::candidates::Candidates;

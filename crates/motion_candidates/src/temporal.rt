@@ -3,7 +3,8 @@
 ghost use Rattle.std.specs.Prelude.{◌≡◌, take};
 ghost use Rattle.std.specs.List.{list_all};
 ghost use Rattle.spec_motion.specs.Derivation.{IsBlock};
-ghost use Rattle.spec_motion.specs.Temporal.{bottom_right, brought, centre, collocated_mv, column_vector, is_none_later, is_not_later, takes_first, temporal_mv};
+ghost use Rattle.spec_motion.specs.Temporal.{bottom_right, brought, centre, collocated_mv, column_vector};
+ghost use Rattle.spec_motion.specs.Temporal.{is_none_later, is_not_later, takes_first, temporal_mv};
 ghost use Rattle.spec_motion.specs.Vectors.{or_else};
 
 use crate::references::reference_in;

@@ -1,9 +1,11 @@
 -- How a framer's state goes on with the stream.
-use Rattle.std.proofs.Common.{◌≡◌, ℕ, ◌-◌, ◌<◌, ◌≤◌, Bool, true, false, List, [], ◌∷◌, ◌++◌, length, take, drop, Some, None, Result, Ok, Err, IfOk, refl, sym, ap, ◌∙◌, arith, append_assoc, length-drop}
+use Rattle.std.proofs.Common.{◌≡◌, ℕ, ◌-◌, ◌<◌, ◌≤◌, Bool, true, false, List, [], ◌∷◌, ◌++◌, length, take, drop, Some}
+use Rattle.std.proofs.Common.{None, Result, Ok, Err, IfOk, refl, sym, ap, ◌∙◌, arith, append_assoc, length-drop}
 use Rattle.std.proofs.lemmas.List.{drop-append-le, append-nil}
 use Rattle.std.proofs.Math.ListN.{drop_of_length-le}
 use Rattle.spec_units.specs.Units.{ends_unit, unit_end, unit_at, unit_to, trimmed, Raw, Padding, Inside, parts}
-use Rattle.spec_units.specs.Judged.{Told, Whole, Broken, Met, unit_of, judged, next_number, then_told, told_from, told_of}
+use Rattle.spec_units.specs.Judged.{Told, Whole, Broken, Met, unit_of, judged, next_number, then_told, told_from}
+use Rattle.spec_units.specs.Judged.{told_of}
 use Rattle.spec_units.proofs.Ends.{ends_unit-append, parts-inside}
 use Rattle.spec_units.proofs.Going.{unit-then-rest}
 use Rattle.nal_stream.specs.declared.answer.Next.{Next}
@@ -12,10 +14,12 @@ use Rattle.nal_stream.specs.declared.refused.Refused.{Refused}
 use Rattle.nal_stream.specs.declared.refused.Refused.TheVariants as refused
 use Rattle.nal_stream.specs.declared.framer.Framer.{Framer}
 use Rattle.nal_stream.specs.Answers.{told_by}
-use Rattle.nal_stream.specs.Framing.{History, with_answer, IsNext, pending, parts_here, told_refused, to_come_of, to_come, CanGoOn, StandsFor, Goes, Answers, before, IsJudged}
+use Rattle.nal_stream.specs.Framing.{History, with_answer, IsNext, pending, parts_here, told_refused, to_come_of}
+use Rattle.nal_stream.specs.Framing.{to_come, CanGoOn, StandsFor, Goes, Answers, before, IsJudged}
 
 -- the places that were searched stay searched when bytes come
-pub searched-append : (bs piece : List ℕ) (start searched : ℕ) → start ≤ length bs → searched ≤ length (drop start bs) - 2
+pub searched-append : (bs piece : List ℕ) (start searched : ℕ) → start ≤ length bs
+    → searched ≤ length (drop start bs) - 2
     → ((j : ℕ) → j < searched → ends_unit (drop j (drop start bs)) ≡ false)
     → (j : ℕ) → j < searched → ends_unit (drop j (drop start (bs ++ piece))) ≡ false
 searched-append bs piece start searched le few none j lt =
@@ -49,29 +53,39 @@ StandsFor-told : (old new : Framer) (h : History) (t : Told) → Goes old new (t
 StandsFor-told old new h t g s = record {
   finished = g.finished ∙ s.finished;
   told = λ ended rest c. let d = go_along old.finished new.finished ended rest (sym g.finished) c in
-      s.told ended rest d ∙ ap (λ ts. h.given ++ ts) (g.to_tell ended rest d) ∙ sym (append_assoc h.given (t ∷ []) (to_come new ended rest));
+      s.told ended rest d ∙ ap (λ ts. h.given ++ ts) (g.to_tell ended rest d)
+      ∙ sym (append_assoc h.given (t ∷ []) (to_come new ended rest));
 }
 
 -- what a framer is to tell now
 told_now : (f : Framer) (h : History) → StandsFor f h → told_of h.finished h.fed ≡ h.given ++ to_come f f.finished []
 told_now f h s =
-    ap (λ e. told_of e h.fed) (sym s.finished) ∙ ap (told_of f.finished) (sym (append-nil h.fed)) ∙ s.told f.finished [] (go_now f.finished)
+    ap (λ e. told_of e h.fed) (sym s.finished) ∙ ap (told_of f.finished) (sym (append-nil h.fed))
+    ∙ s.told f.finished [] (go_now f.finished)
 
 told_then : (old new : Framer) (h : History) (t : Told) → Goes old new (t ∷ []) → StandsFor old h
     → told_of h.finished h.fed ≡ h.given ++ t ∷ to_come new old.finished []
-told_then old new h t g s = told_now old h s ∙ ap (λ ts. h.given ++ ts) (g.to_tell old.finished [] (go_now old.finished))
+told_then old new h t g s =
+    told_now old h s ∙ ap (λ ts. h.given ++ ts) (g.to_tell old.finished [] (go_now old.finished))
 
-told_refusal : (new : Framer) (h : History) (r : Refused) → new.refused ≡ Some r → StandsFor new h → told_of h.finished h.fed ≡ h.given ++ told_refused r ∷ []
+told_refusal : (new : Framer) (h : History) (r : Refused) → new.refused ≡ Some r → StandsFor new h
+    → told_of h.finished h.fed ≡ h.given ++ told_refused r ∷ []
 told_refusal new h r e s = told_now new h s ∙ ap (λ o. h.given ++ to_come_of o new new.finished []) e
 
-told_none : (new : Framer) (h : History) (b : Bool) → new.finished ≡ b → to_come new b [] ≡ [] → StandsFor new h → (h.finished ≡ b) × (told_of b h.fed ≡ h.given)
+told_none : (new : Framer) (h : History) (b : Bool) → new.finished ≡ b → to_come new b [] ≡ [] → StandsFor new h
+    → (h.finished ≡ b) × (told_of b h.fed ≡ h.given)
 told_none new h b is e s =
-    let same : h.finished ≡ b = sym s.finished ∙ is in
-    (same, ap (λ c. told_of c h.fed) (sym same) ∙ told_now new h s ∙ ap (λ c. h.given ++ to_come new c []) is ∙ ap (λ ts. h.given ++ ts) e ∙ append-nil h.given)
+    let same : h.finished ≡ b = sym s.finished ∙ is in (
+      same,
+      ap (λ c. told_of c h.fed) (sym same) ∙ told_now new h s ∙ ap (λ c. h.given ++ to_come new c []) is
+          ∙ ap (λ ts. h.given ++ ts) e ∙ append-nil h.given,
+    )
 
 -- an answer is the next of the history, which it extends
-answer_is_next : (n : Next) (old new : Framer) (h : History) → Answers n old new → StandsFor old h → IsNext h n × StandsFor new (with_answer h n)
-answer_is_next (next.Unit n) old new h a s = ((to_come new old.finished [], told_then old new h _ a s), StandsFor-told old new h _ a s)
+answer_is_next : (n : Next) (old new : Framer) (h : History) → Answers n old new → StandsFor old h
+    → IsNext h n × StandsFor new (with_answer h n)
+answer_is_next (next.Unit n) old new h a s =
+    ((to_come new old.finished [], told_then old new h _ a s), StandsFor-told old new h _ a s)
 answer_is_next (next.Fault f) old new h a s =
     let m = StandsFor-same old new h a.0 s in (told_refusal new h (refused.Fault f) a.1 m, m)
 answer_is_next (next.Limit l) old new h a s =
@@ -82,7 +96,8 @@ answer_is_next next.End old new h a s =
     let m = StandsFor-same old new h a.0 s in (told_none new h true (a.0.finished ∙ a.1) a.2 m, m)
 
 -- the same behind padding, where the call had memory
-pub next-value : {E : Type 0} (r : Result Next E) (old middle new : Framer) (h : History) → Goes old middle [] → IfOk r (λ n. Answers n middle new) → StandsFor old h
+pub next-value : {E : Type 0} (r : Result Next E) (old middle new : Framer) (h : History) → Goes old middle []
+    → IfOk r (λ n. Answers n middle new) → StandsFor old h
     → IfOk r (λ n. IsNext h n × StandsFor new (with_answer h n))
 next-value (Ok n) old middle new h g a s = answer_is_next n middle new h a (StandsFor-same old middle h g s)
 next-value (Err e) old middle new h g a s = tt
@@ -95,21 +110,26 @@ before-told next.More t later e = cc
 before-told next.End t later e = cc
 
 at_unit : (f : Framer) (ended : Bool) (rest : List ℕ) → f.inside ≡ true → f.refused ≡ None
-    → to_come f ended rest ≡ told_from f.began ended f.index (unit_at ended (pending f ++ rest) ++ parts ended Inside (pending f ++ rest))
+    → to_come f ended rest
+    ≡ told_from f.began ended f.index (unit_at ended (pending f ++ rest) ++ parts ended Inside (pending f ++ rest))
 at_unit f ended rest i r =
-    ap (λ o. to_come_of o f ended rest) r ∙ ap (λ b. told_from f.began ended f.index (parts_here b f.zeros ended (pending f ++ rest))) i
+    ap (λ o. to_come_of o f ended rest) r
+    ∙ ap (λ b. told_from f.began ended f.index (parts_here b f.zeros ended (pending f ++ rest))) i
 
 -- a unit whose end came is judged
-pub judged-whole : (f : Framer) (n : Next) (size : ℕ) → f.inside ≡ true → f.refused ≡ None → unit_end (pending f) ≡ Some size
+pub judged-whole : (f : Framer) (n : Next) (size : ℕ) → f.inside ≡ true → f.refused ≡ None
+    → unit_end (pending f) ≡ Some size
     → told_by n ≡ judged f.index (take size (pending f)) ∷ [] → IsJudged f n size
 judged-whole f n size i r e t = λ ended rest g.
     at_unit f ended rest i r
     ∙ ap (told_from f.began ended f.index) (unit-then-rest ended (pending f) rest size e)
     ∙ before-told n _ _ t
 
-last_unit : (f : Framer) (n : Next) (taken : ℕ) (ended : Bool) (rest : List ℕ) → f.inside ≡ true → f.refused ≡ None → unit_end (pending f) ≡ None
+last_unit : (f : Framer) (n : Next) (taken : ℕ) (ended : Bool) (rest : List ℕ) → f.inside ≡ true → f.refused ≡ None
+    → unit_end (pending f) ≡ None
     → taken ≡ length (pending f) → told_by n ≡ judged f.index (trimmed (pending f)) ∷ [] → ended ≡ true → rest ≡ []
-    → to_come f ended rest ≡ before n (told_from true ended (next_number f.index) (parts ended (Padding 0) (drop taken (pending f) ++ rest)))
+    → to_come f ended rest
+    ≡ before n (told_from true ended (next_number f.index) (parts ended (Padding 0) (drop taken (pending f) ++ rest)))
 last_unit f n taken false rest i r e size t is none = cc
 last_unit f n taken true (b ∷ rest) i r e size t is none = cc
 last_unit f n taken true [] i r e size t is none =
@@ -123,13 +143,15 @@ last_unit f n taken true [] i r e size t is none =
     ∙ sym (ap (λ bs. before n (told_from true true (next_number f.index) (parts true (Padding 0) bs))) gone)
 
 -- at the input's end the last unit is judged, without the zero bytes at its end
-pub judged-last : (f : Framer) (n : Next) (taken : ℕ) → f.inside ≡ true → f.refused ≡ None → f.finished ≡ true → unit_end (pending f) ≡ None
+pub judged-last : (f : Framer) (n : Next) (taken : ℕ) → f.inside ≡ true → f.refused ≡ None → f.finished ≡ true
+    → unit_end (pending f) ≡ None
     → taken ≡ length (pending f) → told_by n ≡ judged f.index (trimmed (pending f)) ∷ [] → IsJudged f n taken
 judged-last f n taken i r end e size t = λ ended rest g.
     let d = go_along true f.finished ended rest (sym end) g in last_unit f n taken ended rest i r e size t d.0 d.1
 
 -- a unit that isn't whole tells nothing yet
-pub unfinished : (f : Framer) → f.inside ≡ true → f.refused ≡ None → unit_end (pending f) ≡ None → to_come f false [] ≡ []
+pub unfinished : (f : Framer) → f.inside ≡ true → f.refused ≡ None → unit_end (pending f) ≡ None
+    → to_come f false [] ≡ []
 unfinished f i r e =
     let bytes = pending f in
     at_unit f false [] i r

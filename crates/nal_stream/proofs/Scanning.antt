@@ -1,5 +1,6 @@
 -- What the bytes at a place say of a unit's end, and of the zero bytes at its end.
-use Rattle.std.proofs.Common.{◌≡◌, ℕ, zero, suc, ◌+◌, ◌<◌, ◌≤◌, Bool, true, false, List, [], ◌∷◌, length, get_or, take, drop, refl, sym, ap, ◌∙◌, arith}
+use Rattle.std.proofs.Common.{◌≡◌, ℕ, zero, suc, ◌+◌, ◌<◌, ◌≤◌, Bool, true, false, List, [], ◌∷◌, length, get_or, take}
+use Rattle.std.proofs.Common.{drop, refl, sym, ap, ◌∙◌, arith}
 use Rattle.std.specs.Prelude.{◌&&◌, ◌==◌, nat_lt}
 use Rattle.std.proofs.lemmas.Bool.Decides.{Decides-eqb}
 use borrow.Author.Tests.{ltb-true, ltb-false}
@@ -23,7 +24,8 @@ same_number x y h = let d = Decides-eqb x y in d.0 h
 
 -- whether a unit ends at a place, by the three bytes there
 ends_unit-suc : (bs : List ℕ) (i : ℕ) → suc (suc i) < length bs
-    → ends_unit (drop i bs) ≡ ((get_or bs i 0 == 0) && (get_or bs (suc i) 0 == 0) && nat_lt (get_or bs (suc (suc i)) 0) 2)
+    → ends_unit (drop i bs)
+    ≡ ((get_or bs i 0 == 0) && (get_or bs (suc i) 0 == 0) && nat_lt (get_or bs (suc (suc i)) 0) 2)
 ends_unit-suc [] i h = absurd (omega arith)
 ends_unit-suc (a ∷ []) zero h = absurd (omega arith)
 ends_unit-suc (a ∷ b ∷ []) zero h = absurd (omega arith)
@@ -58,7 +60,8 @@ ends_unit-bytes (a ∷ b ∷ c ∷ bs) zero h = record {
 ends_unit-bytes (a ∷ bs) (suc i) h =
     let e = ends_unit-bytes bs i h in record { first = e.first; second = e.second; third = e.third }
 
-impossible : (j at third : ℕ) {next : ℕ} → j < next → at ≤ j → third ≡ at + 2 → next ≡ at + 3 → (j ≡ at → ⊥) → (suc j ≡ third → ⊥) → (j ≡ third → ⊥) → ⊥
+impossible : (j at third : ℕ) {next : ℕ} → j < next → at ≤ j → third ≡ at + 2 → next ≡ at + 3 → (j ≡ at → ⊥)
+    → (suc j ≡ third → ⊥) → (j ≡ third → ⊥) → ⊥
 impossible j at third lt ge d n a b c = omega arith
 
 -- a byte over 01 is none of the three, so that three places are passed at once
@@ -70,7 +73,8 @@ none_before_three bs at third next d n big below j lt =
     (λ f. let ge : at ≤ j = ltb-false _ _ f in
     not_true (ends_unit (drop j bs)) (λ t. let e = ends_unit-bytes bs j t in
     decide (j == at)
-    (λ s. let is = same_number j at s in let k : suc (suc j) ≡ third = omega arith in omega (arith, e.third, ap (λ m. get_or bs m 0) k))
+    (λ s. let is = same_number j at s in
+    let k : suc (suc j) ≡ third = omega arith in omega (arith, e.third, ap (λ m. get_or bs m 0) k))
     (λ s. decide (suc j == third)
     (λ u. let k = same_number (suc j) third u in omega (arith, e.second, ap (λ m. get_or bs m 0) k))
     (λ u. let no = Decides-eqb (suc j) third in let no2 = Decides-eqb j at in
@@ -88,14 +92,17 @@ pub trimmed-none : (bs : List ℕ) → all_zero bs ≡ true → trimmed bs ≡ [
 trimmed-none [] h = refl
 trimmed-none (b ∷ bs) h = if_true _ _ _ h
 
-trimmed-suc : (bs : List ℕ) (k : ℕ) → k < length bs → (get_or bs k 0 ≡ 0 → ⊥) → all_zero (drop (suc k) bs) ≡ true → trimmed bs ≡ take (suc k) bs
+trimmed-suc : (bs : List ℕ) (k : ℕ) → k < length bs → (get_or bs k 0 ≡ 0 → ⊥) → all_zero (drop (suc k) bs) ≡ true
+    → trimmed bs ≡ take (suc k) bs
 trimmed-suc [] k lt ne h = absurd (omega arith)
 trimmed-suc (b ∷ bs) zero lt ne h =
     if_false _ _ _ (not_true _ (λ t. ne (all_zero-get (b ∷ bs) 0 t))) ∙ ap (λ xs. b ∷ xs) (trimmed-none bs h)
 trimmed-suc (b ∷ bs) (suc k) lt ne h =
-    if_false _ _ _ (not_true _ (λ t. ne (all_zero-get (b ∷ bs) (suc k) t))) ∙ ap (λ xs. b ∷ xs) (trimmed-suc bs k (omega arith) ne h)
+    if_false _ _ _ (not_true _ (λ t. ne (all_zero-get (b ∷ bs) (suc k) t)))
+    ∙ ap (λ xs. b ∷ xs) (trimmed-suc bs k (omega arith) ne h)
 
-pub trimmed-take : (bs : List ℕ) (k n : ℕ) → n ≡ k + 1 → k < length bs → (get_or bs k 0 ≡ 0 → ⊥) → all_zero (drop n bs) ≡ true → trimmed bs ≡ take n bs
+pub trimmed-take : (bs : List ℕ) (k n : ℕ) → n ≡ k + 1 → k < length bs → (get_or bs k 0 ≡ 0 → ⊥)
+    → all_zero (drop n bs) ≡ true → trimmed bs ≡ take n bs
 trimmed-take bs k n e lt ne h =
     let s : n ≡ suc k = omega arith in
     trimmed-suc bs k lt ne (ap (λ m. all_zero (drop m bs)) (sym s) ∙ h) ∙ ap (λ m. take m bs) (sym s)

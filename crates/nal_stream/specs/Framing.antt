@@ -72,12 +72,14 @@ CanGoOn true ended rest = (ended ≡ true) × (rest ≡ [])
 -- a framer stands for a history: however the input goes on, what it is told as is what was given and what is to come
 pub record StandsFor (f : Framer) (h : History) : Type 0 where
   pub finished : f.finished ≡ h.finished
-  pub told : (ended : Bool) (rest : List ℕ) → CanGoOn f.finished ended rest → told_of ended (h.fed ++ rest) ≡ h.given ++ to_come f ended rest
+  pub told : (ended : Bool) (rest : List ℕ) → CanGoOn f.finished ended rest
+      → told_of ended (h.fed ++ rest) ≡ h.given ++ to_come f ended rest
 
 -- a framer came from another and told so much
 pub record Goes (old new : Framer) (told : List Told) : Type 0 where
   pub finished : new.finished ≡ old.finished
-  pub to_tell : (ended : Bool) (rest : List ℕ) → CanGoOn old.finished ended rest → to_come old ended rest ≡ told ++ to_come new ended rest
+  pub to_tell : (ended : Bool) (rest : List ℕ) → CanGoOn old.finished ended rest
+      → to_come old ended rest ≡ told ++ to_come new ended rest
 
 -- and answered this
 abbrev pub Answers : Next → Framer → Framer → Type 0
@@ -98,4 +100,6 @@ before next.End later = later
 -- the unit that a framer stands at is judged so, and takes so many bytes
 abbrev pub IsJudged : Framer → Next → ℕ → Type 0
 IsJudged f judged taken = (ended : Bool) (rest : List ℕ) → CanGoOn f.finished ended rest
-    → to_come f ended rest ≡ before judged (told_from true ended (next_number f.index) (parts ended (Padding 0) (drop taken (pending f) ++ rest)))
+    → to_come f ended rest
+    ≡ before judged
+    (told_from true ended (next_number f.index) (parts ended (Padding 0) (drop taken (pending f) ++ rest)))

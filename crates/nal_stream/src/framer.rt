@@ -42,10 +42,12 @@ pub struct Framer {
 }
 
 impl Framer {
-    ghost use Rattle.std.specs.Prelude.{◌≡◌, ℕ, ◌≤◌, ◌∷◌, Bool, true, false, List, [], ◌++◌, length, drop, Option, Some, None, IsOkAnd, IfOk, OnOk, OnErr};
+    ghost use Rattle.std.specs.Prelude.{◌≡◌, ℕ, ◌≤◌, ◌∷◌, Bool, true, false, List, [], ◌++◌, length, drop, Option};
+    ghost use Rattle.std.specs.Prelude.{Some, None, IsOkAnd, IfOk, OnOk, OnErr};
     ghost use Rattle.spec_units.specs.Units.{unit_end};
     ghost use Rattle.nal_stream.specs.Answers.{told_by};
-    ghost use Rattle.nal_stream.specs.Framing.{History, nothing, with_piece, at_end, with_answer, IsNext, StandsFor, pending, CanGoOn, to_come, Goes, Answers, IsJudged};
+    ghost use Rattle.nal_stream.specs.Framing.{History, nothing, with_piece, at_end, with_answer, IsNext, StandsFor};
+    ghost use Rattle.nal_stream.specs.Framing.{pending, CanGoOn, to_come, Goes, Answers, IsJudged};
 
     /// A framer that was fed nothing.
     pub fn new(alloc: Global) -> Result<Framer, AllocError>
@@ -89,7 +91,8 @@ impl Framer {
 
     /// What comes next: a unit, the first broken rule or limit met, and again for good, or that nothing is left.
     pub fn next(&mut self) -> Result<Next, AllocError>
-        ensures value { (h : History) → StandsFor self.old h → IfOk result (λ next. IsNext h next × StandsFor self.new (with_answer h next)) }
+        ensures value { (h : History) → StandsFor self.old h
+            → IfOk result (λ next. IsNext h next × StandsFor self.new (with_answer h next)) }
         ensures err { (h : History) → StandsFor self.old h → OnErr result (StandsFor self.new h) }
         ensures finished { self.new.finished ≡ self.old.finished }
     {
@@ -121,7 +124,8 @@ impl Framer {
 
     fn append(&mut self, piece: &[u8]) -> Result<(), AllocError>
         requires { self.old.refused ≡ None }
-        ensures ok { OnOk result ((e : Bool) (rest : List ℕ) → to_come self.new e rest ≡ to_come self.old e (piece.now ++ rest)) }
+        ensures ok { OnOk result
+            ((e : Bool) (rest : List ℕ) → to_come self.new e rest ≡ to_come self.old e (piece.now ++ rest)) }
         ensures err { OnErr result ((e : Bool) (rest : List ℕ) → to_come self.new e rest ≡ to_come self.old e rest) }
         ensures finished { self.new.finished ≡ self.old.finished }
     {

@@ -30,7 +30,9 @@ pub struct Skipped {
 /// Passes over padding that stands behind so many zero bytes, at most two.
 pub fn skip_padding(bytes: &[u8], zeros: u8) -> Skipped
     requires { zeros ≤ 2 }
-    ensures value { (ended : Bool) (rest : List ℕ) → parts ended (Padding zeros) (bytes.now ++ rest) ≡ parts_behind result.behind ended result.zeros (drop result.taken bytes.now ++ rest) }
+    ensures value { (ended : Bool) (rest : List ℕ)
+        → parts ended (Padding zeros) (bytes.now ++ rest)
+        ≡ parts_behind result.behind ended result.zeros (drop result.taken bytes.now ++ rest) }
     ensures taken { result.taken ≤ length bytes.now }
     ensures few { result.zeros ≤ 2 }
     ensures all { result.behind ≡ Nothing → result.taken ≡ length bytes.now }
@@ -56,7 +58,8 @@ pub fn skip_padding(bytes: &[u8], zeros: u8) -> Skipped
 /// What a byte other than 00 is, behind so many zero bytes.
 fn kind_of(byte: u8, zeros: u8) -> Behind
     requires { byte ≡ 0 → ⊥ }
-    ensures value { (ended : Bool) (bytes : List ℕ) → parts ended (Padding zeros) (byte ∷ bytes) ≡ parts_behind result ended 0 bytes }
+    ensures value { (ended : Bool) (bytes : List ℕ)
+        → parts ended (Padding zeros) (byte ∷ bytes) ≡ parts_behind result ended 0 bytes }
     ensures some { result ≡ Nothing → ⊥ }
 {
     if byte == 1 && zeros >= 2 {

@@ -2,7 +2,8 @@
 
 ghost use Rattle.std.specs.Prelude.{◌≡◌, ◌++◌, ◌^◌, ◌<◌, ◌≤◌, OnOk, length};
 ghost use Rattle.std.specs.List.{count_by};
-ghost use Rattle.spec_output_order.specs.OutputOrder.{bumped, bumped_at_most, discarded, is_full, is_kept, is_needed_for_output, needs_bumping, not_needed_at};
+ghost use Rattle.spec_output_order.specs.OutputOrder.{bumped, bumped_at_most, discarded, is_full, is_kept};
+ghost use Rattle.spec_output_order.specs.OutputOrder.{is_needed_for_output, needs_bumping, not_needed_at};
 
 use crate::kept::is_kept;
 use crate::next_output::next_output;

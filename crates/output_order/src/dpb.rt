@@ -66,9 +66,15 @@ impl Dpb {
     /// before.
     pub fn start(&mut self, header: &SliceHeader, sps: &Sps, rps: &Rps) -> Result<Outputs, Refusal>
         requires anew { begins_anew header.now.kind ≡ true → count_by is_reference rps.now.marks ≡ 0 }
-        ensures value { (poc : ℤ) → GivesOutputs result (start_of (current_picture header.now sps.now poc) self.old.pictures rps.now.marks) }
-        ensures left { IfOk result (λ o. self.new ≡ record { pictures = o.dpb; started = Some (highest_ordering sps.now.sub_layer_ordering).max_num_reorder_pics }) }
-        ensures room { OnOk result (length self.new.pictures ≤ (highest_ordering sps.now.sub_layer_ordering).max_dec_pic_buffering_minus1) }
+        ensures value { (poc : ℤ)
+            → GivesOutputs result (start_of (current_picture header.now sps.now poc) self.old.pictures rps.now.marks) }
+        ensures left { IfOk result (λ o. self.new
+            ≡ record {
+              pictures = o.dpb;
+              started = Some (highest_ordering sps.now.sub_layer_ordering).max_num_reorder_pics;
+            }) }
+        ensures room { OnOk result
+            (length self.new.pictures ≤ (highest_ordering sps.now.sub_layer_ordering).max_dec_pic_buffering_minus1) }
         ensures err { OnErr result (self.new ≡ self.old) }
     {
         let current = current_picture(header.fields(), sps, 0);
@@ -84,7 +90,8 @@ impl Dpb {
         requires anew { current.begins_anew ≡ true → count_by is_reference marks.now ≡ 0 }
         requires buffering { current.ordering.max_dec_pic_buffering_minus1 ≤ 15 }
         ensures value { GivesOutputs result (start_of current self.old.pictures marks.now) }
-        ensures left { IfOk result (λ o. self.new ≡ record { pictures = o.dpb; started = Some current.ordering.max_num_reorder_pics }) }
+        ensures left { IfOk result
+            (λ o. self.new ≡ record { pictures = o.dpb; started = Some current.ordering.max_num_reorder_pics }) }
         ensures room { OnOk result (length self.new.pictures ≤ current.ordering.max_dec_pic_buffering_minus1) }
         ensures err { OnErr result (self.new ≡ self.old) }
     {
@@ -101,7 +108,9 @@ impl Dpb {
     /// before the call, and the picture itself by the place behind the last. After want of memory all is as before.
     pub fn place(&mut self, header: &SliceHeader, poc: i32) -> Result<Outputs, AllocError>
         requires started { self.old.started ≡ None → ⊥ }
-        ensures value { (reorder : ℕ) → self.old.started ≡ Some reorder → IfOk result (λ o. o ≡ place_outputs reorder (newest poc header.now.slice.pic_output_flag) self.old.pictures) }
+        ensures value { (reorder : ℕ) → self.old.started ≡ Some reorder
+            → IfOk result
+            (λ o. o ≡ place_outputs reorder (newest poc header.now.slice.pic_output_flag) self.old.pictures) }
         ensures left { IfOk result (λ o. self.new ≡ record { pictures = o.dpb; started = None }) }
         ensures err { OnErr result (self.new ≡ self.old) }
     {
@@ -112,7 +121,8 @@ impl Dpb {
     #[tactic(auto, using(crate::proofs::Sizes::one_less))]
     pub(crate) fn place_newest(&mut self, picture: DpbPicture) -> Result<Outputs, AllocError>
         requires started { self.old.started ≡ None → ⊥ }
-        ensures value { (reorder : ℕ) → self.old.started ≡ Some reorder → IfOk result (λ o. o ≡ place_outputs reorder picture self.old.pictures) }
+        ensures value { (reorder : ℕ) → self.old.started ≡ Some reorder
+            → IfOk result (λ o. o ≡ place_outputs reorder picture self.old.pictures) }
         ensures left { IfOk result (λ o. self.new ≡ record { pictures = o.dpb; started = None }) }
         ensures err { OnErr result (self.new ≡ self.old) }
     {

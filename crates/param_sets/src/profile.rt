@@ -3,7 +3,8 @@
 ghost use Rattle.std.specs.Prelude.{◌≡◌, ◌≤◌, true, false};
 ghost use Rattle.header_fields.specs.Takes.{Takes};
 ghost use Rattle.spec_formats.specs.Fields.{optional, repeated, each, u};
-ghost use Rattle.spec_parameter_sets.specs.ProfileTierLevel.{is_main, reserved_44bits, profile, sub_layer_flags, reserved_2bits, sub_layer, profile_tier_level};
+ghost use Rattle.spec_parameter_sets.specs.ProfileTierLevel.{is_main, reserved_44bits, profile, sub_layer_flags};
+ghost use Rattle.spec_parameter_sets.specs.ProfileTierLevel.{reserved_2bits, sub_layer, profile_tier_level};
 
 use header_fields::FieldReader;
 use header_types::{FieldList, Profile, ProfileTierLevel, SubLayerProfile};

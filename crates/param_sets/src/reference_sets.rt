@@ -5,7 +5,8 @@ ghost use Rattle.header_fields.specs.Takes.{Takes};
 ghost use Rattle.header_types.specs.ReferencePictures.{IsStRps};
 ghost use Rattle.header_types.specs.SequenceParameterSets.{IsLongTerm};
 ghost use Rattle.spec_formats.specs.Fields.{optional, repeated};
-ghost use Rattle.spec_parameter_sets.specs.SequenceParameterSet.{sets_behind, short_term_ref_pic_sets, long_term_candidate, long_term_candidates};
+ghost use Rattle.spec_parameter_sets.specs.SequenceParameterSet.{sets_behind, short_term_ref_pic_sets};
+ghost use Rattle.spec_parameter_sets.specs.SequenceParameterSet.{long_term_candidate, long_term_candidates};
 
 use header_fields::FieldReader;
 use header_types::{FieldList, LongTermCandidate, StRps};

@@ -1,10 +1,13 @@
 //! Scaling lists (7.3.4, 7.4.5).
 
-ghost use Rattle.std.specs.Prelude.{◌≡◌, ℕ, ◌≤◌, ◌<◌, ℤ, pos, neg_ℤ, ◌≤ℤ◌, Bool, List, length, IfOk, IfSome, if◌then◌else◌, nat_lt};
+ghost use Rattle.std.specs.Prelude.{◌≡◌, ℕ, ◌≤◌, ◌<◌, ℤ, pos, neg_ℤ, ◌≤ℤ◌, Bool, List, length, IfOk, IfSome};
+ghost use Rattle.std.specs.Prelude.{if◌then◌else◌, nat_lt};
 ghost use Rattle.header_fields.specs.Takes.{Takes};
 ghost use Rattle.spec_formats.specs.Fields.{optional};
 ghost use Rattle.header_types.specs.Scaling.{IsScalingLists};
-ghost use Rattle.spec_parameter_sets.specs.Scaling.{default_factors, default_list, predicted_list, next_coef, coded_factor, coded_factors, coded_dc, coded_list, scaling_list, list_count, coef_num, lists_of, scaling_list_data};
+ghost use Rattle.spec_parameter_sets.specs.Scaling.{default_factors, default_list, predicted_list, next_coef};
+ghost use Rattle.spec_parameter_sets.specs.Scaling.{coded_factor, coded_factors, coded_dc, coded_list, scaling_list};
+ghost use Rattle.spec_parameter_sets.specs.Scaling.{list_count, coef_num, lists_of, scaling_list_data};
 
 use header_fields::FieldReader;
 use header_types::{FieldList, ScalingList, ScalingLists};

@@ -5,7 +5,8 @@ ghost use Rattle.header_fields.specs.Takes.{Takes};
 ghost use Rattle.header_types.specs.Scaling.{IsScalingLists};
 ghost use Rattle.header_types.specs.SequenceParameterSets.{IsSps};
 ghost use Rattle.spec_formats.specs.Fields.{Parses};
-ghost use Rattle.spec_parameter_sets.specs.SequenceParameterSet.{scaling_lists, sequence_parameter_set, sequence_parameter_set_of};
+ghost use Rattle.spec_parameter_sets.specs.SequenceParameterSet.{scaling_lists, sequence_parameter_set};
+ghost use Rattle.spec_parameter_sets.specs.SequenceParameterSet.{sequence_parameter_set_of};
 
 use crate::block_sizes::{read_block_sizes, read_pcm_format};
 use crate::picture_format::read_picture_format;

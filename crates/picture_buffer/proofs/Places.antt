@@ -1,5 +1,6 @@
 -- The motion of a place.
-use Rattle.std.proofs.Common.{◌≡◌, ℕ, ◌+◌, ◌*◌, ◌<◌, ◌≤◌, ◌==◌, ◌&&◌, cond, List, Option, None, inl, inr, length, slice_set, arith}
+use Rattle.std.proofs.Common.{◌≡◌, ℕ, ◌+◌, ◌*◌, ◌<◌, ◌≤◌, ◌==◌, ◌&&◌, cond, List, Option, None, inl, inr, length}
+use Rattle.std.proofs.Common.{slice_set, arith}
 use Rattle.std.proofs.lemmas.Bool.{cases_lt}
 use Rattle.std.proofs.lemmas.Bool.Decides.{nat_tests}
 use Rattle.std.proofs.lemmas.List.{get_or-set_same, get_or-set_other}
@@ -21,8 +22,10 @@ cells_differ n x y i j hx hi e = elim (cases_lt j y) [
   ]
 ]
 
-pub put_at : (across down x y : ℕ) (places : List (Option PlaceMotion)) (motion : Option PlaceMotion) → length places ≡ across * down → x < across → y < down
-    → (i j : ℕ) → motions_of (record { across = across; down = down; places = slice_set places (across * y + x) motion }) i j
+pub put_at : (across down x y : ℕ) (places : List (Option PlaceMotion)) (motion : Option PlaceMotion)
+    → length places ≡ across * down → x < across → y < down
+    → (i j : ℕ)
+    → motions_of (record { across = across; down = down; places = slice_set places (across * y + x) motion }) i j
     ≡ cond (i == x && j == y) motion (motions_of (record { across = across; down = down; places = places }) i j)
 unfolding motions_of
 put_at across down x y places motion count hx hy i j =

@@ -1,5 +1,6 @@
 -- The motion of a picture by column and row of places, each a block of 4x4 luma samples (8.5.3.2).
-use Rattle.std.specs.Prelude.{◌≡◌, ℕ, ◌+◌, ◌*◌, ◌≤◌, ◌&&◌, nat_lt, List, length, slice_index_or, Option, None, if◌then◌else◌}
+use Rattle.std.specs.Prelude.{◌≡◌, ℕ, ◌+◌, ◌*◌, ◌≤◌, ◌&&◌, nat_lt, List, length, slice_index_or, Option, None}
+use Rattle.std.specs.Prelude.{if◌then◌else◌}
 use Rattle.picture_buffer.specs.declared.place_motion.PlaceMotion.{PlaceMotion}
 
 -- a picture's places, row after row: None where a place is predicted in intra mode
@@ -16,7 +17,9 @@ pub record IsField (across down : ℕ) (places : List (Option PlaceMotion)) : Ty
 
 -- the motion of a place; None outside the picture
 unfoldable pub motions_of : FieldPlaces → ℕ → ℕ → Option PlaceMotion
-motions_of field x y = if nat_lt x field.across && nat_lt y field.down then slice_index_or field.places (field.across * y + x) None else None
+motions_of field x y =
+    if nat_lt x field.across && nat_lt y field.down then slice_index_or field.places (field.across * y + x) None
+    else None
 
 -- a field of so many places across and down
 pub record HasPlaces (field : FieldPlaces) (across down : ℕ) : Type 0 where

@@ -21,19 +21,22 @@ pub record IsPlane (width height : ℕ) (samples : List ℕ) : Type 0 where
 
 -- the sample in a column of a row; 0 outside the plane
 unfoldable pub plane_at : PlaneSamples → ℕ → ℕ → ℕ
-plane_at plane x y = if nat_lt x plane.width && nat_lt y plane.height then slice_index plane.samples (plane.width * y + x) else 0
+plane_at plane x y =
+    if nat_lt x plane.width && nat_lt y plane.height then slice_index plane.samples (plane.width * y + x) else 0
 
 -- the sides of a component's plane, in samples; 0 past the third component
 abbrev pub plane_width : PictureSamples → ℕ → ℕ
 plane_width p c = if c == 0 then p.luma.width else (if c == 1 then p.cb.width else (if c == 2 then p.cr.width else 0))
 
 abbrev pub plane_height : PictureSamples → ℕ → ℕ
-plane_height p c = if c == 0 then p.luma.height else (if c == 1 then p.cb.height else (if c == 2 then p.cr.height else 0))
+plane_height p c =
+    if c == 0 then p.luma.height else (if c == 1 then p.cb.height else (if c == 2 then p.cr.height else 0))
 
 -- the sample of a component in a column of a row; 0 outside the picture
 unfoldable pub samples_of : PictureSamples → ℕ → ℕ → ℕ → ℕ
 samples_of p c x y =
-    if c == 0 then plane_at p.luma x y else (if c == 1 then plane_at p.cb x y else (if c == 2 then plane_at p.cr x y else 0))
+    if c == 0 then plane_at p.luma x y
+    else (if c == 1 then plane_at p.cb x y else (if c == 2 then plane_at p.cr x y else 0))
 
 -- a picture of these luma sides, whose chroma has half as many samples across and down
 pub record HasSides (p : PictureSamples) (width height : ℕ) : Type 0 where

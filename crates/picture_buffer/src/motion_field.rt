@@ -1,6 +1,7 @@
 //! The motion of a picture.
 
-ghost use Rattle.std.specs.Prelude.{◌≡◌, ℕ, ◌+◌, ◌-◌, ◌*◌, ◌<◌, ◌≤◌, ◌==◌, ◌&&◌, nat_le, nat_lt, length, slice_index_or, IfOk, None, if◌then◌else◌};
+ghost use Rattle.std.specs.Prelude.{◌≡◌, ℕ, ◌+◌, ◌-◌, ◌*◌, ◌<◌, ◌≤◌, ◌==◌, ◌&&◌, nat_le, nat_lt, length};
+ghost use Rattle.std.specs.Prelude.{slice_index_or, IfOk, None, if◌then◌else◌};
 ghost use Rattle.picture_buffer.specs.Motion.{HasPlaces, motions_of};
 
 use crate::place_motion::PlaceMotion;
@@ -83,7 +84,8 @@ impl MotionField {
         requires column { x < self.old.across }
         requires row { y < self.old.down }
         ensures sides { (across down : ℕ) → HasPlaces self.old across down → HasPlaces self.new across down }
-        ensures places { (i j : ℕ) → motions_of self.new i j ≡ (if i == x && j == y then motion else motions_of self.old i j) }
+        ensures places { (i j : ℕ)
+            → motions_of self.new i j ≡ (if i == x && j == y then motion else motions_of self.old i j) }
     {
         let place = self.across as usize * y + x;
         self.places[place] = motion;

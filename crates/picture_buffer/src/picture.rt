@@ -26,7 +26,8 @@ impl Model for Picture {
 
     ghost view = { λ p. record { format = p.format; planes = p.planes; motion = p.motion } };
 
-    ghost invariant = { λ p. HasSides p.planes p.format.pic_width_in_luma_samples p.format.pic_height_in_luma_samples × IsPictureFormat p.format };
+    ghost invariant = { λ p. HasSides p.planes p.format.pic_width_in_luma_samples p.format.pic_height_in_luma_samples
+        × IsPictureFormat p.format };
 }
 
 impl Picture {
@@ -54,7 +55,8 @@ impl Picture {
     /// Its samples.
     pub fn planes(&self) -> &Planes
         ensures value { result.now ≡ self.now.planes }
-        ensures sides { HasSides self.now.planes self.now.format.pic_width_in_luma_samples self.now.format.pic_height_in_luma_samples }
+        ensures sides { HasSides self.now.planes self.now.format.pic_width_in_luma_samples
+            self.now.format.pic_height_in_luma_samples }
     {
         &self.planes
     }
@@ -70,7 +72,8 @@ impl Picture {
     pub fn into_parts(self) -> (Planes, MotionField)
         ensures planes { result.0 ≡ self.planes }
         ensures motion { result.1 ≡ self.motion }
-        ensures sides { HasSides self.planes self.format.pic_width_in_luma_samples self.format.pic_height_in_luma_samples }
+        ensures sides { HasSides self.planes self.format.pic_width_in_luma_samples
+            self.format.pic_height_in_luma_samples }
         ensures format { IsPictureFormat self.format }
     {
         (self.planes, self.motion)

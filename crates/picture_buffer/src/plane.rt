@@ -1,6 +1,7 @@
 //! The samples of one component.
 
-ghost use Rattle.std.specs.Prelude.{◌≡◌, ℕ, ◌+◌, ◌-◌, ◌*◌, ◌<◌, ◌≤◌, ◌==◌, ◌&&◌, nat_le, nat_lt, length, IfOk, slice_index, slice_index_or, if◌then◌else◌};
+ghost use Rattle.std.specs.Prelude.{◌≡◌, ℕ, ◌+◌, ◌-◌, ◌*◌, ◌<◌, ◌≤◌, ◌==◌, ◌&&◌, nat_le, nat_lt, length, IfOk};
+ghost use Rattle.std.specs.Prelude.{slice_index, slice_index_or, if◌then◌else◌};
 ghost use Rattle.picture_buffer.specs.Planes.{plane_at};
 
 use std::alloc::{AllocError, Global};
@@ -85,7 +86,9 @@ impl Plane {
         requires row { y < self.old.height }
         ensures width { self.new.width ≡ self.old.width }
         ensures height { self.new.height ≡ self.old.height }
-        ensures samples { (i j : ℕ) → plane_at self.new i j ≡ (if j == y && (nat_le x i && nat_lt i (x + length samples.now)) then slice_index samples.now (i - x) else plane_at self.old i j) }
+        ensures samples { (i j : ℕ) → plane_at self.new i j
+            ≡ (if j == y && (nat_le x i && nat_lt i (x + length samples.now)) then slice_index samples.now (i - x)
+            else plane_at self.old i j) }
     {
         let first = self.width as usize * y as usize + x as usize;
         self.samples[first..first + samples.len()].copy_from_slice(samples);

@@ -1,6 +1,7 @@
 //! The samples of a picture.
 
-ghost use Rattle.std.specs.Prelude.{◌≡◌, ℕ, ◌+◌, ◌-◌, ◌*◌, ◌<◌, ◌≤◌, ◌==◌, ◌&&◌, nat_le, nat_lt, length, IfOk, slice_index, slice_index_or, if◌then◌else◌};
+ghost use Rattle.std.specs.Prelude.{◌≡◌, ℕ, ◌+◌, ◌-◌, ◌*◌, ◌<◌, ◌≤◌, ◌==◌, ◌&&◌, nat_le, nat_lt, length, IfOk};
+ghost use Rattle.std.specs.Prelude.{slice_index, slice_index_or, if◌then◌else◌};
 ghost use Rattle.picture_buffer.specs.Planes.{samples_of, plane_width, plane_height, HasSides};
 
 use crate::plane::Plane;
@@ -80,7 +81,8 @@ impl Planes {
         requires component { c < 3 }
         requires row { y < plane_height self.now c }
         ensures count { length result.now ≡ plane_width self.now c }
-        ensures samples { (x : ℕ) → x < plane_width self.now c → slice_index_or result.now x 0 ≡ samples_of self.now c x y }
+        ensures samples { (x : ℕ) → x < plane_width self.now c
+            → slice_index_or result.now x 0 ≡ samples_of self.now c x y }
     {
         match c {
             0 => self.luma.row(y),
@@ -96,7 +98,10 @@ impl Planes {
         requires columns { x + length samples.now ≤ plane_width self.old c }
         requires row { y < plane_height self.old c }
         ensures sides { (w h : ℕ) → HasSides self.old w h → HasSides self.new w h }
-        ensures samples { (i j k : ℕ) → samples_of self.new i j k ≡ (if i == c && (k == y && (nat_le x j && nat_lt j (x + length samples.now))) then slice_index samples.now (j - x) else samples_of self.old i j k) }
+        ensures samples { (i j k : ℕ) → samples_of self.new i j k
+            ≡ (if i == c && (k == y && (nat_le x j && nat_lt j (x + length samples.now)))
+            then slice_index samples.now (j - x)
+            else samples_of self.old i j k) }
     {
         match c {
             0 => self.luma.lay(x, y, samples),

@@ -1,5 +1,6 @@
 -- A unit is added to a picture.
-use Rattle.std.proofs.Common.{◌≡◌, ℕ, zero, suc, ◌+◌, ◌-◌, ◌*◌, ◌/◌, ◌^◌, ◌<◌, ◌≤◌, ◌==◌, Bool, true, false, List, refl, sym, ap, subst, ◌∙◌, if◌then◌else◌, arith}
+use Rattle.std.proofs.Common.{◌≡◌, ℕ, zero, suc, ◌+◌, ◌-◌, ◌*◌, ◌/◌, ◌^◌, ◌<◌, ◌≤◌, ◌==◌, Bool, true, false, List, refl}
+use Rattle.std.proofs.Common.{sym, ap, subst, ◌∙◌, if◌then◌else◌, arith}
 use Rattle.std.specs.Option.{unwrap_or}
 use Rattle.std.proofs.Math.Nat.{mul-le-mul_left}
 use Rattle.std.proofs.Math.Path.{fun_ext}
@@ -24,7 +25,8 @@ use Rattle.spec_picture_motion.specs.Derived.{known_of_unit}
 use Rattle.spec_picture_motion.specs.Derived as derived
 use Rattle.spec_picture_motion.specs.Field.{Motions, first_column, first_row}
 use Rattle.spec_picture_motion.specs.Slices.{slice_motion}
-use Rattle.spec_picture_samples.specs.Border.{Samples, has_sample, height_of, known_beside, unit_column, unit_line, unit_of_sample, unit_side, width_of}
+use Rattle.spec_picture_samples.specs.Border.{Samples, has_sample, height_of, known_beside, unit_column, unit_line}
+use Rattle.spec_picture_samples.specs.Border.{unit_of_sample, unit_side, width_of}
 use Rattle.spec_picture_samples.specs.Built.{BuiltPicture, is_of_unit, samples_added, unit_added, unit_inter, unit_laid}
 use Rattle.spec_picture_samples.specs.Format.{unit_format}
 use Rattle.spec_picture_samples.specs.References.{DecodedPicture, motions_of, pictures_of}
@@ -41,24 +43,32 @@ use Rattle.picture_build.proofs.Places.{row_is}
 use Rattle.picture_build.proofs.Planes.{covered}
 
 -- what inter prediction depends on
-pub inter_is : (buffer : List DecodedPicture) (p : PicturePlan) (s : SegmentPlan) (unit : TreeUnit) (motions : Motions) (known : motion.Known) (slice : SliceMotion) (weighting : SliceWeighting) (column row : ℕ)
-    → known ≡ known_of_unit (motions_of buffer) p s unit motions → slice ≡ slice_motion p s unit.ctu → weighting ≡ slice_weighting s.header.slice.inter
+pub inter_is : (buffer : List DecodedPicture) (p : PicturePlan) (s : SegmentPlan) (unit : TreeUnit) (motions : Motions)
+    (known : motion.Known) (slice : SliceMotion) (weighting : SliceWeighting) (column row : ℕ)
+    → known ≡ known_of_unit (motions_of buffer) p s unit motions → slice ≡ slice_motion p s unit.ctu
+    → weighting ≡ slice_weighting s.header.slice.inter
     → column ≡ first_column (picture_shape p.sps p.pps) unit.ctu → row ≡ first_row (picture_shape p.sps p.pps) unit.ctu
     → inter_unit known slice weighting (pictures_of buffer) column row ≡ unit_inter buffer p s unit motions
 unfolding unit_inter
 inter_is buffer p s unit motions known slice weighting column row ek es ew ec er = rw (ek, es, ew, ec, er) refl
 
 -- the samples of a unit
-pub samples_are : (inter : InterUnit) (p : PicturePlan) (s : SegmentPlan) (unit : TreeUnit) (picture : PictureShape) (slice : ℕ) (format : UnitFormat) (beside built : Known) (old new : Samples)
-    → picture ≡ picture_shape p.sps p.pps → slice ≡ address_of (slice_start p s) → format ≡ unit_format p.sps p.pps s.header.slice
-    → beside ≡ known_beside picture slice unit.ctu old → built ≡ unit_built format inter unit.read.items beside → new ≡ unit_laid picture unit.ctu built old
+pub samples_are : (inter : InterUnit) (p : PicturePlan) (s : SegmentPlan) (unit : TreeUnit) (picture : PictureShape)
+    (slice : ℕ) (format : UnitFormat) (beside built : Known) (old new : Samples)
+    → picture ≡ picture_shape p.sps p.pps → slice ≡ address_of (slice_start p s)
+    → format ≡ unit_format p.sps p.pps s.header.slice
+    → beside ≡ known_beside picture slice unit.ctu old → built ≡ unit_built format inter unit.read.items beside
+    → new ≡ unit_laid picture unit.ctu built old
     → new ≡ samples_added inter p s unit old
 unfolding samples_added
-samples_are inter p s unit picture slice format beside built old new ep es ef ek eb en = rw (en, eb, ek, ef, es, ep) refl
+samples_are inter p s unit picture slice format beside built old new ep es ef ek eb en =
+    rw (en, eb, ek, ef, es, ep) refl
 
 -- a picture that a unit is added to, by its parts
-pub added_is : (buffer : List DecodedPicture) (p : PicturePlan) (s : SegmentPlan) (unit : TreeUnit) (built : BuiltPicture) (samples : Samples) (motions : Motions)
-    → samples ≡ samples_added (unit_inter buffer p s unit built.motions) p s unit built.samples → motions ≡ derived.unit_added (motions_of buffer) p s unit built.motions
+pub added_is : (buffer : List DecodedPicture) (p : PicturePlan) (s : SegmentPlan) (unit : TreeUnit)
+    (built : BuiltPicture) (samples : Samples) (motions : Motions)
+    → samples ≡ samples_added (unit_inter buffer p s unit built.motions) p s unit built.samples
+    → motions ≡ derived.unit_added (motions_of buffer) p s unit built.motions
     → record { samples = samples; motions = motions } ≡ unit_added buffer p s unit built
 unfolding unit_added
 added_is buffer p s unit built samples motions es em = same_picture _ _ _ _ es em
@@ -72,10 +82,12 @@ some_samples c = either (c == 0)
 
 some_side : (size : ℕ) → 1 ≤ 2 ^ size
 some_side zero = omega arith
-some_side (suc size) = let one = some_side size in let e : 2 ^ suc size ≡ 2 * 2 ^ size = grind arith in omega (arith, one, e)
+some_side (suc size) =
+    let one = some_side size in let e : 2 ^ suc size ≡ 2 * 2 ^ size = grind arith in omega (arith, one, e)
 
 -- a unit below the picture has none of its samples
-none_below : (picture : PictureShape) (a c x y : ℕ) → IsShape picture → picture.down ≤ first_row picture a → (t : Bool) → is_of_unit picture a c x y ≡ t → is_of_unit picture a c x y ≡ false
+none_below : (picture : PictureShape) (a c x y : ℕ) → IsShape picture → picture.down ≤ first_row picture a
+    → (t : Bool) → is_of_unit picture a c x y ≡ t → is_of_unit picture a c x y ≡ false
 unfolding has_sample unit_of_sample
 none_below picture a c x y shape past false e = e
 none_below picture a c x y shape past true e =
@@ -95,41 +107,66 @@ none_below picture a c x y shape past true e =
     let whole : scale * (2 ^ picture.size * (a / w)) ≡ n * (a / w) = grind arith in
     absurd (omega (arith, lower, more, whole, same, begins))
 
-pub laid_below : (picture : PictureShape) (a : ℕ) (known : Known) (samples : Samples) → IsShape picture → picture.down ≤ first_row picture a → samples ≡ unit_laid picture a known samples
+pub laid_below : (picture : PictureShape) (a : ℕ) (known : Known) (samples : Samples) → IsShape picture
+    → picture.down ≤ first_row picture a → samples ≡ unit_laid picture a known samples
 unfolding unit_laid
 laid_below picture a known samples shape past = fun_ext (λ c. fun_ext (λ x. fun_ext (λ y. at c x y)))
   where
     at : (c x y : ℕ) → samples c x y ≡ unit_laid picture a known samples c x y
-    at c x y = sym (ap (λ (t : Bool). if t then unwrap_or (known c (x - unit_column picture c a + 1) (y - unit_line picture c a + 1)) 0 else samples c x y) (none_below picture a c x y shape past (is_of_unit picture a c x y) refl))
+    at c x y =
+        sym (ap
+        (λ (t : Bool). if t then unwrap_or (known c (x - unit_column picture c a + 1) (y - unit_line picture c a + 1)) 0
+        else samples c x y)
+        (none_below picture a c x y shape past (is_of_unit picture a c x y) refl))
 
-pub samples_below : (inter : InterUnit) (p : PicturePlan) (s : SegmentPlan) (unit : TreeUnit) (picture : PictureShape) (samples : Samples) → picture ≡ picture_shape p.sps p.pps → IsShape picture → picture.down ≤ first_row picture unit.ctu
+pub samples_below : (inter : InterUnit) (p : PicturePlan) (s : SegmentPlan) (unit : TreeUnit) (picture : PictureShape)
+    (samples : Samples)
+    → picture ≡ picture_shape p.sps p.pps → IsShape picture → picture.down ≤ first_row picture unit.ctu
     → samples ≡ samples_added inter p s unit samples
 unfolding samples_added
 samples_below inter p s unit picture samples ep shape past =
-    laid_below picture unit.ctu (unit_built (unit_format p.sps p.pps s.header.slice) inter unit.read.items (known_beside (picture_shape p.sps p.pps) (address_of (slice_start p s)) unit.ctu samples)) samples shape past
-    ∙ ap (λ (q : PictureShape). unit_laid q unit.ctu (unit_built (unit_format p.sps p.pps s.header.slice) inter unit.read.items (known_beside (picture_shape p.sps p.pps) (address_of (slice_start p s)) unit.ctu samples)) samples) ep
+    laid_below picture unit.ctu
+    (unit_built (unit_format p.sps p.pps s.header.slice) inter unit.read.items
+    (known_beside (picture_shape p.sps p.pps) (address_of (slice_start p s)) unit.ctu samples))
+    samples shape past
+    ∙ ap (λ (q : PictureShape). unit_laid q unit.ctu
+    (unit_built (unit_format p.sps p.pps s.header.slice) inter unit.read.items
+    (known_beside (picture_shape p.sps p.pps) (address_of (slice_start p s)) unit.ctu samples))
+    samples)
+    ep
 
 -- a unit with samples is added
-pub unit_is : (bases pictures : List HeldPicture) (p : PicturePlan) (s : SegmentPlan) (unit : TreeUnit) (layout : PictureShape) (slice : ℕ) (format : UnitFormat) (beside built : Known) (old : BuiltPicture) (new : Samples) (last : motion.Known) (motions : Motions)
-    → bases ≡ pictures → layout ≡ picture_shape p.sps p.pps → slice ≡ address_of (slice_start p s) → format ≡ unit_format p.sps p.pps s.header.slice → AreSound (unit_format p.sps p.pps s.header.slice) unit.read.items
+pub unit_is : (bases pictures : List HeldPicture) (p : PicturePlan) (s : SegmentPlan) (unit : TreeUnit)
+    (layout : PictureShape) (slice : ℕ) (format : UnitFormat) (beside built : Known) (old : BuiltPicture)
+    (new : Samples) (last : motion.Known) (motions : Motions)
+    → bases ≡ pictures → layout ≡ picture_shape p.sps p.pps → slice ≡ address_of (slice_start p s)
+    → format ≡ unit_format p.sps p.pps s.header.slice
+    → AreSound (unit_format p.sps p.pps s.header.slice) unit.read.items
     → (All IsPlacedItem unit.read.items → last ≡ known_of_unit (motions_of (buffer_of bases)) p s unit old.motions)
-    → (All IsPlacedItem unit.read.items → motions ≡ derived.unit_added (motions_of (buffer_of bases)) p s unit old.motions)
+    → (All IsPlacedItem unit.read.items
+    → motions ≡ derived.unit_added (motions_of (buffer_of bases)) p s unit old.motions)
     → beside ≡ known_beside layout slice unit.ctu old.samples
-    → (AreSound format unit.read.items → last ≡ known_of_unit (motions_of (buffer_of bases)) p s unit old.motions → built ≡ unit_built format (unit_inter (buffer_of bases) p s unit old.motions) unit.read.items beside)
+    → (AreSound format unit.read.items → last ≡ known_of_unit (motions_of (buffer_of bases)) p s unit old.motions
+    → built ≡ unit_built format (unit_inter (buffer_of bases) p s unit old.motions) unit.read.items beside)
     → new ≡ unit_laid layout unit.ctu built old.samples
     → record { samples = new; motions = motions } ≡ unit_added (buffer_of pictures) p s unit old
-unit_is bases pictures p s unit layout slice format beside built old new last motions e ep es ef sound told moved ek eb en =
+unit_is bases pictures p s unit layout slice format beside built old new last motions e ep es ef sound
+    told moved ek eb en =
     let placed = all_placed (unit_format p.sps p.pps s.header.slice) unit.read.items sound in
     let same : AreSound format unit.read.items = subst (λ f. AreSound f unit.read.items) (sym ef) sound in
     added_is (buffer_of bases) p s unit old new motions
-    (samples_are (unit_inter (buffer_of bases) p s unit old.motions) p s unit layout slice format beside built old.samples new ep es ef ek (eb same (told placed)) en)
+    (samples_are (unit_inter (buffer_of bases) p s unit old.motions) p s unit layout slice format beside built
+    old.samples new ep es ef ek (eb same (told placed)) en)
     (moved placed)
     ∙ ap (λ b. unit_added (buffer_of b) p s unit old) e
 
 -- and one without
-pub unit_below : (bases pictures : List HeldPicture) (p : PicturePlan) (s : SegmentPlan) (unit : TreeUnit) (layout : PictureShape) (old : BuiltPicture) (motions : Motions)
-    → bases ≡ pictures → layout ≡ picture_shape p.sps p.pps → AreSound (unit_format p.sps p.pps s.header.slice) unit.read.items
-    → (All IsPlacedItem unit.read.items → motions ≡ derived.unit_added (motions_of (buffer_of bases)) p s unit old.motions)
+pub unit_below : (bases pictures : List HeldPicture) (p : PicturePlan) (s : SegmentPlan) (unit : TreeUnit)
+    (layout : PictureShape) (old : BuiltPicture) (motions : Motions)
+    → bases ≡ pictures → layout ≡ picture_shape p.sps p.pps
+    → AreSound (unit_format p.sps p.pps s.header.slice) unit.read.items
+    → (All IsPlacedItem unit.read.items
+    → motions ≡ derived.unit_added (motions_of (buffer_of bases)) p s unit old.motions)
     → IsShape layout → layout.down ≤ first_row layout unit.ctu
     → record { samples = old.samples; motions = motions } ≡ unit_added (buffer_of pictures) p s unit old
 unit_below bases pictures p s unit layout old motions e ep sound moved shape past =

@@ -29,51 +29,62 @@ same_behind : (m n : Motions) (f g : FilterData) → m ≡ n → f ≡ g → of_
 same_behind m n f g em eg = ap (λ v. of_parts v f) em ∙ ap (λ v. of_parts n v) eg
 
 -- before the first unit
-pub behind_none : (pictures : References) (p : PicturePlan) (motions : Motions) (gathered : FilterData) → motions ≡ no_motions → gathered ≡ no_data → of_parts motions gathered ≡ units_behind pictures p []
+pub behind_none : (pictures : References) (p : PicturePlan) (motions : Motions) (gathered : FilterData)
+    → motions ≡ no_motions → gathered ≡ no_data → of_parts motions gathered ≡ units_behind pictures p []
 unfolding units_behind
 behind_none pictures p motions gathered still empty = same_behind motions no_motions gathered no_data still empty
 
 -- behind one unit more
-pub behind_more : (pictures : References) (p : PicturePlan) (old : Behind) (given : List TreeUnit) (unit : TreeUnit) → old ≡ units_behind pictures p given
+pub behind_more : (pictures : References) (p : PicturePlan) (old : Behind) (given : List TreeUnit) (unit : TreeUnit)
+    → old ≡ units_behind pictures p given
     → with_unit pictures p old unit ≡ units_behind pictures p (given ++ unit ∷ [])
 unfolding units_behind
-behind_more pictures p old given unit e = ap (λ b. with_unit pictures p b unit) e ∙ sym (fold-append (with_unit pictures p) before_units given (unit ∷ []))
+behind_more pictures p old given unit e =
+    ap (λ b. with_unit pictures p b unit) e ∙ sym (fold-append (with_unit pictures p) before_units given (unit ∷ []))
 
 -- a unit of a segment of the picture, and one of none
-pub added_some : (pictures : References) (p : PicturePlan) (behind : Behind) (unit : TreeUnit) (s : SegmentPlan) → slice_get p.segments unit.segment ≡ Some s
+pub added_some : (pictures : References) (p : PicturePlan) (behind : Behind) (unit : TreeUnit) (s : SegmentPlan)
+    → slice_get p.segments unit.segment ≡ Some s
     → added_in pictures p (Some s) unit behind ≡ with_unit pictures p behind unit
 added_some pictures p behind unit s e = ap (λ (o : Option SegmentPlan). added_in pictures p o unit behind) (sym e)
 
-pub added_none : (pictures : References) (p : PicturePlan) (behind : Behind) (unit : TreeUnit) → slice_get p.segments unit.segment ≡ None → behind ≡ with_unit pictures p behind unit
+pub added_none : (pictures : References) (p : PicturePlan) (behind : Behind) (unit : TreeUnit)
+    → slice_get p.segments unit.segment ≡ None → behind ≡ with_unit pictures p behind unit
 added_none pictures p behind unit e = ap (λ (o : Option SegmentPlan). added_in pictures p o unit behind) (sym e)
 
 -- Qp'Y of items that are sound fits in 7 bits
-few_parameters : (format : UnitFormat) (items : List Item) → IsDepth format.luma_depth → AreSound format items → (i j : ℕ) → qp_at items i j ≤ 127
+few_parameters : (format : UnitFormat) (items : List Item) → IsDepth format.luma_depth → AreSound format items
+    → (i j : ℕ) → qp_at items i j ≤ 127
 few_parameters format items depth sound i j =
     let most = sound.parameters i j in
     let deep = depth.1 in
     omega (arith, most, deep)
 
 -- behind a unit of a segment
-behind_over : (pictures : References) (p q : PicturePlan) (s : SegmentPlan) (unit : TreeUnit) (format : UnitFormat) (old : Behind) (motions now : Motions) (gathered : FilterData)
+behind_over : (pictures : References) (p q : PicturePlan) (s : SegmentPlan) (unit : TreeUnit) (format : UnitFormat)
+    (old : Behind) (motions now : Motions) (gathered : FilterData)
     → q ≡ p → now ≡ motions → IsDepth format.luma_depth → AreSound format unit.read.items
     → (All IsPlacedItem unit.read.items → motions ≡ motion_added pictures p s unit old.motions)
-    → (All IsPlacedItem unit.read.items → ((i j : ℕ) → qp_at unit.read.items i j ≤ 127) → gathered ≡ read_added q s unit.ctu unit.read now old.gathered)
+    → (All IsPlacedItem unit.read.items → ((i j : ℕ) → qp_at unit.read.items i j ≤ 127)
+    → gathered ≡ read_added q s unit.ctu unit.read now old.gathered)
     → of_parts motions gathered ≡ added_in pictures p (Some s) unit old
 unfolding both_added
 behind_over pictures p q s unit format old motions now gathered e same depth sound moved told =
     let placed = all_placed format unit.read.items sound in
     let motion = moved placed in
-    same_behind motions (motion_added pictures p s unit old.motions) gathered (read_added p s unit.ctu unit.read (motion_added pictures p s unit old.motions) old.gathered)
+    same_behind motions (motion_added pictures p s unit old.motions) gathered
+    (read_added p s unit.ctu unit.read (motion_added pictures p s unit old.motions) old.gathered)
     motion
     (told placed (few_parameters format unit.read.items depth sound)
     ∙ ap (λ r. read_added r s unit.ctu unit.read now old.gathered) e
     ∙ ap (λ m. read_added p s unit.ctu unit.read m old.gathered) (same ∙ motion))
 
-pub behind_unit : (bases pictures : List HeldPicture) (p q : PicturePlan) (s : SegmentPlan) (unit : TreeUnit) (format : UnitFormat) (old : Behind) (motions now : Motions) (gathered : FilterData)
+pub behind_unit : (bases pictures : List HeldPicture) (p q : PicturePlan) (s : SegmentPlan) (unit : TreeUnit)
+    (format : UnitFormat) (old : Behind) (motions now : Motions) (gathered : FilterData)
     → bases ≡ pictures → q ≡ p → now ≡ motions → IsDepth format.luma_depth → AreSound format unit.read.items
     → (All IsPlacedItem unit.read.items → motions ≡ motion_added (motions_of (buffer_of bases)) p s unit old.motions)
-    → (All IsPlacedItem unit.read.items → ((i j : ℕ) → qp_at unit.read.items i j ≤ 127) → gathered ≡ read_added q s unit.ctu unit.read now old.gathered)
+    → (All IsPlacedItem unit.read.items → ((i j : ℕ) → qp_at unit.read.items i j ≤ 127)
+    → gathered ≡ read_added q s unit.ctu unit.read now old.gathered)
     → of_parts motions gathered ≡ added_in (motions_of (buffer_of pictures)) p (Some s) unit old
 behind_unit bases pictures p q s unit format old motions now gathered eb e same depth sound moved told =
     behind_over (motions_of (buffer_of bases)) p q s unit format old motions now gathered e same depth sound moved told

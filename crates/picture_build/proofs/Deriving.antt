@@ -2,9 +2,11 @@
 use Rattle.std.proofs.Common.{◌≡◌, ℕ, ◌≤◌, List, Option, get_or, option_map, ap, sym, arith}
 use Rattle.std.specs.List.{All}
 use Rattle.ctu_records.specs.declared.item.Item.{Item}
-use Rattle.ctu_records.specs.declared.item.Item.TheVariants.{Unit, Luma, Chroma, Prediction, Pcm, Sample, Transform, Delta, Block, Level}
+use Rattle.ctu_records.specs.declared.item.Item.TheVariants.{Unit, Luma, Chroma, Prediction, Pcm, Sample, Transform}
+use Rattle.ctu_records.specs.declared.item.Item.TheVariants.{Delta, Block, Level}
 use Rattle.ctu_records.specs.declared.prediction.PartMode.{PartMode}
-use Rattle.ctu_records.specs.declared.prediction.PartMode.TheVariants.{Whole, TwoNxN, Nx2N, NxN, TwoNxnU, TwoNxnD, NLx2N, NRx2N}
+use Rattle.ctu_records.specs.declared.prediction.PartMode.TheVariants.{Whole, TwoNxN, Nx2N, NxN, TwoNxnU, TwoNxnD}
+use Rattle.ctu_records.specs.declared.prediction.PartMode.TheVariants.{NLx2N, NRx2N}
 use Rattle.ctu_records.specs.declared.prediction.PredictionUnit.{PredictionUnit}
 use Rattle.picture_buffer.specs.Pictures.{HeldPicture}
 use Rattle.spec_motion.specs.Derivation.{IsPlaced}
@@ -18,7 +20,8 @@ use Rattle.picture_build.proofs.Referring.{held_at}
 use Rattle.std.proofs.Common.{slice_get}
 
 -- the motion of the picture at a place of the buffer
-pub motions_are : (bases : List HeldPicture) (place : ℕ) (o : Option HeldPicture) → slice_get bases place ≡ o → motions_in (option_map decoded_of o) ≡ motions_of (buffer_of bases) place
+pub motions_are : (bases : List HeldPicture) (place : ℕ) (o : Option HeldPicture) → slice_get bases place ≡ o
+    → motions_in (option_map decoded_of o) ≡ motions_of (buffer_of bases) place
 motions_are bases place o e = ap motions_in (sym (held_at bases place o e))
 
 few_parts : (mode : PartMode) → part_count mode ≤ 4

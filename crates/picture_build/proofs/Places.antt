@@ -26,7 +26,8 @@ column_is n w W a x y some covered lt e =
     ap (λ k. k % w) at ∙ mod-mul-add (y / n) w (x / n) below
 
 -- the unit at a place of one
-pub unit_is : (n w a x y : ℕ) → n * (a % w) ≤ x → x < n * (a % w) + n → n * (a / w) ≤ y → y < n * (a / w) + n → w * (y / n) + x / n ≡ a
+pub unit_is : (n w a x y : ℕ) → n * (a % w) ≤ x → x < n * (a % w) + n → n * (a / w) ≤ y → y < n * (a / w) + n
+    → w * (y / n) + x / n ≡ a
 unit_is n w a x y xl xh yl yh =
     let q = block_is n (a % w) x xl xh in
     let r = block_is n (a / w) y yl yh in
@@ -42,25 +43,31 @@ pub times_none : (n r : ℕ) → r ≡ 0 → n * r ≡ 0
 times_none n r none = let e : n * 0 ≡ 0 = grind arith in ap (λ k. n * k) none ∙ e
 
 -- the unit in a column of the row above
-pub unit_above : (n w a x q : ℕ) → 1 ≤ n → 1 ≤ a / w → x / n ≡ q → w * ((n * (a / w) - 1) / n) + x / n + w + a % w ≡ a + q
+pub unit_above : (n w a x q : ℕ) → 1 ≤ n → 1 ≤ a / w → x / n ≡ q
+    → w * ((n * (a / w) - 1) / n) + x / n + w + a % w ≡ a + q
 unit_above n w a x q some below e =
     let last = before n (a / w) below in
-    let r : (n * (a / w) - 1) / n ≡ a / w - 1 = block_is n (a / w - 1) (n * (a / w) - 1) (omega (arith, last)) (omega (arith, last)) in
+    let r : (n * (a / w) - 1) / n ≡ a / w - 1 =
+    block_is n (a / w - 1) (n * (a / w) - 1) (omega (arith, last)) (omega (arith, last)) in
     let rows = before w (a / w) below in
     let wh = whole a w in
     let wh' : w * (a / w) + a % w ≡ a = grind arith in
-    let u : w * ((n * (a / w) - 1) / n) + x / n ≡ w * (a / w - 1) + q = ap (λ k. w * k + x / n) r ∙ ap (λ k. w * (a / w - 1) + k) e in
+    let u : w * ((n * (a / w) - 1) / n) + x / n ≡ w * (a / w - 1) + q =
+    ap (λ k. w * k + x / n) r ∙ ap (λ k. w * (a / w - 1) + k) e in
     omega (arith, u, rows, wh')
 
 -- the unit on the left
-pub unit_left : (n w a y : ℕ) → 1 ≤ n → 1 ≤ a % w → n * (a / w) ≤ y → y < n * (a / w) + n → w * (y / n) + (n * (a % w) - 1) / n + 1 ≡ a
+pub unit_left : (n w a y : ℕ) → 1 ≤ n → 1 ≤ a % w → n * (a / w) ≤ y → y < n * (a / w) + n
+    → w * (y / n) + (n * (a % w) - 1) / n + 1 ≡ a
 unit_left n w a y some right yl yh =
     let last = before n (a % w) right in
-    let q : (n * (a % w) - 1) / n ≡ a % w - 1 = block_is n (a % w - 1) (n * (a % w) - 1) (omega (arith, last)) (omega (arith, last)) in
+    let q : (n * (a % w) - 1) / n ≡ a % w - 1 =
+    block_is n (a % w - 1) (n * (a % w) - 1) (omega (arith, last)) (omega (arith, last)) in
     let r = block_is n (a / w) y yl yh in
     let wh = whole a w in
     let wh' : w * (a / w) + a % w ≡ a = grind arith in
-    let u : w * (y / n) + (n * (a % w) - 1) / n ≡ w * (a / w) + (a % w - 1) = ap (λ k. w * k + (n * (a % w) - 1) / n) r ∙ ap (λ k. w * (a / w) + k) q in
+    let u : w * (y / n) + (n * (a % w) - 1) / n ≡ w * (a / w) + (a % w - 1) =
+    ap (λ k. w * k + (n * (a % w) - 1) / n) r ∙ ap (λ k. w * (a / w) + k) q in
     omega (arith, u, wh')
 
 -- a place right of a unit's first column and below its first line is of no unit before it

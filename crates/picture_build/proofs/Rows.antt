@@ -1,5 +1,6 @@
 -- Lines of a part of a unit, one after the other.
-use Rattle.std.proofs.Common.{◌≡◌, ℕ, ◌+◌, ◌-◌, ◌<◌, ◌≤◌, ◌==◌, ◌&&◌, ◌||◌, nat_le, nat_lt, Bool, true, List, Some, length, get_or, take, drop, ap, ◌∙◌, if◌then◌else◌, ◌⊎◌, inl, inr, arith}
+use Rattle.std.proofs.Common.{◌≡◌, ℕ, ◌+◌, ◌-◌, ◌<◌, ◌≤◌, ◌==◌, ◌&&◌, ◌||◌, nat_le, nat_lt, Bool, true, List, Some}
+use Rattle.std.proofs.Common.{length, get_or, take, drop, ap, ◌∙◌, if◌then◌else◌, ◌⊎◌, inl, inr, arith}
 use Rattle.std.specs.Option.{unwrap_or}
 use Rattle.std.proofs.lemmas.Bool.Decides.{nat_tests}
 use Rattle.std.proofs.lemmas.List.{get_or-drop, get_or-take, length-drop, length-take-le}
@@ -18,25 +19,39 @@ piece_at xs from n i lt = get_or-take n (drop from xs) i 0 lt ∙ get_or-drop fr
 
 -- the tests of a column's next line
 one_left : (c d j k n line L : ℕ) → n ≡ 1 → line + 1 ≤ L
-    → (((d == c) && ((k == line + 1) && (nat_le 0 j && nat_lt j (0 + n)))) || (d == c && (j == 0 && (nat_le 1 k && (nat_le k line && nat_le k L)))))
+    → (((d == c) && ((k == line + 1) && (nat_le 0 j && nat_lt j (0 + n))))
+    || (d == c && (j == 0 && (nat_le 1 k && (nat_le k line && nat_le k L)))))
     ≡ (d == c && (j == 0 && (nat_le 1 k && (nat_le k (line + 1) && nat_le k L))))
 one_left c d j k n line L one fits = grind (arith, nat_tests)
 
 -- the next line of the column on the left
-pub left_more : (part : Part) (samples : Samples) (line : ℕ) (row : List ℕ) (old mid new : Known) (w : ℕ) → 1 ≤ part.x → part.x < w → length row ≡ w → line + 1 ≤ part.height - part.y
+pub left_more : (part : Part) (samples : Samples) (line : ℕ) (row : List ℕ) (old mid new : Known) (w : ℕ) → 1 ≤ part.x
+    → part.x < w → length row ≡ w → line + 1 ≤ part.height - part.y
     → ((x : ℕ) → x < w → get_or row x 0 ≡ samples part.c x (part.y + line))
-    → ((i j k : ℕ) → mid i j k ≡ (if i == part.c && (j == 0 && (nat_le 1 k && (nat_le k line && nat_le k (part.height - part.y)))) then Some (sample_at part samples i j k) else old i j k))
+    → ((i j k : ℕ)
+    → mid i j k
+    ≡ (if i == part.c && (j == 0 && (nat_le 1 k && (nat_le k line && nat_le k (part.height - part.y))))
+    then Some (sample_at part samples i j k)
+    else old i j k))
     → ((i j k : ℕ) → new i j k
-    ≡ (if (i == part.c) && ((k == line + 1) && (nat_le 0 j && nat_lt j (0 + length (take (part.x - (part.x - 1)) (drop (part.x - 1) row)))))
+    ≡ (if (i == part.c)
+    && ((k == line + 1) && (nat_le 0 j && nat_lt j (0 + length (take (part.x - (part.x - 1)) (drop (part.x - 1) row)))))
     then Some (get_or (take (part.x - (part.x - 1)) (drop (part.x - 1) row)) (j - 0) 0)
     else mid i j k))
-    → (i j k : ℕ) → new i j k ≡ (if i == part.c && (j == 0 && (nat_le 1 k && (nat_le k (line + 1) && nat_le k (part.height - part.y)))) then Some (sample_at part samples i j k) else old i j k)
+    → (i j k : ℕ) → new i j k
+    ≡ (if i == part.c && (j == 0 && (nat_le 1 k && (nat_le k (line + 1) && nat_le k (part.height - part.y))))
+    then Some (sample_at part samples i j k)
+    else old i j k)
 left_more part samples line row old mid new w some inside count fits told m n i j k =
     let X : List ℕ = take (part.x - (part.x - 1)) (drop (part.x - 1) row) in
-    let one : length (take (part.x - (part.x - 1)) (drop (part.x - 1) row)) ≡ 1 = piece_length row (part.x - 1) (part.x - (part.x - 1)) (omega (arith, count)) ∙ omega arith in
-    let value : get_or (take (part.x - (part.x - 1)) (drop (part.x - 1) row)) 0 0 ≡ samples part.c (part.x - 1) (part.y + line) =
-    piece_at row (part.x - 1) (part.x - (part.x - 1)) 0 (omega arith) ∙ ap (λ q. get_or row q 0) (omega arith) ∙ told (part.x - 1) (omega arith) in
-    let same : ((i == part.c) && ((k == line + 1) && (nat_le 0 j && nat_lt j (0 + length X)))) ≡ true → Some (get_or X (j - 0) 0) ≡ Some (sample_at part samples i j k) =
+    let one : length (take (part.x - (part.x - 1)) (drop (part.x - 1) row)) ≡ 1 =
+    piece_length row (part.x - 1) (part.x - (part.x - 1)) (omega (arith, count)) ∙ omega arith in
+    let value : get_or (take (part.x - (part.x - 1)) (drop (part.x - 1) row)) 0 0
+    ≡ samples part.c (part.x - 1) (part.y + line) =
+    piece_at row (part.x - 1) (part.x - (part.x - 1)) 0 (omega arith) ∙ ap (λ q. get_or row q 0) (omega arith)
+    ∙ told (part.x - 1) (omega arith) in
+    let same : ((i == part.c) && ((k == line + 1) && (nat_le 0 j && nat_lt j (0 + length X)))) ≡ true
+    → Some (get_or X (j - 0) 0) ≡ Some (sample_at part samples i j k) =
     λ t.
     let ec : part.c ≡ i = grind (arith, nat_tests) in
     let ek : k ≡ line + 1 = grind (arith, nat_tests) in
@@ -44,36 +59,53 @@ left_more part samples line row old mid new w some inside count fits told m n i 
     let ej : j - 0 ≡ 0 = omega (arith, lt, one) in
     let ex : part.x - 1 ≡ part.x + j - 1 = omega (arith, lt, one) in
     let ey : part.y + line ≡ part.y + k - 1 = omega (arith, ek) in
-    ap (λ v. Some v) (ap (λ q. get_or X q 0) ej ∙ value ∙ ap (λ d. samples d (part.x - 1) (part.y + line)) ec ∙ ap (λ x. samples i x (part.y + line)) ex ∙ ap (λ y. samples i (part.x + j - 1) y) ey) in
-    merged ((i == part.c) && ((k == line + 1) && (nat_le 0 j && nat_lt j (0 + length X)))) _ _ (Some (sample_at part samples i j k)) (old i j k) (mid i j k) (new i j k) same (m i j k) (n i j k)
-    ∙ ap (λ (t : Bool). if t then Some (sample_at part samples i j k) else old i j k) (one_left part.c i j k (length X) line (part.height - part.y) one fits)
+    ap (λ v. Some v)
+    (ap (λ q. get_or X q 0) ej ∙ value ∙ ap (λ d. samples d (part.x - 1) (part.y + line)) ec
+    ∙ ap (λ x. samples i x (part.y + line)) ex ∙ ap (λ y. samples i (part.x + j - 1) y) ey) in
+    merged ((i == part.c) && ((k == line + 1) && (nat_le 0 j && nat_lt j (0 + length X)))) _ _
+    (Some (sample_at part samples i j k)) (old i j k) (mid i j k) (new i j k) same (m i j k) (n i j k)
+    ∙ ap (λ (t : Bool). if t then Some (sample_at part samples i j k) else old i j k)
+    (one_left part.c i j k (length X) line (part.height - part.y) one fits)
 
 -- the tests of a part's next line
-one_laid : (c d j k x y side width height columns line n : ℕ) → n ≡ columns → columns ≤ side → columns ≤ width - x → (side ≤ columns) ⊎ (width - x ≤ columns) → line < height - y
-    → (((d == c) && ((k == y + line) && (nat_le x j && nat_lt j (x + n)))) || (d == c && ((nat_le x j && (nat_lt j (x + side) && nat_lt j width)) && (nat_le y k && (nat_lt k (y + line) && nat_lt k height)))))
-    ≡ (d == c && ((nat_le x j && (nat_lt j (x + side) && nat_lt j width)) && (nat_le y k && (nat_lt k (y + (line + 1)) && nat_lt k height))))
+one_laid : (c d j k x y side width height columns line n : ℕ) → n ≡ columns → columns ≤ side → columns ≤ width - x
+    → (side ≤ columns) ⊎ (width - x ≤ columns) → line < height - y
+    → (((d == c) && ((k == y + line) && (nat_le x j && nat_lt j (x + n))))
+    || (d == c
+    && ((nat_le x j && (nat_lt j (x + side) && nat_lt j width))
+    && (nat_le y k && (nat_lt k (y + line) && nat_lt k height)))))
+    ≡ (d == c
+    && ((nat_le x j && (nat_lt j (x + side) && nat_lt j width))
+    && (nat_le y k && (nat_lt k (y + (line + 1)) && nat_lt k height))))
 one_laid c d j k x y side width height columns line n e a b (inl le) fits = grind (arith, nat_tests)
 one_laid c d j k x y side width height columns line n e a b (inr le) fits = grind (arith, nat_tests)
 
 -- the next line of a part is laid
-pub laid_more : (part : Part) (known : Known) (line columns : ℕ) (built : List ℕ) (old mid new : Samples) → columns ≤ part.side → columns ≤ part.width - part.x → (part.side ≤ columns) ⊎ (part.width - part.x ≤ columns)
+pub laid_more : (part : Part) (known : Known) (line columns : ℕ) (built : List ℕ) (old mid new : Samples)
+    → columns ≤ part.side → columns ≤ part.width - part.x → (part.side ≤ columns) ⊎ (part.width - part.x ≤ columns)
     → part.side ≤ 64 → part.x < part.width → line < part.height - part.y → length built ≡ 129
     → ((j : ℕ) → j < 129 → get_or built j 0 ≡ unwrap_or (known part.c j (line + 1)) 0)
     → ((i j k : ℕ) → mid i j k
-    ≡ (if i == part.c && ((nat_le part.x j && (nat_lt j (part.x + part.side) && nat_lt j part.width)) && (nat_le part.y k && (nat_lt k (part.y + line) && nat_lt k part.height)))
+    ≡ (if i == part.c
+    && ((nat_le part.x j && (nat_lt j (part.x + part.side) && nat_lt j part.width))
+    && (nat_le part.y k && (nat_lt k (part.y + line) && nat_lt k part.height)))
     then unwrap_or (known i (j - part.x + 1) (k - part.y + 1)) 0 else old i j k))
     → ((i j k : ℕ) → new i j k
-    ≡ (if (i == part.c) && ((k == part.y + line) && (nat_le part.x j && nat_lt j (part.x + length (take (1 + columns - 1) (drop 1 built)))))
+    ≡ (if (i == part.c)
+    && ((k == part.y + line) && (nat_le part.x j && nat_lt j (part.x + length (take (1 + columns - 1) (drop 1 built)))))
     then get_or (take (1 + columns - 1) (drop 1 built)) (j - part.x) 0
     else mid i j k))
     → (i j k : ℕ) → new i j k
-    ≡ (if i == part.c && ((nat_le part.x j && (nat_lt j (part.x + part.side) && nat_lt j part.width)) && (nat_le part.y k && (nat_lt k (part.y + (line + 1)) && nat_lt k part.height)))
+    ≡ (if i == part.c
+    && ((nat_le part.x j && (nat_lt j (part.x + part.side) && nat_lt j part.width))
+    && (nat_le part.y k && (nat_lt k (part.y + (line + 1)) && nat_lt k part.height)))
     then unwrap_or (known i (j - part.x + 1) (k - part.y + 1)) 0 else old i j k)
 laid_more part known line columns built old mid new narrow within all small inside fits count told m n i j k =
     let X : List ℕ = take (1 + columns - 1) (drop 1 built) in
     let size : length X ≡ columns = piece_length built 1 (1 + columns - 1) (omega (arith, count)) ∙ omega arith in
     let w : ℕ = unwrap_or (known i (j - part.x + 1) (k - part.y + 1)) 0 in
-    let same : ((i == part.c) && ((k == part.y + line) && (nat_le part.x j && nat_lt j (part.x + length X)))) ≡ true → get_or X (j - part.x) 0 ≡ unwrap_or (known i (j - part.x + 1) (k - part.y + 1)) 0 =
+    let same : ((i == part.c) && ((k == part.y + line) && (nat_le part.x j && nat_lt j (part.x + length X)))) ≡ true
+    → get_or X (j - part.x) 0 ≡ unwrap_or (known i (j - part.x + 1) (k - part.y + 1)) 0 =
     λ t.
     let ec : part.c ≡ i = grind (arith, nat_tests) in
     let ek : k ≡ part.y + line = grind (arith, nat_tests) in
@@ -85,6 +117,9 @@ laid_more part known line columns built old mid new narrow within all small insi
     ∙ told (j - part.x + 1) (omega (arith, lt))
     ∙ ap (λ d. unwrap_or (known d (j - part.x + 1) (line + 1)) 0) ec
     ∙ ap (λ l. unwrap_or (known i (j - part.x + 1) l) 0) el in
-    merged ((i == part.c) && ((k == part.y + line) && (nat_le part.x j && nat_lt j (part.x + length X)))) _ _ (unwrap_or (known i (j - part.x + 1) (k - part.y + 1)) 0) (old i j k) (mid i j k) (new i j k) same (m i j k) (n i j k)
+    merged ((i == part.c) && ((k == part.y + line) && (nat_le part.x j && nat_lt j (part.x + length X)))) _ _
+    (unwrap_or (known i (j - part.x + 1) (k - part.y + 1)) 0) (old i j k) (mid i j k) (new i j k) same (m i j k)
+    (n i j k)
     ∙ ap (λ (t : Bool). if t then unwrap_or (known i (j - part.x + 1) (k - part.y + 1)) 0 else old i j k)
-    (one_laid part.c i j k part.x part.y part.side part.width part.height columns line (length X) size narrow within all fits)
+    (one_laid part.c i j k part.x part.y part.side part.width part.height columns line (length X) size
+    narrow within all fits)

@@ -17,7 +17,8 @@ pub halves : (n : ℕ) → 4 * n / 2 ≡ 2 * n
 halves n = let e : 4 * n ≡ 2 * n * 2 + 0 = grind arith in ap (λ k. k / 2) e ∙ div-mul-add (2 * n) 2 0 (omega arith)
 
 -- what there is room for in a part
-pub room_is : (c k s w across down column y : ℕ) → c < 3 → 2 ≤ k → k ≤ 4 → 1 ≤ s → s ≤ 16 → s * (w - 1) < across → across ≤ 2048 → down ≤ 2048 → column < w
+pub room_is : (c k s w across down column y : ℕ) → c < 3 → 2 ≤ k → k ≤ 4 → 1 ≤ s → s ≤ 16 → s * (w - 1) < across
+    → across ≤ 2048 → down ≤ 2048 → column < w
     → IsRoom (record { c = c; side = k * s; x = k * s * column; y = y; width = k * across; height = k * down })
 room_is c k s w across down column y lt least most some small needed columns lines below =
     let side : k * s ≤ 4 * 16 = mul-le-mul most small in

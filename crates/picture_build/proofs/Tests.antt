@@ -16,6 +16,7 @@ pub other : {A : Type 0} (i n : ℕ) (x y z : A) → n < i → z ≡ (if i == n 
 other i n x y z lt e = e ∙ ap (λ (t : Bool). if t then x else y) (not_same i n lt)
 
 -- a place of what was changed last, of what was changed before, or of neither
-pub merged : {A : Type 0} (t u : Bool) (v w o m n : A) → (t ≡ true → v ≡ w) → m ≡ (if u then w else o) → n ≡ (if t then v else m) → n ≡ (if t || u then w else o)
+pub merged : {A : Type 0} (t u : Bool) (v w o m n : A) → (t ≡ true → v ≡ w) → m ≡ (if u then w else o)
+    → n ≡ (if t then v else m) → n ≡ (if t || u then w else o)
 merged true u v w o m n same before now = now ∙ same refl
 merged false u v w o m n same before now = now ∙ before

@@ -1,5 +1,6 @@
 -- Which samples beside a coding tree unit are known (6.4.1).
-use Rattle.std.specs.Prelude.{ℕ, ◌+◌, ◌-◌, ◌*◌, ◌==◌, ◌&&◌, ◌||◌, nat_le, nat_lt, Bool, Option, Some, None, if◌then◌else◌}
+use Rattle.std.specs.Prelude.{ℕ, ◌+◌, ◌-◌, ◌*◌, ◌==◌, ◌&&◌, ◌||◌, nat_le, nat_lt, Bool, Option, Some, None}
+use Rattle.std.specs.Prelude.{if◌then◌else◌}
 use Rattle.spec_slice_data.specs.Segment.{PictureShape, column_of}
 use Rattle.spec_picture_samples.specs.Border.{Samples}
 use Rattle.picture_build.specs.declared.part.Part.{Part}
@@ -20,7 +21,10 @@ has_left picture slice address = nat_lt 0 (column_of picture address) && nat_lt 
 -- whether a place is one of the line above, from a column on, and the picture has it
 abbrev pub is_above : Part → ℕ → ℕ → ℕ → ℕ → Bool
 is_above part first c column line =
-    c == part.c && (line == 0 && ((nat_le 1 part.y && nat_le part.y part.height) && (nat_le first column && (nat_le column (2 * part.side) && nat_le column (part.width - part.x)))))
+    c == part.c
+    && (line == 0
+    && ((nat_le 1 part.y && nat_le part.y part.height)
+    && (nat_le first column && (nat_le column (2 * part.side) && nat_le column (part.width - part.x)))))
 
 -- whether a place is one of the column on the left, and the picture has it
 abbrev pub is_left : Part → ℕ → ℕ → ℕ → Bool
@@ -34,4 +38,6 @@ sample_at part samples c column line = samples c (part.x + column - 1) (part.y +
 -- what is known beside a part of a unit
 unfoldable pub beside_part : Part → ℕ → Bool → Samples → ℕ → ℕ → ℕ → Option ℕ
 beside_part part first left samples c column line =
-    if is_above part first c column line || (left && is_left part c column line) then Some (sample_at part samples c column line) else None
+    if is_above part first c column line || (left && is_left part c column line)
+    then Some (sample_at part samples c column line)
+    else None

@@ -39,7 +39,8 @@ IsSoundUnit p unit = (s : SegmentPlan) → AreSound (unit_format p.sps p.pps s.h
 
 -- a picture that is built is the one of this plan, and, where all these units are sound, has their samples, their
 -- motion and what the loop filters need of them
-pub record IsBuilt (buffer : List DecodedPicture) (building : Building) (p : PicturePlan) (given : List TreeUnit) : Type 0 where
+pub record IsBuilt (buffer : List DecodedPicture) (building : Building) (p : PicturePlan)
+    (given : List TreeUnit) : Type 0 where
   pub plan : building.plan ≡ p
   pub picture : All (IsSoundUnit p) given → built_by building ≡ units_built buffer p given
   pub behind : All (IsSoundUnit p) given → behind_by building ≡ units_behind (motions_at buffer) p given
@@ -49,4 +50,5 @@ pub record IsBuilt (buffer : List DecodedPicture) (building : Building) (p : Pic
 abbrev pub BuildsPicture : Result HeldPicture ReadError → Result DecodedPicture PictureBroken → Type 0
 BuildsPicture (Ok p) decoded = decoded ≡ Ok (decoded_of p)
 BuildsPicture (Err error.Memory) decoded = Unit {0}
-BuildsPicture (Err (error.Broken breach nal ctu)) decoded = decoded ≡ Err (record { breach = breach; nal = nal; ctu = ctu })
+BuildsPicture (Err (error.Broken breach nal ctu)) decoded =
+    decoded ≡ Err (record { breach = breach; nal = nal; ctu = ctu })

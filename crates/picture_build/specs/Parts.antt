@@ -16,7 +16,9 @@ pub record IsPart (picture : PictureShape) (address : ℕ) (part : Part) : Type 
 -- whether a sample of a component of the picture is one of them
 abbrev pub is_in_part : Part → ℕ → ℕ → ℕ → Bool
 is_in_part part c x y =
-    c == part.c && ((nat_le part.x x && (nat_lt x (part.x + part.side) && nat_lt x part.width)) && (nat_le part.y y && (nat_lt y (part.y + part.side) && nat_lt y part.height)))
+    c == part.c
+    && ((nat_le part.x x && (nat_lt x (part.x + part.side) && nat_lt x part.width))
+    && (nat_le part.y y && (nat_lt y (part.y + part.side) && nat_lt y part.height)))
 
 -- what there is room for in its samples
 pub record IsRoom (part : Part) : Type 0 where

@@ -27,7 +27,10 @@ pub(crate) fn gather(unit: &Unit, planes: &Planes, samples: &mut UnitSamples)
 fn gather_component(unit: &Unit, c: usize, planes: &Planes, samples: &mut UnitSamples)
     requires component { c < 3 }
     requires sides { HasSides planes.now (4 * unit.now.layout.across) (4 * unit.now.layout.down) }
-    ensures { ((j k : ℕ) → held samples.old c j k ≡ None) → (i j k : ℕ) → held samples.new i j k ≡ (if i == c then known_beside unit.now.layout unit.now.slice unit.now.address (samples_of planes.now) i j k else held samples.old i j k) }
+    ensures { ((j k : ℕ) → held samples.old c j k ≡ None) → (i j k : ℕ)
+        → held samples.new i j k
+        ≡ (if i == c then known_beside unit.now.layout unit.now.slice unit.now.address (samples_of planes.now) i j k
+        else held samples.old i j k) }
 {
     let part = unit.part(c);
     gather_above(part, unit.first_above(part), planes, samples);
@@ -43,7 +46,9 @@ fn gather_above(part: Part, first: usize, planes: &Planes, samples: &mut UnitSam
     requires height { plane_height planes.now part.c ≡ part.height }
     requires some { 1 ≤ part.x + first }
     requires few { first ≤ 129 }
-    ensures { (i j k : ℕ) → held samples.new i j k ≡ (if is_above part first i j k then Some (sample_at part (samples_of planes.now) i j k) else held samples.old i j k) }
+    ensures { (i j k : ℕ) → held samples.new i j k
+        ≡ (if is_above part first i j k then Some (sample_at part (samples_of planes.now) i j k)
+        else held samples.old i j k) }
 {
     let last = (2 * part.side).min(part.width - part.x);
     if 1 <= part.y && part.y <= part.height && first <= last {
@@ -58,7 +63,8 @@ fn gather_left(part: Part, planes: &Planes, samples: &mut UnitSamples)
     requires width { plane_width planes.now part.c ≡ part.width }
     requires height { plane_height planes.now part.c ≡ part.height }
     requires some { 1 ≤ part.x }
-    ensures { (i j k : ℕ) → held samples.new i j k ≡ (if is_left part i j k then Some (sample_at part (samples_of planes.now) i j k) else held samples.old i j k) }
+    ensures { (i j k : ℕ) → held samples.new i j k
+        ≡ (if is_left part i j k then Some (sample_at part (samples_of planes.now) i j k) else held samples.old i j k) }
 {
     let lines = part.side.min(part.height.saturating_sub(part.y));
     for line in 0..lines {

@@ -71,7 +71,15 @@ impl<'a, B: Buffer> Model for PictureBuilder<'a, B> {
 
     ghost view = { λ b. record { plan = b.plan.now; planes = b.planes; motion = b.motion; filters = b.filters } };
 
-    ghost invariant = { λ b. (b.layout ≡ picture_shape b.plan.now.sps b.plan.now.pps) × HasSides b.planes (4 * b.layout.across) (4 * b.layout.down) × (4 * b.layout.across ≡ b.plan.now.sps.format.pic_width_in_luma_samples) × (4 * b.layout.down ≡ b.plan.now.sps.format.pic_height_in_luma_samples) × IsFormat b.format × IsCommon b.plan.now.sps b.plan.now.pps b.format × (b.motion.plan ≡ b.plan.now) × (b.filters.plan ≡ b.plan.now) × (b.bases.now ≡ B.pictures) };
+    ghost invariant = { λ b. (b.layout ≡ picture_shape b.plan.now.sps b.plan.now.pps)
+        × HasSides b.planes (4 * b.layout.across) (4 * b.layout.down)
+        × (4 * b.layout.across ≡ b.plan.now.sps.format.pic_width_in_luma_samples)
+        × (4 * b.layout.down ≡ b.plan.now.sps.format.pic_height_in_luma_samples)
+        × IsFormat b.format
+        × IsCommon b.plan.now.sps b.plan.now.pps b.format
+        × (b.motion.plan ≡ b.plan.now)
+        × (b.filters.plan ≡ b.plan.now)
+        × (b.bases.now ≡ B.pictures) };
 }
 
 impl<'a, B: Buffer> PictureBuilder<'a, B> {
@@ -116,8 +124,14 @@ impl<'a, B: Buffer> PictureBuilder<'a, B> {
     /// The next unit, of the segment with this number.
     fn add(&mut self, number: usize, address: u32, records: &Records)
         ensures plan { self.new.plan ≡ self.old.plan }
-        ensures value { IsSoundUnit self.old.plan (tree_unit number address records.now) → built_by self.new ≡ with_unit (buffer_of B.pictures) self.old.plan (built_by self.old) (tree_unit number address records.now) }
-        ensures behind { IsSoundUnit self.old.plan (tree_unit number address records.now) → behind_by self.new ≡ filtered_with_unit (motions_at (buffer_of B.pictures)) self.old.plan (behind_by self.old) (tree_unit number address records.now) }
+        ensures value { IsSoundUnit self.old.plan (tree_unit number address records.now)
+            → built_by self.new
+            ≡ with_unit (buffer_of B.pictures) self.old.plan (built_by self.old)
+            (tree_unit number address records.now) }
+        ensures behind { IsSoundUnit self.old.plan (tree_unit number address records.now)
+            → behind_by self.new
+            ≡ filtered_with_unit (motions_at (buffer_of B.pictures)) self.old.plan (behind_by self.old)
+            (tree_unit number address records.now) }
     {
         let plan = self.plan;
         let segments = plan.segments.as_slice();
@@ -129,8 +143,16 @@ impl<'a, B: Buffer> PictureBuilder<'a, B> {
     /// Builds a unit of a segment. One that stands below the picture has no samples.
     fn build(&mut self, segment: &SegmentPlan, address: u32, records: &Records)
         ensures plan { self.new.plan ≡ self.old.plan }
-        ensures value { (number : ℕ) → AreSound (unit_format self.old.plan.sps self.old.plan.pps segment.now.header.slice) records.now.items → built_by self.new ≡ unit_added (buffer_of B.pictures) self.old.plan segment.now (tree_unit number address records.now) (built_by self.old) }
-        ensures behind { (number : ℕ) → AreSound (unit_format self.old.plan.sps self.old.plan.pps segment.now.header.slice) records.now.items → behind_by self.new ≡ added_in (motions_at (buffer_of B.pictures)) self.old.plan (Some segment.now) (tree_unit number address records.now) (behind_by self.old) }
+        ensures value { (number : ℕ)
+            → AreSound (unit_format self.old.plan.sps self.old.plan.pps segment.now.header.slice) records.now.items
+            → built_by self.new
+            ≡ unit_added (buffer_of B.pictures) self.old.plan segment.now (tree_unit number address records.now)
+            (built_by self.old) }
+        ensures behind { (number : ℕ)
+            → AreSound (unit_format self.old.plan.sps self.old.plan.pps segment.now.header.slice) records.now.items
+            → behind_by self.new
+            ≡ added_in (motions_at (buffer_of B.pictures)) self.old.plan (Some segment.now)
+            (tree_unit number address records.now) (behind_by self.old) }
     {
         let source = Source {
             plan: self.plan,

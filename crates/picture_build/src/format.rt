@@ -27,7 +27,8 @@ pub(crate) fn common_format(alloc: Global, plan: &PicturePlan) -> Result<UnitFor
 /// The same by the picture's scaling factors.
 #[tactic(auto, unfolding(spec_picture_samples::specs::Format::unit_format))]
 fn format_by(sps: &Sps, pps: &Pps, intra: ScalingFactors, inter: ScalingFactors) -> UnitFormat
-    ensures value { intra ≡ scaling_factors (picture_scaling_lists sps.now pps.now) true → inter ≡ scaling_factors (picture_scaling_lists sps.now pps.now) false → IsCommon sps.now pps.now result }
+    ensures value { intra ≡ scaling_factors (picture_scaling_lists sps.now pps.now) true
+        → inter ≡ scaling_factors (picture_scaling_lists sps.now pps.now) false → IsCommon sps.now pps.now result }
     ensures format { IsFormat result }
 {
     let bits = pcm_bits(sps);

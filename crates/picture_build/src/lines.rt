@@ -15,7 +15,8 @@ use picture_buffer::Planes;
 /// Lays the samples of a unit into the picture.
 pub(crate) fn lay_unit(unit: &Unit, samples: &UnitSamples, planes: &mut Planes)
     requires { HasSides planes.old (4 * unit.now.layout.across) (4 * unit.now.layout.down) }
-    ensures value { samples_of planes.new ≡ unit_laid unit.now.layout unit.now.address (held samples.now) (samples_of planes.old) }
+    ensures value { samples_of planes.new
+        ≡ unit_laid unit.now.layout unit.now.address (held samples.now) (samples_of planes.old) }
     ensures sides { HasSides planes.new (4 * unit.now.layout.across) (4 * unit.now.layout.down) }
 {
     lay_component(unit, 0, samples, planes);
@@ -27,7 +28,9 @@ pub(crate) fn lay_unit(unit: &Unit, samples: &UnitSamples, planes: &mut Planes)
 fn lay_component(unit: &Unit, c: usize, samples: &UnitSamples, planes: &mut Planes)
     requires component { c < 3 }
     requires sides { HasSides planes.old (4 * unit.now.layout.across) (4 * unit.now.layout.down) }
-    ensures value { (i j k : ℕ) → samples_of planes.new i j k ≡ (if i == c then unit_laid unit.now.layout unit.now.address (held samples.now) (samples_of planes.old) i j k else samples_of planes.old i j k) }
+    ensures value { (i j k : ℕ) → samples_of planes.new i j k
+        ≡ (if i == c then unit_laid unit.now.layout unit.now.address (held samples.now) (samples_of planes.old) i j k
+        else samples_of planes.old i j k) }
     ensures sides { HasSides planes.new (4 * unit.now.layout.across) (4 * unit.now.layout.down) }
 {
     lay_part(unit, unit.part(c), samples, planes);
@@ -38,7 +41,9 @@ fn lay_part(unit: &Unit, part: Part, samples: &UnitSamples, planes: &mut Planes)
     requires part { IsPart unit.now.layout unit.now.address part }
     requires room { IsRoom part }
     requires sides { HasSides planes.old (4 * unit.now.layout.across) (4 * unit.now.layout.down) }
-    ensures value { (i j k : ℕ) → samples_of planes.new i j k ≡ (if is_in_part part i j k then unwrap_or (held samples.now i (j - part.x + 1) (k - part.y + 1)) 0 else samples_of planes.old i j k) }
+    ensures value { (i j k : ℕ) → samples_of planes.new i j k
+        ≡ (if is_in_part part i j k then unwrap_or (held samples.now i (j - part.x + 1) (k - part.y + 1)) 0
+        else samples_of planes.old i j k) }
     ensures sides { HasSides planes.new (4 * unit.now.layout.across) (4 * unit.now.layout.down) }
 {
     let columns = part.side.min(part.width - part.x);

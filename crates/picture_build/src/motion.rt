@@ -37,8 +37,14 @@ pub(crate) fn derive(
 )
     requires { motion.old.plan ≡ source.now.plan.now }
     ensures plan { motion.new.plan ≡ motion.old.plan }
-    ensures last { (number : ℕ) → All IsPlacedItem records.now.items → held motion.new.last ≡ known_of_unit (motions_at (buffer_of source.now.bases.now)) source.now.plan.now source.now.segment.now (tree_unit number address records.now) (motions_of motion.old.field) }
-    ensures value { (number : ℕ) → All IsPlacedItem records.now.items → motions_of motion.new.field ≡ unit_added (motions_at (buffer_of source.now.bases.now)) source.now.plan.now source.now.segment.now (tree_unit number address records.now) (motions_of motion.old.field) }
+    ensures last { (number : ℕ) → All IsPlacedItem records.now.items
+        → held motion.new.last
+        ≡ known_of_unit (motions_at (buffer_of source.now.bases.now)) source.now.plan.now source.now.segment.now
+        (tree_unit number address records.now) (motions_of motion.old.field) }
+    ensures value { (number : ℕ) → All IsPlacedItem records.now.items
+        → motions_of motion.new.field
+        ≡ unit_added (motions_at (buffer_of source.now.bases.now)) source.now.plan.now source.now.segment.now
+        (tree_unit number address records.now) (motions_of motion.old.field) }
 {
     let lists = &slice_of(source.plan, source.segment).lists;
     match collocated_entry(&source.segment.header.fields().slice, lists) {
@@ -56,8 +62,14 @@ fn derive_over(
     motion: &mut PictureMotion<'_>,
 )
     ensures plan { motion.new.plan ≡ motion.old.plan }
-    ensures last { All IsPlacedItem records.now.items → held motion.new.last ≡ known_over (motions_at (buffer_of source.now.bases.now) place) motion.old.plan source.now.segment.now address records.now.items (motions_of motion.old.field) }
-    ensures value { All IsPlacedItem records.now.items → motions_of motion.new.field ≡ derived_over (motions_at (buffer_of source.now.bases.now) place) motion.old.plan source.now.segment.now address records.now.items (motions_of motion.old.field) }
+    ensures last { All IsPlacedItem records.now.items
+        → held motion.new.last
+        ≡ known_over (motions_at (buffer_of source.now.bases.now) place) motion.old.plan source.now.segment.now address
+        records.now.items (motions_of motion.old.field) }
+    ensures value { All IsPlacedItem records.now.items
+        → motions_of motion.new.field
+        ≡ derived_over (motions_at (buffer_of source.now.bases.now) place) motion.old.plan source.now.segment.now
+        address records.now.items (motions_of motion.old.field) }
 {
     match source.bases.get(place) {
         Some(picture) => motion.derive_over(source.segment, address, records, picture.motion()),

@@ -48,7 +48,8 @@ impl<'a> RefWindow for References<'a> {
 fn picture_row(picture: &Picture, c: usize, x: i32, y: i32, out: &mut [u16])
     requires count { length out.old ≤ 71 }
     requires place { x ≤ℤ pos 1073741824 }
-    ensures { (k : ℕ) → k < length out.old → at out.new k ≡ reference_sample (Some (decoded_of picture.now)) c (x +ℤ pos k) y }
+    ensures { (k : ℕ) → k < length out.old
+        → at out.new k ≡ reference_sample (Some (decoded_of picture.now)) c (x +ℤ pos k) y }
 {
     let _ = picture.format();
     let planes = picture.planes();
@@ -76,7 +77,10 @@ fn clamped_row(planes: &Planes, c: usize, x: i32, y: i32, out: &mut [u16])
     requires rows { (0 < plane_height planes.now c) × (plane_height planes.now c ≤ 65536) }
     requires count { length out.old ≤ 71 }
     requires place { x ≤ℤ pos 1073741824 }
-    ensures { (k : ℕ) → k < length out.old → at out.new k ≡ samples_of planes.now c (clamped (x +ℤ pos k) (plane_width planes.now c)) (clamped y (plane_height planes.now c)) }
+    ensures { (k : ℕ) → k < length out.old
+        → at out.new k
+        ≡ samples_of planes.now c (clamped (x +ℤ pos k) (plane_width planes.now c))
+        (clamped y (plane_height planes.now c)) }
 {
     let line = planes.row(c, clamped(y, planes.height(c)));
     clamped_line(line, x, out);

@@ -48,7 +48,15 @@ pub(crate) fn build_unit(
     requires layout { on.now.unit.layout ≡ picture_shape on.now.source.plan.now.sps on.now.source.plan.now.pps }
     requires format { IsFormat on.now.format.now }
     requires row { (on.now.row ≡ first_row on.now.unit.layout on.now.unit.address) × (on.now.row ≤ 8192) }
-    ensures { (number : ℕ) (motions : Motions) → AreSound on.now.format.now records.now.items → motion_held on.now.motion.now.last ≡ known_of_unit (motions_at (buffer_of on.now.source.bases.now)) on.now.source.plan.now on.now.source.segment.now (tree_unit number on.now.unit.address records.now) motions → held samples.new ≡ unit_built on.now.format.now (unit_inter (buffer_of on.now.source.bases.now) on.now.source.plan.now on.now.source.segment.now (tree_unit number on.now.unit.address records.now) motions) records.now.items (held samples.old) }
+    ensures { (number : ℕ) (motions : Motions) → AreSound on.now.format.now records.now.items
+        → motion_held on.now.motion.now.last
+        ≡ known_of_unit (motions_at (buffer_of on.now.source.bases.now)) on.now.source.plan.now
+        on.now.source.segment.now (tree_unit number on.now.unit.address records.now) motions
+        → held samples.new
+        ≡ unit_built on.now.format.now
+        (unit_inter (buffer_of on.now.source.bases.now) on.now.source.plan.now on.now.source.segment.now
+        (tree_unit number on.now.unit.address records.now) motions)
+        records.now.items (held samples.old) }
 {
     let segment = on.source.segment;
     let slice = slice_motion(&on.unit.of_motion(), on.source.plan, segment);

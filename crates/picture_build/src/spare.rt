@@ -17,9 +17,11 @@ pub(crate) fn empty_parts(
     spare: Option<Picture>,
 ) -> Result<(Planes, MotionField), AllocError>
     requires { IsPictureFormat format.now }
-    ensures sides { IfOk result (λ parts. HasSides parts.0 format.now.pic_width_in_luma_samples format.now.pic_height_in_luma_samples) }
+    ensures sides { IfOk result
+        (λ parts. HasSides parts.0 format.now.pic_width_in_luma_samples format.now.pic_height_in_luma_samples) }
     ensures samples { IfOk result (λ parts. (c x y : ℕ) → samples_of parts.0 c x y ≡ 0) }
-    ensures places { IfOk result (λ parts. HasPlaces parts.1 (format.now.pic_width_in_luma_samples / 4) (format.now.pic_height_in_luma_samples / 4)) }
+    ensures places { IfOk result (λ parts. HasPlaces parts.1 (format.now.pic_width_in_luma_samples / 4)
+        (format.now.pic_height_in_luma_samples / 4)) }
     ensures motions { IfOk result (λ parts. (x y : ℕ) → motions_of parts.1 x y ≡ None) }
 {
     match parts_of_size(spare, format) {
@@ -30,8 +32,10 @@ pub(crate) fn empty_parts(
 
 /// The parts of a spare picture, if it has this size.
 fn parts_of_size(spare: Option<Picture>, format: &PictureFormat) -> Option<(Planes, MotionField)>
-    ensures sides { IfSome result (λ parts. HasSides parts.0 format.now.pic_width_in_luma_samples format.now.pic_height_in_luma_samples) }
-    ensures places { IfSome result (λ parts. HasPlaces parts.1 (format.now.pic_width_in_luma_samples / 4) (format.now.pic_height_in_luma_samples / 4)) }
+    ensures sides { IfSome result
+        (λ parts. HasSides parts.0 format.now.pic_width_in_luma_samples format.now.pic_height_in_luma_samples) }
+    ensures places { IfSome result (λ parts. HasPlaces parts.1 (format.now.pic_width_in_luma_samples / 4)
+        (format.now.pic_height_in_luma_samples / 4)) }
 {
     let picture = spare?;
     let is_wide = picture.format().pic_width_in_luma_samples == format.pic_width_in_luma_samples;
@@ -46,7 +50,8 @@ fn parts_of_size(spare: Option<Picture>, format: &PictureFormat) -> Option<(Plan
 
 /// Whether a field has the places of a picture of this format.
 fn has_places(field: &MotionField, format: &PictureFormat) -> bool
-    ensures { result ≡ true → HasPlaces field.now (format.now.pic_width_in_luma_samples / 4) (format.now.pic_height_in_luma_samples / 4) }
+    ensures { result ≡ true
+        → HasPlaces field.now (format.now.pic_width_in_luma_samples / 4) (format.now.pic_height_in_luma_samples / 4) }
 {
     field.across() == format.pic_width_in_luma_samples / 4
         && field.down() == format.pic_height_in_luma_samples / 4
@@ -67,9 +72,11 @@ fn emptied(mut planes: Planes, mut field: MotionField) -> (Planes, MotionField)
 /// New ones.
 fn new_parts(alloc: Global, format: &PictureFormat) -> Result<(Planes, MotionField), AllocError>
     requires { IsPictureFormat format.now }
-    ensures sides { IfOk result (λ parts. HasSides parts.0 format.now.pic_width_in_luma_samples format.now.pic_height_in_luma_samples) }
+    ensures sides { IfOk result
+        (λ parts. HasSides parts.0 format.now.pic_width_in_luma_samples format.now.pic_height_in_luma_samples) }
     ensures samples { IfOk result (λ parts. (c x y : ℕ) → samples_of parts.0 c x y ≡ 0) }
-    ensures places { IfOk result (λ parts. HasPlaces parts.1 (format.now.pic_width_in_luma_samples / 4) (format.now.pic_height_in_luma_samples / 4)) }
+    ensures places { IfOk result (λ parts. HasPlaces parts.1 (format.now.pic_width_in_luma_samples / 4)
+        (format.now.pic_height_in_luma_samples / 4)) }
     ensures motions { IfOk result (λ parts. (x y : ℕ) → motions_of parts.1 x y ≡ None) }
 {
     let width = format.pic_width_in_luma_samples;

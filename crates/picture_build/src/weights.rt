@@ -4,7 +4,9 @@ ghost use Rattle.std.specs.Prelude.{◌≡◌, ◌<◌, ◌≤◌, ◌^◌, pos,
 ghost use Rattle.std.specs.Int.{int_shr};
 ghost use Rattle.spec_inter_prediction.specs.Tables.{AreWeights, IsSliceWeighting, IsTable};
 ghost use Rattle.spec_inter_prediction.specs.Weighting.{IsWeight};
-ghost use Rattle.spec_picture_samples.specs.Weights.{cb_weight, chroma_denominator, chroma_offset, chroma_weight, cr_weight, luma_denominator, luma_weight, reference_weights, slice_weighting, weight_by, weight_table, weights_at, weights_in};
+ghost use Rattle.spec_picture_samples.specs.Weights.{cb_weight, chroma_denominator, chroma_offset, chroma_weight};
+ghost use Rattle.spec_picture_samples.specs.Weights.{cr_weight, luma_denominator, luma_weight, reference_weights};
+ghost use Rattle.spec_picture_samples.specs.Weights.{slice_weighting, weight_by, weight_table, weights_at, weights_in};
 ghost use Rattle.std.specs.List.{All};
 
 use slice_types::{ChromaWeight, InterFields, LumaWeight, PredWeightTable, RefWeights};

@@ -1,6 +1,7 @@
 -- The format of a picture whose sequence parameter set is in range.
 use Rattle.std.proofs.Common.{◌≡◌, ℕ, zero, suc, ◌+◌, ◌-◌, ◌/◌, ◌%◌, ◌^◌, ◌<◌, ◌≤◌, ap, subst, sym, refl, ◌∙◌, arith}
-use Rattle.header_types.specs.SequenceParameterSets.{IsSps, blocks_across, ctb_log2, ctb_size, height_in_ctbs, width_in_ctbs}
+use Rattle.header_types.specs.SequenceParameterSets.{IsSps, blocks_across, ctb_log2, ctb_size, height_in_ctbs}
+use Rattle.header_types.specs.SequenceParameterSets.{width_in_ctbs}
 use Rattle.loop_filters.specs.Formats.{IsFormat, columns_of, rows_of}
 use Rattle.picture_buffer.specs.Planes.{HasSides, PictureSamples, plane_height, plane_width}
 use Rattle.plan_types.specs.declared.picture_plan.PicturePlan.{PicturePlan}
@@ -100,13 +101,15 @@ once : (n : ℕ) → n ≡ n / 1
 once n = omega arith
 
 -- the sides of planes
-pub plane_widths : (p : PictureSamples) (format : FilterFormat) (c : ℕ) → c < 3 → HasSides p format.width format.height → plane_width p c ≡ width_of format c
+pub plane_widths : (p : PictureSamples) (format : FilterFormat) (c : ℕ) → c < 3 → HasSides p format.width format.height
+    → plane_width p c ≡ width_of format c
 plane_widths p format zero lt sides = sides.luma_width ∙ once format.width
 plane_widths p format (suc zero) lt sides = sides.cb_width
 plane_widths p format (suc (suc zero)) lt sides = sides.cr_width
 plane_widths p format (suc (suc (suc c))) lt sides = absurd (omega (arith, lt))
 
-pub plane_heights : (p : PictureSamples) (format : FilterFormat) (c : ℕ) → c < 3 → HasSides p format.width format.height → plane_height p c ≡ height_of format c
+pub plane_heights : (p : PictureSamples) (format : FilterFormat) (c : ℕ) → c < 3 → HasSides p format.width format.height
+    → plane_height p c ≡ height_of format c
 plane_heights p format zero lt sides = sides.luma_height ∙ once format.height
 plane_heights p format (suc zero) lt sides = sides.cb_height
 plane_heights p format (suc (suc zero)) lt sides = sides.cr_height

@@ -21,41 +21,54 @@ use Rattle.picture_filters.specs.declared.unit.Unit.{Unit}
 use Rattle.picture_filters.specs.Filtering.{IsUnit, coded_part, filter_places_laid, gathered}
 
 gathered_same : (a b : ℕ → ℕ → FilterPlace) (u v : ℕ → ℕ → ℕ → OffsetUnit) → a ≡ b → u ≡ v → gathered a u ≡ gathered b v
-gathered_same a b u v e f = ap (λ (k : ℕ → ℕ → FilterPlace). gathered k u) e ∙ ap (λ (w : ℕ → ℕ → ℕ → OffsetUnit). gathered b w) f
+gathered_same a b u v e f =
+    ap (λ (k : ℕ → ℕ → FilterPlace). gathered k u) e ∙ ap (λ (w : ℕ → ℕ → ℕ → OffsetUnit). gathered b w) f
 
 -- nothing is known at first
-pub nothing : (places : ℕ → ℕ → FilterPlace) (units : ℕ → ℕ → ℕ → OffsetUnit) → ((x y : ℕ) → places x y ≡ first_place) → ((c x y : ℕ) → units c x y ≡ first_unit) → gathered places units ≡ no_data
+pub nothing : (places : ℕ → ℕ → FilterPlace) (units : ℕ → ℕ → ℕ → OffsetUnit) → ((x y : ℕ) → places x y ≡ first_place)
+    → ((c x y : ℕ) → units c x y ≡ first_unit) → gathered places units ≡ no_data
 unfolding no_data
 nothing places units e f =
-    gathered_same places (λ x y. first_place) units (λ c x y. first_unit) (fun_ext (λ x. fun_ext (λ y. e x y))) (fun_ext (λ c. fun_ext (λ x. fun_ext (λ y. f c x y))))
+    gathered_same places (λ x y. first_place) units (λ c x y. first_unit) (fun_ext (λ x. fun_ext (λ y. e x y)))
+    (fun_ext (λ c. fun_ext (λ x. fun_ext (λ y. f c x y))))
 
 -- the places of a unit are asked for alone
-laid_alike : (picture : PictureShape) (address : ℕ) (slice : SliceDeblocking) (read told : ℕ → ℕ → UnitPlace) (old : ℕ → ℕ → FilterPlace) (i j : ℕ) → unit_places picture ≤ 16
-    → ((x y : ℕ) → x < 16 → y < 16 → read x y ≡ told x y) → filter_places_laid picture address slice read old i j ≡ filter_places_laid picture address slice told old i j
+laid_alike : (picture : PictureShape) (address : ℕ) (slice : SliceDeblocking) (read told : ℕ → ℕ → UnitPlace)
+    (old : ℕ → ℕ → FilterPlace) (i j : ℕ)
+    → unit_places picture ≤ 16
+    → ((x y : ℕ) → x < 16 → y < 16 → read x y ≡ told x y)
+    → filter_places_laid picture address slice read old i j ≡ filter_places_laid picture address slice told old i j
 unfolding filter_places_laid
 laid_alike picture address slice read told old i j few e =
     let same = e (i - first_column picture address) (j - first_row picture address) in
     grind (arith, nat_tests)
 
-place_part : (picture : PictureShape) (address : ℕ) (slice : SliceDeblocking) (read : ℕ → ℕ → UnitPlace) (old : ℕ → ℕ → FilterPlace) (i j : ℕ)
-    → (filter_places_laid picture address slice read old i j).place ≡ places_laid picture address slice read (λ x y. (old x y).place) i j
+place_part : (picture : PictureShape) (address : ℕ) (slice : SliceDeblocking) (read : ℕ → ℕ → UnitPlace)
+    (old : ℕ → ℕ → FilterPlace) (i j : ℕ)
+    → (filter_places_laid picture address slice read old i j).place
+    ≡ places_laid picture address slice read (λ x y. (old x y).place) i j
 unfolding filter_places_laid places_laid
 place_part picture address slice read old i j = grind (arith, nat_tests)
 
-flag_part : (picture : PictureShape) (address : ℕ) (slice : SliceDeblocking) (read : ℕ → ℕ → UnitPlace) (old : ℕ → ℕ → FilterPlace) (i j : ℕ)
-    → (filter_places_laid picture address slice read old i j).coded ≡ coded_laid picture address read (coded_part old) i j
+flag_part : (picture : PictureShape) (address : ℕ) (slice : SliceDeblocking) (read : ℕ → ℕ → UnitPlace)
+    (old : ℕ → ℕ → FilterPlace) (i j : ℕ)
+    → (filter_places_laid picture address slice read old i j).coded
+    ≡ coded_laid picture address read (coded_part old) i j
 unfolding filter_places_laid coded_laid
 flag_part picture address slice read old i j = grind (arith, nat_tests)
 
 abbrev made : (ℕ → ℕ → Place) → (ℕ → ℕ → Bool) → (ℕ → ℕ → ℕ → OffsetUnit) → FilterData
 made places coded units = record { places = places; coded = coded; units = units }
 
-made_same : (a b : ℕ → ℕ → Place) (c d : ℕ → ℕ → Bool) (u v : ℕ → ℕ → ℕ → OffsetUnit) → a ≡ b → c ≡ d → u ≡ v → made a c u ≡ made b d v
+made_same : (a b : ℕ → ℕ → Place) (c d : ℕ → ℕ → Bool) (u v : ℕ → ℕ → ℕ → OffsetUnit) → a ≡ b → c ≡ d → u ≡ v
+    → made a c u ≡ made b d v
 made_same a b c d u v e f g =
-    ap (λ (k : ℕ → ℕ → Place). made k c u) e ∙ (ap (λ (k : ℕ → ℕ → Bool). made b k u) f ∙ ap (λ (k : ℕ → ℕ → ℕ → OffsetUnit). made b d k) g)
+    ap (λ (k : ℕ → ℕ → Place). made k c u) e
+    ∙ (ap (λ (k : ℕ → ℕ → Bool). made b k u) f ∙ ap (λ (k : ℕ → ℕ → ℕ → OffsetUnit). made b d k) g)
 
 -- behind a unit whose places were read
-pub data_added : (p : PicturePlan) (s : SegmentPlan) (unit : Unit) (ctu : Ctu) (motions : Motions) (read : ℕ → ℕ → UnitPlace) (old new : ℕ → ℕ → FilterPlace) (before units : ℕ → ℕ → ℕ → OffsetUnit)
+pub data_added : (p : PicturePlan) (s : SegmentPlan) (unit : Unit) (ctu : Ctu) (motions : Motions)
+    (read : ℕ → ℕ → UnitPlace) (old new : ℕ → ℕ → FilterPlace) (before units : ℕ → ℕ → ℕ → OffsetUnit)
     → IsUnit p s unit → unit_places unit.layout ≤ 16
     → ((x y : ℕ) → x < 16 → y < 16 → read x y ≡ places_read p s unit.address ctu.items motions (coded_part old) x y)
     → ((i j : ℕ) → new i j ≡ filter_places_laid unit.layout unit.address s.header.slice.deblocking read old i j)
@@ -67,10 +80,14 @@ data_added p s unit ctu motions read old new before units is few e laid offsets 
     let told : ℕ → ℕ → UnitPlace = places_read p s unit.address ctu.items motions (coded_part old) in
     let slice : SliceDeblocking = s.header.slice.deblocking in
     let all : (i j : ℕ) → new i j ≡ filter_places_laid picture unit.address slice told old i j =
-    λ i j. laid i j ∙ (laid_alike unit.layout unit.address slice read told old i j few e ∙ ap (λ (q : PictureShape). filter_places_laid q unit.address slice told old i j) is.layout) in
+    λ i j. laid i j
+    ∙ (laid_alike unit.layout unit.address slice read told old i j few e
+    ∙ ap (λ (q : PictureShape). filter_places_laid q unit.address slice told old i j) is.layout) in
     made_same (λ x y. (new x y).place) (places_laid picture unit.address slice told (λ x y. (old x y).place))
     (coded_part new) (coded_laid picture unit.address told (coded_part old))
     units (units_laid p s unit.address ctu.sao before)
-    (fun_ext (λ i. fun_ext (λ j. ap (λ (q : FilterPlace). q.place) (all i j) ∙ place_part picture unit.address slice told old i j)))
-    (fun_ext (λ i. fun_ext (λ j. ap (λ (q : FilterPlace). q.coded) (all i j) ∙ flag_part picture unit.address slice told old i j)))
+    (fun_ext (λ i. fun_ext (λ j. ap (λ (q : FilterPlace). q.place) (all i j)
+    ∙ place_part picture unit.address slice told old i j)))
+    (fun_ext (λ i. fun_ext (λ j. ap (λ (q : FilterPlace). q.coded) (all i j)
+    ∙ flag_part picture unit.address slice told old i j)))
     (fun_ext (λ c. fun_ext (λ i. fun_ext (λ j. offsets c i j))))

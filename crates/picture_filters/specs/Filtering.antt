@@ -48,10 +48,12 @@ pub record IsUnit (p : PicturePlan) (s : SegmentPlan) (unit : Unit) : Type 0 whe
 
 -- flags say which places on the left of a unit are coded, and which above it
 abbrev pub IsCodedLeft : Unit → (ℕ → ℕ → Bool) → List Bool → Type 0
-IsCodedLeft unit coded flags = (k : ℕ) → k < 16 → slice_index_or flags k false ≡ coded_near unit.layout unit.address coded 0 (k + 1)
+IsCodedLeft unit coded flags =
+    (k : ℕ) → k < 16 → slice_index_or flags k false ≡ coded_near unit.layout unit.address coded 0 (k + 1)
 
 abbrev pub IsCodedAbove : Unit → (ℕ → ℕ → Bool) → List Bool → Type 0
-IsCodedAbove unit coded flags = (k : ℕ) → k < 16 → slice_index_or flags k false ≡ coded_near unit.layout unit.address coded (k + 1) 0
+IsCodedAbove unit coded flags =
+    (k : ℕ) → k < 16 → slice_index_or flags k false ≡ coded_near unit.layout unit.address coded (k + 1) 0
 
 -- the places of a unit that the picture has
 pub record IsBlock (unit : Unit) (block : Block) : Type 0 where
@@ -69,14 +71,16 @@ pub record IsSmall (block : Block) : Type 0 where
 
 -- a place of a unit that was read, of 16 rows of 16
 abbrev pub read_place : List UnitPlace → ℕ → ℕ → UnitPlace
-read_place read x y = by_place (record { left_strength = 0; top_strength = 0; coded = false; qp_y = pos 0; kept = false }) read x y
+read_place read x y =
+    by_place (record { left_strength = 0; top_strength = 0; coded = false; qp_y = pos 0; kept = false }) read x y
 
 -- what is kept of a place of a slice
 abbrev pub filter_place : SliceDeblocking → UnitPlace → FilterPlace
 filter_place slice place = record { place = place_of slice place; coded = place.coded }
 
 -- the places of a unit over those of the picture
-unfoldable pub filter_places_laid : PictureShape → ℕ → SliceDeblocking → (ℕ → ℕ → UnitPlace) → (ℕ → ℕ → FilterPlace) → ℕ → ℕ → FilterPlace
+unfoldable pub filter_places_laid : PictureShape → ℕ → SliceDeblocking → (ℕ → ℕ → UnitPlace) → (ℕ → ℕ → FilterPlace) → ℕ
+    → ℕ → FilterPlace
 filter_places_laid picture address slice read places x y =
     if is_of_unit picture address x y
     then filter_place slice (read (x - first_column picture address) (y - first_row picture address))

@@ -4,7 +4,8 @@ ghost use Rattle.std.specs.Prelude.{◌≡◌, ◌+◌, ◌-◌, ◌≤◌, ◌&
 ghost use Rattle.filter_field.specs.Places.{places_of};
 ghost use Rattle.picture_filters.specs.Filtering.{IsCodedAbove, IsCodedLeft, IsUnit, coded_part};
 ghost use Rattle.spec_picture_data.specs.Shapes.{qp_bd_offset};
-ghost use Rattle.spec_picture_filters.specs.Units.{coded_near, is_left_filtered, is_reached, is_top_filtered, pcm_disabled};
+ghost use Rattle.spec_picture_filters.specs.Units.{coded_near, is_left_filtered, is_reached, is_top_filtered};
+ghost use Rattle.spec_picture_filters.specs.Units.{pcm_disabled};
 
 use crate::unit::Unit;
 use boundary_strengths::UnitSides;
@@ -21,7 +22,8 @@ pub(crate) fn unit_sides(
     requires { IsUnit plan.now segment.now unit.now }
     ensures left { result.filter_left ≡ is_left_filtered plan.now segment.now unit.now.address }
     ensures top { result.filter_top ≡ is_top_filtered plan.now segment.now unit.now.address }
-    ensures disabled { result.deblocking_disabled ≡ segment.now.header.slice.deblocking.slice_deblocking_filter_disabled_flag }
+    ensures disabled { result.deblocking_disabled
+        ≡ segment.now.header.slice.deblocking.slice_deblocking_filter_disabled_flag }
     ensures pcm { result.pcm_loop_filter_disabled ≡ pcm_disabled plan.now.sps.pcm }
     ensures offset { result.qp_bd_offset ≡ qp_bd_offset plan.now.sps }
     ensures small { result.qp_bd_offset ≤ 48 }
@@ -69,7 +71,8 @@ fn is_top_filtered(plan: &PicturePlan, segment: &SegmentPlan, unit: &Unit) -> bo
 
 /// Whether the edges to a unit that was read before are filtered.
 fn is_reached(segment: &SegmentPlan, unit: &Unit, before: u32) -> bool
-    ensures { result ≡ (nat_le unit.now.slice before || segment.now.header.slice.slice_loop_filter_across_slices_enabled_flag) }
+    ensures { result
+        ≡ (nat_le unit.now.slice before || segment.now.header.slice.slice_loop_filter_across_slices_enabled_flag) }
 {
     let slice = &segment.header.fields().slice;
     unit.slice <= before || slice.slice_loop_filter_across_slices_enabled_flag

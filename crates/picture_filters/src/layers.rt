@@ -29,7 +29,8 @@ pub(crate) fn lay_places(
     field: &mut PlaceField,
 )
     requires { HasPlaces field.old unit.now.layout.across unit.now.layout.down }
-    ensures value { (i j : ℕ) → places_of field.new i j ≡ filter_places_laid unit.now.layout unit.now.address slice (read_place read.now) (places_of field.old) i j }
+    ensures value { (i j : ℕ) → places_of field.new i j
+        ≡ filter_places_laid unit.now.layout unit.now.address slice (read_place read.now) (places_of field.old) i j }
     ensures sides { HasPlaces field.new unit.now.layout.across unit.now.layout.down }
     ensures few { unit_places unit.now.layout ≤ 16 }
 {
@@ -81,7 +82,10 @@ fn lay_row(
     requires columns { block.columns ≤ field.old.across - block.x }
     requires rows { block.rows ≤ field.old.down - block.y }
     requires small { IsSmall block }
-    ensures places { (i j : ℕ) → places_of field.new i j ≡ (if (j == block.y + row) && (nat_le block.x i && nat_lt i (block.x + block.columns)) then filter_place slice (read_place read.now (i - block.x) row) else places_of field.old i j) }
+    ensures places { (i j : ℕ) → places_of field.new i j
+        ≡ (if (j == block.y + row) && (nat_le block.x i && nat_lt i (block.x + block.columns))
+        then filter_place slice (read_place read.now (i - block.x) row)
+        else places_of field.old i j) }
     ensures sides { (across down : ℕ) → HasPlaces field.old across down → HasPlaces field.new across down }
 {
     for column in 0..block.columns {

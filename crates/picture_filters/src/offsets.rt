@@ -23,7 +23,8 @@ pub(crate) fn lay_offsets(
 )
     requires unit { IsUnit plan.now segment.now unit.now }
     requires sides { HasUnits units.old unit.now.layout.width (height_in_ctbs plan.now.sps) }
-    ensures value { (c i j : ℕ) → units_of units.new c i j ≡ units_laid plan.now segment.now unit.now.address sao (units_of units.old) c i j }
+    ensures value { (c i j : ℕ)
+        → units_of units.new c i j ≡ units_laid plan.now segment.now unit.now.address sao (units_of units.old) c i j }
     ensures sides { HasUnits units.new unit.now.layout.width (height_in_ctbs plan.now.sps) }
 {
     let _ = plan;
@@ -38,7 +39,12 @@ pub(crate) fn lay_offsets(
 
 /// A component of a unit.
 fn unit_read(segment: &SegmentPlan, unit: &Unit, offset: ComponentOffset) -> OffsetUnit
-    ensures { result ≡ record { offset = offset; slice = unit.now.slice; across = segment.now.header.slice.slice_loop_filter_across_slices_enabled_flag } }
+    ensures { result
+        ≡ record {
+          offset = offset;
+          slice = unit.now.slice;
+          across = segment.now.header.slice.slice_loop_filter_across_slices_enabled_flag;
+        } }
 {
     let slice = &segment.header.fields().slice;
     OffsetUnit {

@@ -56,7 +56,11 @@ impl<'a> Model for PictureFilters<'a> {
 
     ghost view = { λ f. record { plan = f.plan.now; places = f.places; units = f.units } };
 
-    ghost invariant = { λ f. (f.layout ≡ picture_shape f.plan.now.sps f.plan.now.pps) × HasPlaces f.places f.layout.across f.layout.down × HasUnits f.units f.layout.width (height_in_ctbs f.plan.now.sps) × HasRoom f.scratch f.plan.now.sps.format.pic_width_in_luma_samples f.plan.now.sps.format.pic_height_in_luma_samples };
+    ghost invariant = { λ f. (f.layout ≡ picture_shape f.plan.now.sps f.plan.now.pps)
+        × HasPlaces f.places f.layout.across f.layout.down
+        × HasUnits f.units f.layout.width (height_in_ctbs f.plan.now.sps)
+        × HasRoom f.scratch f.plan.now.sps.format.pic_width_in_luma_samples
+        f.plan.now.sps.format.pic_height_in_luma_samples };
 }
 
 impl<'a> PictureFilters<'a> {
@@ -88,7 +92,9 @@ impl<'a> PictureFilters<'a> {
         motion: &MotionField,
     )
         ensures plan { self.new.plan ≡ self.old.plan }
-        ensures value { All IsPlacedItem records.now.items → ((i j : ℕ) → qp_at records.now.items i j ≤ 127) → data_of self.new ≡ read_added self.old.plan segment.now address records.now (motions_of motion.now) (data_of self.old) }
+        ensures value { All IsPlacedItem records.now.items → ((i j : ℕ) → qp_at records.now.items i j ≤ 127)
+            → data_of self.new
+            ≡ read_added self.old.plan segment.now address records.now (motions_of motion.now) (data_of self.old) }
     {
         let unit = self.unit_of(segment, address);
         let sides = unit_sides(self.plan, segment, &unit, &self.places);
@@ -119,11 +125,15 @@ impl<'a> PictureFilters<'a> {
 
     /// Takes the samples of the picture through its loop filters, deblocking and then sample adaptive offset (8.7).
     pub fn filter(&mut self, planes: &mut Planes)
-        requires sides { HasSides planes.old self.old.plan.sps.format.pic_width_in_luma_samples self.old.plan.sps.format.pic_height_in_luma_samples }
-        requires bounded { (c x y : ℕ) → c < 3 → samples_of planes.old c x y ≤ 2 ^ depth_of (filter_format self.old.plan) c - 1 }
+        requires sides { HasSides planes.old self.old.plan.sps.format.pic_width_in_luma_samples
+            self.old.plan.sps.format.pic_height_in_luma_samples }
+        requires bounded { (c x y : ℕ) → c < 3
+            → samples_of planes.old c x y ≤ 2 ^ depth_of (filter_format self.old.plan) c - 1 }
         ensures same { self.new ≡ self.old }
-        ensures value { (c x y : ℕ) → c < 3 → x < plane_width planes.old c → y < plane_height planes.old c → samples_of planes.new c x y ≡ filtered self.old.plan (data_of self.old) (samples_of planes.old) c x y }
-        ensures sides { HasSides planes.new self.old.plan.sps.format.pic_width_in_luma_samples self.old.plan.sps.format.pic_height_in_luma_samples }
+        ensures value { (c x y : ℕ) → c < 3 → x < plane_width planes.old c → y < plane_height planes.old c
+            → samples_of planes.new c x y ≡ filtered self.old.plan (data_of self.old) (samples_of planes.old) c x y }
+        ensures sides { HasSides planes.new self.old.plan.sps.format.pic_width_in_luma_samples
+            self.old.plan.sps.format.pic_height_in_luma_samples }
     {
         filter_planned(
             self.plan,
@@ -137,7 +147,8 @@ impl<'a> PictureFilters<'a> {
 
 /// Memory in which the samples of a picture are filtered.
 fn scratch_for(alloc: Global, plan: &PicturePlan) -> Result<FilterScratch, AllocError>
-    ensures { IfOk result (λ s. HasRoom s plan.now.sps.format.pic_width_in_luma_samples plan.now.sps.format.pic_height_in_luma_samples) }
+    ensures { IfOk result
+        (λ s. HasRoom s plan.now.sps.format.pic_width_in_luma_samples plan.now.sps.format.pic_height_in_luma_samples) }
 {
     let format = &plan.sps.fields().format;
     FilterScratch::new(

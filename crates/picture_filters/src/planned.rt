@@ -26,14 +26,21 @@ pub(crate) fn filter_planned(
     scratch: &mut FilterScratch,
     planes: &mut Planes,
 )
-    requires places { HasPlaces places.now (plan.now.sps.format.pic_width_in_luma_samples / 4) (plan.now.sps.format.pic_height_in_luma_samples / 4) }
+    requires places { HasPlaces places.now (plan.now.sps.format.pic_width_in_luma_samples / 4)
+        (plan.now.sps.format.pic_height_in_luma_samples / 4) }
     requires units { HasUnits units.now (width_in_ctbs plan.now.sps) (height_in_ctbs plan.now.sps) }
-    requires room { HasRoom scratch.old plan.now.sps.format.pic_width_in_luma_samples plan.now.sps.format.pic_height_in_luma_samples }
-    requires sides { HasSides planes.old plan.now.sps.format.pic_width_in_luma_samples plan.now.sps.format.pic_height_in_luma_samples }
+    requires room { HasRoom scratch.old plan.now.sps.format.pic_width_in_luma_samples
+        plan.now.sps.format.pic_height_in_luma_samples }
+    requires sides { HasSides planes.old plan.now.sps.format.pic_width_in_luma_samples
+        plan.now.sps.format.pic_height_in_luma_samples }
     requires bounded { (c x y : ℕ) → c < 3 → samples_of planes.old c x y ≤ 2 ^ depth_of (filter_format plan.now) c - 1 }
-    ensures value { (c x y : ℕ) → c < 3 → x < plane_width planes.old c → y < plane_height planes.old c → samples_of planes.new c x y ≡ filtered plan.now (gathered (places_of places.now) (units_of units.now)) (samples_of planes.old) c x y }
-    ensures sides { HasSides planes.new plan.now.sps.format.pic_width_in_luma_samples plan.now.sps.format.pic_height_in_luma_samples }
-    ensures room { HasRoom scratch.new plan.now.sps.format.pic_width_in_luma_samples plan.now.sps.format.pic_height_in_luma_samples }
+    ensures value { (c x y : ℕ) → c < 3 → x < plane_width planes.old c → y < plane_height planes.old c
+        → samples_of planes.new c x y
+        ≡ filtered plan.now (gathered (places_of places.now) (units_of units.now)) (samples_of planes.old) c x y }
+    ensures sides { HasSides planes.new plan.now.sps.format.pic_width_in_luma_samples
+        plan.now.sps.format.pic_height_in_luma_samples }
+    ensures room { HasRoom scratch.new plan.now.sps.format.pic_width_in_luma_samples
+        plan.now.sps.format.pic_height_in_luma_samples }
 {
     let format = filter_format(plan);
     let view = PictureView::new(format, places, units);

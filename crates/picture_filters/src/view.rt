@@ -32,7 +32,9 @@ impl<'a> Model for PictureView<'a> {
 
     ghost view = { λ v. record { format = v.format; places = v.places.now; units = v.units.now } };
 
-    ghost invariant = { λ v. (v.format.ctb_size ≤ 64) × HasPlaces v.places.now (v.format.width / 4) (v.format.height / 4) × HasUnits v.units.now (columns_of v.format) (rows_of v.format) };
+    ghost invariant = { λ v. (v.format.ctb_size ≤ 64)
+        × HasPlaces v.places.now (v.format.width / 4) (v.format.height / 4)
+        × HasUnits v.units.now (columns_of v.format) (rows_of v.format) };
 }
 
 impl<'a> PictureView<'a> {

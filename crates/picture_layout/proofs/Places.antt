@@ -19,4 +19,6 @@ block_ends n x some =
 
 -- one fewer
 pub before : (n r : ℕ) → 1 ≤ r → n * (r - 1) + n ≡ n * r
-before n r some = let e : r ≡ suc (r - 1) = omega arith in let f : n * suc (r - 1) ≡ n * (r - 1) + n = grind arith in sym f ∙ ap (λ k. n * k) (sym e)
+before n r some =
+    let e : r ≡ suc (r - 1) = omega arith in
+    let f : n * suc (r - 1) ≡ n * (r - 1) + n = grind arith in sym f ∙ ap (λ k. n * k) (sym e)

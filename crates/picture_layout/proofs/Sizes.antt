@@ -1,5 +1,6 @@
 -- A picture's size in units and in places.
-use Rattle.std.proofs.Common.{◌≡◌, ℕ, Bool, zero, suc, ◌+◌, ◌-◌, ◌*◌, ◌/◌, ◌%◌, ◌^◌, ◌<◌, ◌≤◌, ap, sym, subst, ◌∙◌, arith}
+use Rattle.std.proofs.Common.{◌≡◌, ℕ, Bool, zero, suc, ◌+◌, ◌-◌, ◌*◌, ◌/◌, ◌%◌, ◌^◌, ◌<◌, ◌≤◌, ap, sym, subst, ◌∙◌}
+use Rattle.std.proofs.Common.{arith}
 use Rattle.std.proofs.lemmas.Nat.{div-mul-add}
 use Rattle.header_types.specs.declared.sps.SpsFields.{SpsFields}
 use Rattle.header_types.specs.SequenceParameterSets.{IsSps, blocks_across, ctb_log2, width_in_ctbs}
@@ -22,7 +23,8 @@ whole_places w m least none =
     let times : w / 2 ^ m * 2 ^ m ≡ w / 2 ^ m * (4 * 2 ^ (m - 2)) = ap (λ k. w / 2 ^ m * k) f in
     let fours : w / 2 ^ m * (4 * 2 ^ (m - 2)) ≡ w / 2 ^ m * 2 ^ (m - 2) * 4 + 0 = grind arith in
     let e : w ≡ w / 2 ^ m * 2 ^ (m - 2) * 4 + 0 = omega (arith, wh, times, fours, none) in
-    let d : w / 4 ≡ w / 2 ^ m * 2 ^ (m - 2) = ap (λ k. k / 4) e ∙ div-mul-add (w / 2 ^ m * 2 ^ (m - 2)) 4 0 (omega arith) in
+    let d : w / 4 ≡ w / 2 ^ m * 2 ^ (m - 2) =
+    ap (λ k. k / 4) e ∙ div-mul-add (w / 2 ^ m * 2 ^ (m - 2)) 4 0 (omega arith) in
     omega (arith, d, e)
 
 -- units cover a row
@@ -31,25 +33,32 @@ unfolding blocks_across
 covers w m least some places =
     let s : ℕ = 2 ^ m in
     let ends = block_ends (2 ^ m) (w + (2 ^ m - 1)) some in
-    let f : 2 ^ m * ((w + (2 ^ m - 1)) / 2 ^ m) ≡ 4 * 2 ^ (m - 2) * ((w + (2 ^ m - 1)) / 2 ^ m) = ap (λ k. k * ((w + (2 ^ m - 1)) / 2 ^ m)) (four m least) in
-    let g : 4 * 2 ^ (m - 2) * ((w + (2 ^ m - 1)) / 2 ^ m) ≡ 4 * (2 ^ (m - 2) * ((w + (2 ^ m - 1)) / 2 ^ m)) = grind arith in
+    let f : 2 ^ m * ((w + (2 ^ m - 1)) / 2 ^ m) ≡ 4 * 2 ^ (m - 2) * ((w + (2 ^ m - 1)) / 2 ^ m) =
+    ap (λ k. k * ((w + (2 ^ m - 1)) / 2 ^ m)) (four m least) in
+    let g : 4 * 2 ^ (m - 2) * ((w + (2 ^ m - 1)) / 2 ^ m) ≡ 4 * (2 ^ (m - 2) * ((w + (2 ^ m - 1)) / 2 ^ m)) =
+    grind arith in
     omega (arith, ends, f, g, places)
 
 -- and none of them is past its end
-pub needs : (w m : ℕ) → 2 ≤ m → 1 ≤ 2 ^ m → 4 * (w / 4) ≡ w → 1 ≤ w → 1 ≤ blocks_across (2 ^ m) w → 2 ^ (m - 2) * (blocks_across (2 ^ m) w - 1) < w / 4
+pub needs : (w m : ℕ) → 2 ≤ m → 1 ≤ 2 ^ m → 4 * (w / 4) ≡ w → 1 ≤ w → 1 ≤ blocks_across (2 ^ m) w
+    → 2 ^ (m - 2) * (blocks_across (2 ^ m) w - 1) < w / 4
 unfolding blocks_across
 needs w m least some places wide units =
     let begins = block_begins (2 ^ m) (w + (2 ^ m - 1)) in
     let last = before (2 ^ m) ((w + (2 ^ m - 1)) / 2 ^ m) units in
-    let f : 2 ^ m * ((w + (2 ^ m - 1)) / 2 ^ m - 1) ≡ 4 * 2 ^ (m - 2) * ((w + (2 ^ m - 1)) / 2 ^ m - 1) = ap (λ k. k * ((w + (2 ^ m - 1)) / 2 ^ m - 1)) (four m least) in
-    let g : 4 * 2 ^ (m - 2) * ((w + (2 ^ m - 1)) / 2 ^ m - 1) ≡ 4 * (2 ^ (m - 2) * ((w + (2 ^ m - 1)) / 2 ^ m - 1)) = grind arith in
+    let f : 2 ^ m * ((w + (2 ^ m - 1)) / 2 ^ m - 1) ≡ 4 * 2 ^ (m - 2) * ((w + (2 ^ m - 1)) / 2 ^ m - 1) =
+    ap (λ k. k * ((w + (2 ^ m - 1)) / 2 ^ m - 1)) (four m least) in
+    let g : 4 * 2 ^ (m - 2) * ((w + (2 ^ m - 1)) / 2 ^ m - 1) ≡ 4 * (2 ^ (m - 2) * ((w + (2 ^ m - 1)) / 2 ^ m - 1)) =
+    grind arith in
     omega (arith, begins, last, f, g, places, wide)
 
 -- the sides of a picture whose sequence parameter set is in range
-pub whole_width : (sps : SpsFields) → IsSps sps → 4 * (sps.format.pic_width_in_luma_samples / 4) ≡ sps.format.pic_width_in_luma_samples
+pub whole_width : (sps : SpsFields) → IsSps sps
+    → 4 * (sps.format.pic_width_in_luma_samples / 4) ≡ sps.format.pic_width_in_luma_samples
 whole_width sps s = whole_places _ _ (omega arith) s.blocks.columns
 
-pub whole_height : (sps : SpsFields) → IsSps sps → 4 * (sps.format.pic_height_in_luma_samples / 4) ≡ sps.format.pic_height_in_luma_samples
+pub whole_height : (sps : SpsFields) → IsSps sps
+    → 4 * (sps.format.pic_height_in_luma_samples / 4) ≡ sps.format.pic_height_in_luma_samples
 whole_height sps s = whole_places _ _ (omega arith) s.blocks.rows
 
 small_size : (m : ℕ) → 4 ≤ m → m ≤ 6 → 1 ≤ 2 ^ m
@@ -59,8 +68,15 @@ small_size m least most = let f = four m (omega arith) in pow_some m
     pow_some zero = omega arith
     pow_some (suc k) = let one = pow_some k in let e : 2 ^ suc k ≡ 2 * 2 ^ k = grind arith in omega (arith, one, e)
 
-pub shape_is : (sps : SpsFields) (width : ℕ) (sync : Bool) → IsSps sps → width ≡ width_in_ctbs sps → 1 ≤ width → width ≤ 512
-    → IsShape (record { width = width; across = sps.format.pic_width_in_luma_samples / 4; down = sps.format.pic_height_in_luma_samples / 4; size = ctb_log2 sps.blocks - 2; sync = sync })
+pub shape_is : (sps : SpsFields) (width : ℕ) (sync : Bool) → IsSps sps → width ≡ width_in_ctbs sps → 1 ≤ width
+    → width ≤ 512
+    → IsShape (record {
+      width = width;
+      across = sps.format.pic_width_in_luma_samples / 4;
+      down = sps.format.pic_height_in_luma_samples / 4;
+      size = ctb_log2 sps.blocks - 2;
+      sync = sync;
+    })
 shape_is sps width sync s e some few =
     let places = whole_width sps s in
     let lines = whole_height sps s in
@@ -73,7 +89,10 @@ shape_is sps width sync s e some few =
       greatest = omega (arith, s.blocks.greatest_ctb);
       across = omega (arith, places, s.format.width);
       down = omega (arith, lines, s.format.height);
-      covered = subst (λ w. sps.format.pic_width_in_luma_samples / 4 ≤ 2 ^ (ctb_log2 sps.blocks - 2) * w) (sym e) (covers sps.format.pic_width_in_luma_samples (ctb_log2 sps.blocks) two one places);
+      covered =
+          subst (λ w. sps.format.pic_width_in_luma_samples / 4 ≤ 2 ^ (ctb_log2 sps.blocks - 2) * w) (sym e)
+          (covers sps.format.pic_width_in_luma_samples (ctb_log2 sps.blocks) two one places);
       needed = subst (λ w. 2 ^ (ctb_log2 sps.blocks - 2) * (w - 1) < sps.format.pic_width_in_luma_samples / 4) (sym e)
-          (needs sps.format.pic_width_in_luma_samples (ctb_log2 sps.blocks) two one places s.format.some_width (subst (λ w. 1 ≤ w) e some));
+          (needs sps.format.pic_width_in_luma_samples (ctb_log2 sps.blocks) two one places s.format.some_width
+          (subst (λ w. 1 ≤ w) e some));
     }

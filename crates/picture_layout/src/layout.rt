@@ -28,7 +28,13 @@ impl Model for Layout {
 
     ghost inverse = { λ s. record { width = s.width; across = s.across; down = s.down; size = s.size; sync = s.sync } };
 
-    ghost invariant = { λ l. IsShape (record { width = l.width; across = l.across; down = l.down; size = l.size; sync = l.sync }) };
+    ghost invariant = { λ l. IsShape (record {
+      width = l.width;
+      across = l.across;
+      down = l.down;
+      size = l.size;
+      sync = l.sync;
+    }) };
 }
 
 impl Layout {

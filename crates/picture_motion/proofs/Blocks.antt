@@ -12,7 +12,9 @@ blocks_at : (picture : PictureShape) (address : ℕ) (motions : Motions) (old ne
 unfolding beneath_unit
 blocks_at picture address motions old new i j none e = grind (arith, nat_tests)
 
-pub blocks_gathered : (picture : PictureShape) (address : ℕ) (motions : Motions) (old new : Beneath) → ((i j : ℕ) → old i j ≡ None)
+pub blocks_gathered : (picture : PictureShape) (address : ℕ) (motions : Motions) (old new : Beneath)
+    → ((i j : ℕ) → old i j ≡ None)
     → ((i j : ℕ) → new i j ≡ cond (nat_lt i 5 && nat_lt j 4) (beneath_unit picture address motions i j) (old i j))
     → new ≡ beneath_unit picture address motions
-blocks_gathered picture address motions old new none e = fun_ext (λ i. fun_ext (λ j. blocks_at picture address motions old new i j (none i j) (e i j)))
+blocks_gathered picture address motions old new none e =
+    fun_ext (λ i. fun_ext (λ j. blocks_at picture address motions old new i j (none i j) (e i j)))

@@ -8,14 +8,21 @@ use Rattle.picture_motion.specs.Units.{at_border}
 use Rattle.picture_motion.specs.declared.unit.Unit.{Unit}
 
 beside_at : (unit : Unit) (motions : Motions) (none above left : Cells) (i j : ℕ) → held none i j ≡ None
-    → held above i j ≡ cond (j == 0 && nat_le i (2 * unit_places unit.layout)) (at_border unit motions i 0) (held none i j)
-    → held left i j ≡ cond (i == 0 && (nat_le 1 j && nat_le j (unit_places unit.layout))) (at_border unit motions 0 j) (held above i j)
+    → held above i j
+    ≡ cond (j == 0 && nat_le i (2 * unit_places unit.layout)) (at_border unit motions i 0) (held none i j)
+    → held left i j
+    ≡ cond (i == 0 && (nat_le 1 j && nat_le j (unit_places unit.layout))) (at_border unit motions 0 j) (held above i j)
     → held left i j ≡ known_beside unit.layout unit.slice unit.address motions i j
 unfolding known_beside
 beside_at unit motions none above left i j n a l = grind (arith, nat_tests)
 
 pub gathered : (unit : Unit) (motions : Motions) (none above left : Cells) → ((i j : ℕ) → held none i j ≡ None)
-    → ((i j : ℕ) → held above i j ≡ cond (j == 0 && nat_le i (2 * unit_places unit.layout)) (at_border unit motions i 0) (held none i j))
-    → ((i j : ℕ) → held left i j ≡ cond (i == 0 && (nat_le 1 j && nat_le j (unit_places unit.layout))) (at_border unit motions 0 j) (held above i j))
+    → ((i j : ℕ)
+    → held above i j
+    ≡ cond (j == 0 && nat_le i (2 * unit_places unit.layout)) (at_border unit motions i 0) (held none i j))
+    → ((i j : ℕ)
+    → held left i j
+    ≡ cond (i == 0 && (nat_le 1 j && nat_le j (unit_places unit.layout))) (at_border unit motions 0 j) (held above i j))
     → held left ≡ known_beside unit.layout unit.slice unit.address motions
-gathered unit motions none above left n a l = fun_ext (λ i. fun_ext (λ j. beside_at unit motions none above left i j (n i j) (a i j) (l i j)))
+gathered unit motions none above left n a l =
+    fun_ext (λ i. fun_ext (λ j. beside_at unit motions none above left i j (n i j) (a i j) (l i j)))

@@ -15,23 +15,31 @@ abbrev pub collocated_in : References → PicturePlan → SegmentPlan → Motion
 collocated_in pictures p s = collocated_motions pictures (collocated_entry s.header.slice (slice_start p s).lists)
 
 -- that of a slice without one
-pub collocated_none : (pictures : References) (p : PicturePlan) (s : SegmentPlan) → collocated_entry s.header.slice (slice_start p s).lists ≡ None
+pub collocated_none : (pictures : References) (p : PicturePlan) (s : SegmentPlan)
+    → collocated_entry s.header.slice (slice_start p s).lists ≡ None
     → no_motions ≡ collocated_in pictures p s
 collocated_none pictures p s e = sym (ap (λ (entry : Option RefEntry). collocated_motions pictures entry) e)
 
 -- that of a slice with one
-pub collocated_some : (pictures : References) (p : PicturePlan) (s : SegmentPlan) (entry : RefEntry) (collocated : Motions) → collocated_entry s.header.slice (slice_start p s).lists ≡ Some entry
+pub collocated_some : (pictures : References) (p : PicturePlan) (s : SegmentPlan) (entry : RefEntry)
+    (collocated : Motions)
+    → collocated_entry s.header.slice (slice_start p s).lists ≡ Some entry
     → collocated ≡ pictures entry.place → collocated ≡ collocated_in pictures p s
-collocated_some pictures p s entry collocated e same = same ∙ sym (ap (λ (entry : Option RefEntry). collocated_motions pictures entry) e)
+collocated_some pictures p s entry collocated e same =
+    same ∙ sym (ap (λ (entry : Option RefEntry). collocated_motions pictures entry) e)
 
 -- what is known of a unit, over that motion
-pub known_joins : (pictures : References) (p : PicturePlan) (s : SegmentPlan) (unit : TreeUnit) (collocated motions : Motions) → collocated ≡ collocated_in pictures p s
+pub known_joins : (pictures : References) (p : PicturePlan) (s : SegmentPlan) (unit : TreeUnit)
+    (collocated motions : Motions)
+    → collocated ≡ collocated_in pictures p s
     → known_over collocated p s unit.ctu unit.read.items motions ≡ known_of_unit pictures p s unit motions
 unfolding known_over known_of_unit
 known_joins pictures p s unit collocated motions e = rw e refl
 
 -- and the picture's motion behind it
-pub added_joins : (pictures : References) (p : PicturePlan) (s : SegmentPlan) (unit : TreeUnit) (collocated motions : Motions) → collocated ≡ collocated_in pictures p s
+pub added_joins : (pictures : References) (p : PicturePlan) (s : SegmentPlan) (unit : TreeUnit)
+    (collocated motions : Motions)
+    → collocated ≡ collocated_in pictures p s
     → derived_over collocated p s unit.ctu unit.read.items motions ≡ unit_added pictures p s unit motions
 unfolding derived_over unit_added
 added_joins pictures p s unit collocated motions e = rw (known_joins pictures p s unit collocated motions e) refl

@@ -10,11 +10,16 @@ use Rattle.picture_motion.specs.declared.unit.Unit.{Unit}
 use Rattle.picture_motion.specs.declared.unit_lines.Block.{Block}
 
 -- so many places from one on, as far as there are any
-within : (n whole x i count : ℕ) → count ≡ min n (whole - x) → (nat_le x i && nat_lt i (x + count)) ≡ ((nat_le x i && nat_lt i (x + n)) && nat_lt i whole)
+within : (n whole x i count : ℕ) → count ≡ min n (whole - x)
+    → (nat_le x i && nat_lt i (x + count)) ≡ ((nat_le x i && nat_lt i (x + n)) && nat_lt i whole)
 within n whole x i count e = grind (arith, nat_tests)
 
-laid_at : (unit : Unit) (block : Block) (slice : SliceMotion) (known : Known) (old new : Motions) (i j : ℕ) → IsBlock unit block
-    → new i j ≡ cond ((nat_le block.y j && nat_lt j (block.y + block.rows)) && (nat_le block.x i && nat_lt i (block.x + block.columns))) (pointing_motion slice (known (i - block.x + 1) (j - block.y + 1))) (old i j)
+laid_at : (unit : Unit) (block : Block) (slice : SliceMotion) (known : Known) (old new : Motions) (i j : ℕ)
+    → IsBlock unit block
+    → new i j
+    ≡ cond
+    ((nat_le block.y j && nat_lt j (block.y + block.rows)) && (nat_le block.x i && nat_lt i (block.x + block.columns)))
+    (pointing_motion slice (known (i - block.x + 1) (j - block.y + 1))) (old i j)
     → new i j ≡ unit_laid unit.layout unit.address slice known old i j
 unfolding unit_laid
 laid_at unit block slice known old new i j is e =
@@ -24,7 +29,13 @@ laid_at unit block slice known old new i j is e =
     let y = is.y in
     grind (arith, nat_tests)
 
-pub laid_rows : (unit : Unit) (block : Block) (slice : SliceMotion) (known : Known) (old new : Motions) → IsBlock unit block
-    → ((i j : ℕ) → new i j ≡ cond ((nat_le block.y j && nat_lt j (block.y + block.rows)) && (nat_le block.x i && nat_lt i (block.x + block.columns))) (pointing_motion slice (known (i - block.x + 1) (j - block.y + 1))) (old i j))
+pub laid_rows : (unit : Unit) (block : Block) (slice : SliceMotion) (known : Known) (old new : Motions)
+    → IsBlock unit block
+    → ((i j : ℕ)
+    → new i j
+    ≡ cond
+    ((nat_le block.y j && nat_lt j (block.y + block.rows)) && (nat_le block.x i && nat_lt i (block.x + block.columns)))
+    (pointing_motion slice (known (i - block.x + 1) (j - block.y + 1))) (old i j))
     → new ≡ unit_laid unit.layout unit.address slice known old
-laid_rows unit block slice known old new is e = fun_ext (λ i. fun_ext (λ j. laid_at unit block slice known old new i j is (e i j)))
+laid_rows unit block slice known old new is e =
+    fun_ext (λ i. fun_ext (λ j. laid_at unit block slice known old new i j is (e i j)))

@@ -28,4 +28,5 @@ known_over collocated p s address items motions =
 -- the motion of the picture behind that unit
 unfoldable pub derived_over : Motions → PicturePlan → SegmentPlan → ℕ → List Item → Motions → Motions
 derived_over collocated p s address items motions =
-    unit_laid (picture_shape p.sps p.pps) address (slice_motion p s address) (known_over collocated p s address items motions) motions
+    unit_laid (picture_shape p.sps p.pps) address (slice_motion p s address)
+    (known_over collocated p s address items motions) motions

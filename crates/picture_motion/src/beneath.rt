@@ -14,7 +14,8 @@ use spec_motion::{Collocated, CollocatedVector};
 /// nothing of it was.
 pub fn gather_beneath(unit: &Unit, collocated: &MotionField, motion: &mut UnitMotion)
     ensures places { held motion.new ≡ held motion.old }
-    ensures beneath { ((i j : ℕ) → held_beneath motion.old i j ≡ None) → held_beneath motion.new ≡ beneath_unit unit.now.layout unit.now.address (motions_of collocated.now) }
+    ensures beneath { ((i j : ℕ) → held_beneath motion.old i j ≡ None)
+        → held_beneath motion.new ≡ beneath_unit unit.now.layout unit.now.address (motions_of collocated.now) }
 {
     for row in 0..4 {
         gather_row(unit, collocated, row, motion);
@@ -25,7 +26,10 @@ pub fn gather_beneath(unit: &Unit, collocated: &MotionField, motion: &mut UnitMo
 fn gather_row(unit: &Unit, collocated: &MotionField, row: usize, motion: &mut UnitMotion)
     requires { row < 4 }
     ensures places { held motion.new ≡ held motion.old }
-    ensures beneath { (i j : ℕ) → held_beneath motion.new i j ≡ (if (j == row) && (nat_lt i 5) then beneath_unit unit.now.layout unit.now.address (motions_of collocated.now) i row else held_beneath motion.old i j) }
+    ensures beneath { (i j : ℕ) → held_beneath motion.new i j
+        ≡ (if (j == row) && (nat_lt i 5)
+        then beneath_unit unit.now.layout unit.now.address (motions_of collocated.now) i row
+        else held_beneath motion.old i j) }
 {
     for column in 0..5 {
         motion.put_beneath(column, row, beneath(unit, collocated, column, row));

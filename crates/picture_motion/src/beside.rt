@@ -1,6 +1,7 @@
 //! The motion that is known beside a coding tree unit (6.4.1, 6.4.2).
 
-ghost use Rattle.std.specs.Prelude.{◌≡◌, ℕ, ◌+◌, ◌-◌, ◌*◌, ◌<◌, ◌≤◌, ◌==◌, ◌&&◌, ◌||◌, nat_le, nat_lt, None, if◌then◌else◌};
+ghost use Rattle.std.specs.Prelude.{◌≡◌, ℕ, ◌+◌, ◌-◌, ◌*◌, ◌<◌, ◌≤◌, ◌==◌, ◌&&◌, ◌||◌, nat_le, nat_lt, None};
+ghost use Rattle.std.specs.Prelude.{if◌then◌else◌};
 ghost use Rattle.ctu_motion.specs.Held.{held, held_beneath};
 ghost use Rattle.picture_buffer.specs.Motion.{HasPlaces, motions_of};
 ghost use Rattle.picture_motion.specs.Units.{at_border};
@@ -14,7 +15,8 @@ use spec_motion::{Motion, Vector};
 /// What is known beside a unit becomes known, and nothing else is.
 pub fn gather_beside(unit: &Unit, field: &MotionField, motion: &mut UnitMotion)
     requires { HasPlaces field.now unit.now.layout.across unit.now.layout.down }
-    ensures places { held motion.new ≡ known_beside unit.now.layout unit.now.slice unit.now.address (motions_of field.now) }
+    ensures places { held motion.new
+        ≡ known_beside unit.now.layout unit.now.slice unit.now.address (motions_of field.now) }
     ensures beneath { (column row : ℕ) → held_beneath motion.new column row ≡ None }
 {
     motion.restart();
@@ -25,7 +27,10 @@ pub fn gather_beside(unit: &Unit, field: &MotionField, motion: &mut UnitMotion)
 /// The row above, as far as the end of the unit behind it.
 fn gather_above(unit: &Unit, field: &MotionField, motion: &mut UnitMotion)
     requires { HasPlaces field.now unit.now.layout.across unit.now.layout.down }
-    ensures places { (i j : ℕ) → held motion.new i j ≡ (if (j == 0) && (nat_le i (2 * unit_places unit.now.layout)) then at_border unit.now (motions_of field.now) i 0 else held motion.old i j) }
+    ensures places { (i j : ℕ) → held motion.new i j
+        ≡ (if (j == 0) && (nat_le i (2 * unit_places unit.now.layout))
+        then at_border unit.now (motions_of field.now) i 0
+        else held motion.old i j) }
     ensures beneath { held_beneath motion.new ≡ held_beneath motion.old }
 {
     for column in 0..2 * unit.layout.side() + 1 {
@@ -36,7 +41,10 @@ fn gather_above(unit: &Unit, field: &MotionField, motion: &mut UnitMotion)
 /// The column on the left.
 fn gather_left(unit: &Unit, field: &MotionField, motion: &mut UnitMotion)
     requires { HasPlaces field.now unit.now.layout.across unit.now.layout.down }
-    ensures places { (i j : ℕ) → held motion.new i j ≡ (if (i == 0) && ((nat_le 1 j) && (nat_le j (unit_places unit.now.layout))) then at_border unit.now (motions_of field.now) 0 j else held motion.old i j) }
+    ensures places { (i j : ℕ) → held motion.new i j
+        ≡ (if (i == 0) && ((nat_le 1 j) && (nat_le j (unit_places unit.now.layout)))
+        then at_border unit.now (motions_of field.now) 0 j
+        else held motion.old i j) }
     ensures beneath { held_beneath motion.new ≡ held_beneath motion.old }
 {
     for row in 1..unit.layout.side() + 1 {

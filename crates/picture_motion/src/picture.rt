@@ -46,7 +46,8 @@ impl<'a> Model for PictureMotion<'a> {
 
     ghost view = { λ m. record { plan = m.plan.now; field = m.field; last = m.motion } };
 
-    ghost invariant = { λ m. (m.layout ≡ picture_shape m.plan.now.sps m.plan.now.pps) × HasPlaces m.field m.layout.across m.layout.down };
+    ghost invariant = { λ m. (m.layout ≡ picture_shape m.plan.now.sps m.plan.now.pps)
+        × HasPlaces m.field m.layout.across m.layout.down };
 }
 
 impl<'a> PictureMotion<'a> {
@@ -62,7 +63,8 @@ impl<'a> PictureMotion<'a> {
 
     /// The same over a field without motion, of the picture's places. It takes no memory.
     pub fn over(plan: &'a PicturePlan, field: MotionField) -> PictureMotion<'a>
-        requires sides { HasPlaces field (plan.now.sps.format.pic_width_in_luma_samples / 4) (plan.now.sps.format.pic_height_in_luma_samples / 4) }
+        requires sides { HasPlaces field (plan.now.sps.format.pic_width_in_luma_samples / 4)
+            (plan.now.sps.format.pic_height_in_luma_samples / 4) }
         requires places { (x y : ℕ) → motions_of field x y ≡ None }
         ensures plan { result.plan ≡ plan.now }
         ensures field { motions_of result.field ≡ no_motions }
@@ -78,8 +80,12 @@ impl<'a> PictureMotion<'a> {
     /// The next unit, of a segment whose slice has no collocated picture.
     pub fn derive(&mut self, segment: &SegmentPlan, address: u32, records: &Records)
         ensures plan { self.new.plan ≡ self.old.plan }
-        ensures last { All IsPlacedItem records.now.items → held self.new.last ≡ known_over no_motions self.old.plan segment.now address records.now.items (motions_of self.old.field) }
-        ensures value { All IsPlacedItem records.now.items → motions_of self.new.field ≡ derived_over no_motions self.old.plan segment.now address records.now.items (motions_of self.old.field) }
+        ensures last { All IsPlacedItem records.now.items
+            → held self.new.last
+            ≡ known_over no_motions self.old.plan segment.now address records.now.items (motions_of self.old.field) }
+        ensures value { All IsPlacedItem records.now.items
+            → motions_of self.new.field
+            ≡ derived_over no_motions self.old.plan segment.now address records.now.items (motions_of self.old.field) }
     {
         let unit = self.unit_of(segment, address);
         gather_beside(&unit, &self.field, &mut self.motion);
@@ -95,8 +101,14 @@ impl<'a> PictureMotion<'a> {
         collocated: &MotionField,
     )
         ensures plan { self.new.plan ≡ self.old.plan }
-        ensures last { All IsPlacedItem records.now.items → held self.new.last ≡ known_over (motions_of collocated.now) self.old.plan segment.now address records.now.items (motions_of self.old.field) }
-        ensures value { All IsPlacedItem records.now.items → motions_of self.new.field ≡ derived_over (motions_of collocated.now) self.old.plan segment.now address records.now.items (motions_of self.old.field) }
+        ensures last { All IsPlacedItem records.now.items
+            → held self.new.last
+            ≡ known_over (motions_of collocated.now) self.old.plan segment.now address records.now.items
+            (motions_of self.old.field) }
+        ensures value { All IsPlacedItem records.now.items
+            → motions_of self.new.field
+            ≡ derived_over (motions_of collocated.now) self.old.plan segment.now address records.now.items
+            (motions_of self.old.field) }
     {
         let unit = self.unit_of(segment, address);
         gather_beside(&unit, &self.field, &mut self.motion);
@@ -123,8 +135,13 @@ impl<'a> PictureMotion<'a> {
         requires layout { unit.now.layout ≡ picture_shape self.old.plan.sps self.old.plan.pps }
         requires sides { HasPlaces self.old.field unit.now.layout.across unit.now.layout.down }
         ensures plan { self.new.plan ≡ self.old.plan }
-        ensures last { All IsPlacedItem records.now.items → held self.new.last ≡ unit_derived (slice_motion self.old.plan segment.now unit.now.address) (held_beneath self.old.last) records.now.items (held self.old.last) }
-        ensures value { motions_of self.new.field ≡ unit_laid unit.now.layout unit.now.address (slice_motion self.old.plan segment.now unit.now.address) (held self.new.last) (motions_of self.old.field) }
+        ensures last { All IsPlacedItem records.now.items
+            → held self.new.last
+            ≡ unit_derived (slice_motion self.old.plan segment.now unit.now.address) (held_beneath self.old.last)
+            records.now.items (held self.old.last) }
+        ensures value { motions_of self.new.field
+            ≡ unit_laid unit.now.layout unit.now.address (slice_motion self.old.plan segment.now unit.now.address)
+            (held self.new.last) (motions_of self.old.field) }
     {
         let slice = slice_motion(unit, self.plan, segment);
         derive_motion(records.items(), &slice, &mut self.motion);

@@ -2,7 +2,10 @@
 
 ghost use Rattle.std.specs.Prelude.{◌≡◌, ◌+◌, ◌-◌, ◌*◌, ◌<◌, ◌≤◌, length, min, if◌then◌else◌};
 ghost use Rattle.spec_picture_data.specs.Shapes.{picture_shape, slice_start};
-ghost use Rattle.spec_picture_motion.specs.Slices.{collocated_entry, collocation, entries_0, entries_1, is_bi_predictive, is_from_list_0, is_there, log2_parallel, max_candidates, motion_of_slice, order_of, reference_at, references, slice_motion};
+ghost use Rattle.spec_picture_motion.specs.Slices.{collocated_entry, collocation, entries_0, entries_1};
+ghost use Rattle.spec_picture_motion.specs.Slices.{is_bi_predictive, is_from_list_0, is_there, log2_parallel};
+ghost use Rattle.spec_picture_motion.specs.Slices.{max_candidates, motion_of_slice, order_of, reference_at, references};
+ghost use Rattle.spec_picture_motion.specs.Slices.{slice_motion};
 
 use crate::unit::Unit;
 use header_types::{Lists, Pps, RefEntry};

@@ -1,7 +1,8 @@
 //! A coding tree unit's place in a picture and in its slice.
 
 ghost use Rattle.std.specs.Prelude.{◌≡◌, ◌+◌, ◌-◌, ◌*◌, ◌/◌, ◌<◌, ◌≤◌};
-ghost use Rattle.spec_picture_motion.specs.Field.{first_column, first_row, has_place, is_available, unit_of_place, unit_places};
+ghost use Rattle.spec_picture_motion.specs.Field.{first_column, first_row, has_place, is_available, unit_of_place};
+ghost use Rattle.spec_picture_motion.specs.Field.{unit_places};
 
 use picture_layout::Layout;
 

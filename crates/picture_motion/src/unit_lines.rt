@@ -16,7 +16,8 @@ use spec_motion::SliceMotion;
 /// The motion of a unit over that of the picture.
 pub fn lay_unit(unit: &Unit, slice: &SliceMotion, motion: &UnitMotion, field: &mut MotionField)
     requires { HasPlaces field.old unit.now.layout.across unit.now.layout.down }
-    ensures value { motions_of field.new ≡ unit_laid unit.now.layout unit.now.address slice.now (held motion.now) (motions_of field.old) }
+    ensures value { motions_of field.new
+        ≡ unit_laid unit.now.layout unit.now.address slice.now (held motion.now) (motions_of field.old) }
     ensures sides { HasPlaces field.new unit.now.layout.across unit.now.layout.down }
 {
     let block = block_of(unit);
@@ -66,7 +67,10 @@ fn lay_row(
     requires columns { block.columns ≤ field.old.across - block.x }
     requires rows { block.rows ≤ field.old.down - block.y }
     requires small { IsSmall block }
-    ensures places { (i j : ℕ) → motions_of field.new i j ≡ (if (j == block.y + row) && (nat_le block.x i && nat_lt i (block.x + block.columns)) then pointing_motion slice.now (held motion.now (i - block.x + 1) (row + 1)) else motions_of field.old i j) }
+    ensures places { (i j : ℕ) → motions_of field.new i j
+        ≡ (if (j == block.y + row) && (nat_le block.x i && nat_lt i (block.x + block.columns))
+        then pointing_motion slice.now (held motion.now (i - block.x + 1) (row + 1))
+        else motions_of field.old i j) }
     ensures sides { (across down : ℕ) → HasPlaces field.old across down → HasPlaces field.new across down }
 {
     for column in 0..block.columns {

@@ -4,7 +4,8 @@ ghost use Rattle.std.specs.Prelude.{◌≡◌, ℕ, pos, neg_ℤ, ◌≤ℤ◌, 
 ghost use Rattle.header_fields.specs.Takes.{Takes};
 ghost use Rattle.header_types.specs.PictureParameterSet.{IsWithin, IsDeblockingControl, IsPps};
 ghost use Rattle.spec_formats.specs.Fields.{Parses, optional, ue};
-ghost use Rattle.spec_parameter_sets.specs.PictureParameterSet.{deblocking_offset, deblocking_control, picture_parameter_set, picture_parameter_set_of};
+ghost use Rattle.spec_parameter_sets.specs.PictureParameterSet.{deblocking_offset, deblocking_control};
+ghost use Rattle.spec_parameter_sets.specs.PictureParameterSet.{picture_parameter_set, picture_parameter_set_of};
 
 use header_fields::FieldReader;
 use header_types::{DeblockingControl, Pps, PpsFields};

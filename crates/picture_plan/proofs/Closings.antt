@@ -14,7 +14,8 @@ use Rattle.picture_plan.specs.Changes.{IsNextSegment, Stops, applied, one_more}
 use Rattle.picture_plan.specs.States.{Held}
 use Rattle.picture_plan.specs.Taken.{changed_behind, taken}
 
-then-changed : (h : Held) (closed : List PicturePlan) (r : Result Between Stop) (change : Change) (f : Between → Result Between Stop)
+then-changed : (h : Held) (closed : List PicturePlan) (r : Result Between Stop) (change : Change)
+    (f : Between → Result Between Stop)
     → ((t : Between) → r ≡ Ok t → applied t change ≡ f t)
     → changed_behind (taken h (record { closed = closed; next = r })) change ≡ taken h (then_next closed r f)
 then-changed h closed (Err e) change f same = refl
@@ -27,26 +28,31 @@ pub closing-changed : (h : Held) (change : Change) (f : Between → Result Betwe
 closing-changed h change f same = then-changed h (close h.between).closed (close h.between).next change f same
 
 joined-ok : (s : Between) (u : NalUnit) (segment : SegmentPlan) (more o : Option PicturePlan) → (o ≡ None → ⊥)
-    → IfSome o (λ p. Parses (one_more p) (Ok segment) (continuing s.sets s.former u p)) → ((p : PicturePlan) → o ≡ Some p → more ≡ Some (one_more p segment))
+    → IfSome o (λ p. Parses (one_more p) (Ok segment) (continuing s.sets s.former u p))
+    → ((p : PicturePlan) → o ≡ Some p → more ≡ Some (one_more p segment))
     → Ok (record s { picture = more }) ≡ joined u s o
 joined-ok s u segment more None there is added = absurd (there refl)
 joined-ok s u segment more (Some p) there is added = rw (is, added p refl) refl
 
 -- the open picture goes on with a segment
-pub goes-on : (s : Between) (u : NalUnit) (segment : SegmentPlan) (more : Option PicturePlan) → (s.picture ≡ None → ⊥) → IsNextSegment (Ok segment) s u
-    → ((p : PicturePlan) → s.picture ≡ Some p → more ≡ Some (one_more p segment)) → Ok (record s { picture = more }) ≡ slice_judged u s
+pub goes-on : (s : Between) (u : NalUnit) (segment : SegmentPlan) (more : Option PicturePlan) → (s.picture ≡ None → ⊥)
+    → IsNextSegment (Ok segment) s u
+    → ((p : PicturePlan) → s.picture ≡ Some p → more ≡ Some (one_more p segment))
+    → Ok (record s { picture = more }) ≡ slice_judged u s
 unfolding slice_judged
 goes-on s u segment more there is added = joined-ok s u segment more s.picture there is added
 
 joined-err : (s : Between) (u : NalUnit) (e : Refusal) (stop : Stop) (o : Option PicturePlan) → (o ≡ None → ⊥)
-    → IfSome o (λ p. Parses (one_more p) (Err e) (continuing s.sets s.former u p)) → Stops u.index e stop → Err stop ≡ joined u s o
+    → IfSome o (λ p. Parses (one_more p) (Err e) (continuing s.sets s.former u p)) → Stops u.index e stop
+    → Err stop ≡ joined u s o
 joined-err s u e stop None there is stops = absurd (there refl)
 joined-err s u refusal.Memory stop (Some p) there is stops = absurd stops
 joined-err s u (refusal.Fault kind) stop (Some p) there is stops = rw (is, stops) refl
 joined-err s u (refusal.Limit kind) stop (Some p) there is stops = rw (is, stops) refl
 
 -- a segment that is refused stops the stream
-pub stops-there : (s : Between) (u : NalUnit) (e : Refusal) (stop : Stop) → (s.picture ≡ None → ⊥) → IsNextSegment (Err e) s u → Stops u.index e stop
+pub stops-there : (s : Between) (u : NalUnit) (e : Refusal) (stop : Stop) → (s.picture ≡ None → ⊥)
+    → IsNextSegment (Err e) s u → Stops u.index e stop
     → Err stop ≡ slice_judged u s
 unfolding slice_judged
 stops-there s u e stop there is stops = joined-err s u e stop s.picture there is stops

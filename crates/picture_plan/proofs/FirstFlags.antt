@@ -18,9 +18,11 @@ pub first_of_none : (payload : List ℕ) → length payload < 1 → None ≡ fir
 first_of_none [] short = rw bits-nil refl
 first_of_none (byte ∷ payload) short = absurd (omega arith)
 
-pub first_of_some : (payload : List ℕ) → 0 < length payload → slice_index payload 0 < 256 → Some (nat_le 128 (slice_index payload 0)) ≡ first_flag (bits payload)
+pub first_of_some : (payload : List ℕ) → 0 < length payload → slice_index payload 0 < 256
+    → Some (nat_le 128 (slice_index payload 0)) ≡ first_flag (bits payload)
 first_of_some payload long small =
-    let front : bits payload ≡ bit_of (slice_index payload 0) 7 ∷ drop 1 (bits payload) = drop-bits_at payload 0 (omega arith) in
+    let front : bits payload ≡ bit_of (slice_index payload 0) 7 ∷ drop 1 (bits payload) =
+    drop-bits_at payload 0 (omega arith) in
     let found : first_flag (bits payload) ≡ Some (bit_of (slice_index payload 0) 7) = ap first_flag front in
     let top = top_bit (slice_index payload 0) small in
     cc

@@ -17,7 +17,8 @@ use Rattle.picture_plan.specs.declared.change.Change.TheVariants as change
 -- more than it may, where it has room for the picture
 abbrev pub Fits : PictureKind → SpsFields → List Mark → List DpbPicture → Type 0
 Fits kind sps marks dpb =
-    is_full_of_references (begins_anew kind) (highest_ordering sps.sub_layer_ordering) marks ≡ false → length dpb ≤ size_of (highest_ordering sps.sub_layer_ordering)
+    is_full_of_references (begins_anew kind) (highest_ordering sps.sub_layer_ordering) marks ≡ false
+    → length dpb ≤ size_of (highest_ordering sps.sub_layer_ordering)
 
 abbrev pub KeepsFew : PicturePlan → Type 0
 KeepsFew p = Fits p.kind p.sps p.rps.marks p.outputs.dpb

@@ -13,7 +13,8 @@ use Rattle.plan_types.specs.declared.between.Between.{Between}
 use Rattle.spec_formats.specs.Fields.{Parses}
 use Rattle.spec_units.specs.Judged.{NalUnit}
 use Rattle.slice_types.specs.declared.slice.SliceHeaderFields.{SliceHeaderFields}
-use Rattle.spec_pictures.specs.Steps.{Stepped, begun, close, continuing, put_pps, put_sps, segment_of, sequence_end, stop_at}
+use Rattle.spec_pictures.specs.Steps.{Stepped, begun, close, continuing, put_pps, put_sps, segment_of, sequence_end}
+use Rattle.spec_pictures.specs.Steps.{stop_at}
 use Rattle.picture_plan.specs.Bounds.{IsWithin}
 use Rattle.picture_plan.specs.declared.change.Change.{Change}
 use Rattle.picture_plan.specs.declared.change.Change.TheVariants as change

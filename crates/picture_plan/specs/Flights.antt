@@ -1,5 +1,6 @@
 -- Which pictures are decoded together: up to so many consecutive ones of one sequence parameter set.
-use Rattle.std.specs.Prelude.{ℕ, Bool, true, List, [], ◌∷◌, ◌++◌, length, Option, Some, None, Result, Ok, Err, nat_le, if◌then◌else◌}
+use Rattle.std.specs.Prelude.{ℕ, Bool, true, List, [], ◌∷◌, ◌++◌, length, Option, Some, None, Result, Ok, Err, nat_le}
+use Rattle.std.specs.Prelude.{if◌then◌else◌}
 use Rattle.hv_base.specs.declared.refusal.Stop.{Stop}
 use Rattle.header_types.specs.declared.sps.SpsFields.{SpsFields}
 use Rattle.plan_types.specs.declared.picture_plan.PicturePlan.{PicturePlan}

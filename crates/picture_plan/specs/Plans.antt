@@ -23,7 +23,8 @@ pub record Given : Type 0 where
   pub left : Plans
 
 abbrev pub given_of : ℕ → Result Between Stop → Gathered → Given
-given_of ahead next g = record { flights = g.flights; last = []; left = record { ahead = ahead; pending = g.pending; next = next } }
+given_of ahead next g =
+    record { flights = g.flights; last = []; left = record { ahead = ahead; pending = g.pending; next = next } }
 
 abbrev pub after_step : Plans → Stepped → Given
 after_step p t = given_of p.ahead t.next (cut_at_stop t.next (with_pictures p.ahead (waiting p.pending) t.closed))

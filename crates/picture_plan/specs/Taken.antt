@@ -27,7 +27,11 @@ pub record Left : Type 0 where
 
 abbrev pub left_by : Step → Held → Left
 left_by step h =
-    record { ahead = h.ahead; gathered = record { flights = ended_by step.ended; pending = h.pending }; next = next_of step.stop h.between }
+    record {
+      ahead = h.ahead;
+      gathered = record { flights = ended_by step.ended; pending = h.pending };
+      next = next_of step.stop h.between;
+    }
 
 -- what is left where a step closes these pictures
 abbrev pub taken : Held → Stepped → Left
@@ -39,4 +43,5 @@ next_behind (Err e) change = Err e
 
 -- what is left where a change follows, if nothing stopped the stream
 abbrev pub changed_behind : Left → Change → Left
-changed_behind left change = record { ahead = left.ahead; gathered = left.gathered; next = next_behind left.next change }
+changed_behind left change =
+    record { ahead = left.ahead; gathered = left.gathered; next = next_behind left.next change }

@@ -1,7 +1,8 @@
 //! Which pictures are decoded together.
 
 ghost use Rattle.std.specs.Prelude.{◌≡◌, [], OnOk, OnErr, IfErr, IfOk};
-ghost use Rattle.picture_plan.specs.Flights.{cut, cut_full, goes_on_with, joined_with, some_flight, waiting, with_picture};
+ghost use Rattle.picture_plan.specs.Flights.{cut, cut_full, goes_on_with, joined_with, some_flight, waiting};
+ghost use Rattle.picture_plan.specs.Flights.{with_picture};
 ghost use Rattle.picture_plan.specs.Taken.{ended_by};
 
 use crate::flight::{Ended, Flight};
@@ -21,7 +22,8 @@ impl Flight {
         ahead: u32,
         picture: PicturePlan,
     ) -> Result<Ended, PicturePlan>
-        ensures flights { IfOk result (λ ended. ended_by ended ≡ (with_picture ahead (waiting self.old) picture).flights) }
+        ensures flights { IfOk result
+            (λ ended. ended_by ended ≡ (with_picture ahead (waiting self.old) picture).flights) }
         ensures pending { OnOk result (self.new ≡ (with_picture ahead (waiting self.old) picture).pending) }
         ensures err { OnErr result (self.new ≡ self.old) }
         ensures back { IfErr result (λ p. p ≡ picture) }
@@ -35,7 +37,8 @@ impl Flight {
     /// parameter set.
     #[tactic(auto, unfolding(crate::specs::Flights::joined_with))]
     fn join(&mut self, alloc: Global, picture: PicturePlan) -> Result<Option<Flight>, PicturePlan>
-        ensures flights { IfOk result (λ changed. some_flight changed ≡ (joined_with (waiting self.old) picture).flights) }
+        ensures flights { IfOk result
+            (λ changed. some_flight changed ≡ (joined_with (waiting self.old) picture).flights) }
         ensures pending { OnOk result (self.new ≡ (joined_with (waiting self.old) picture).pending) }
         ensures err { OnErr result (self.new ≡ self.old) }
         ensures back { IfErr result (λ p. p ≡ picture) }

@@ -97,7 +97,8 @@ fn parts_with<'a>(
     rps: Rps,
     outputs: Outputs,
 ) -> Result<Parts, AllocError>
-    ensures { IfOk result (λ parts. parts ≡ record { sps = named.entry.sps.now; pps = named.entry.pps.now; poc = poc; rps = rps; outputs = outputs }) }
+    ensures { IfOk result (λ parts. parts
+        ≡ record { sps = named.entry.sps.now; pps = named.entry.pps.now; poc = poc; rps = rps; outputs = outputs }) }
 {
     let (sps, pps) = owned(named)?;
     Ok(Parts {
@@ -118,7 +119,10 @@ fn parts_under<'a>(
 ) -> Result<Parts, Refusal>
     requires few { length former.now.dpb ≤ 16 }
     requires lsb { header.now.slice.references.slice_pic_order_cnt_lsb < header.now.kind.max_lsb }
-    ensures value { (u : NalUnit) → Parses (begun_by former.now.dpb u header.now) result (with_order former.now u header.now (record { pps = named.entry.pps.now; sps = named.entry.sps.now }) (pic_order_cnt_val header.now.kind header.now.slice.references.slice_pic_order_cnt_lsb former.now.prev_tid0_pic_order_cnt)) }
+    ensures value { (u : NalUnit) → Parses (begun_by former.now.dpb u header.now) result
+        (with_order former.now u header.now (record { pps = named.entry.pps.now; sps = named.entry.sps.now })
+        (pic_order_cnt_val header.now.kind header.now.slice.references.slice_pic_order_cnt_lsb
+        former.now.prev_tid0_pic_order_cnt)) }
     ensures fits { IfOk result (λ parts. Fits header.now.kind parts.sps parts.rps.marks parts.outputs.dpb) }
 {
     let fields = header.fields();
@@ -142,7 +146,8 @@ fn parts_of(
 ) -> Result<Parts, Refusal>
     requires few { length former.now.dpb ≤ 16 }
     requires lsb { header.now.slice.references.slice_pic_order_cnt_lsb < header.now.kind.max_lsb }
-    ensures value { (u : NalUnit) → Parses (begun_by former.now.dpb u header.now) result (picture_of sets.now former.now u header.now) }
+    ensures value { (u : NalUnit)
+        → Parses (begun_by former.now.dpb u header.now) result (picture_of sets.now former.now u header.now) }
     ensures fits { IfOk result (λ parts. Fits header.now.kind parts.sps parts.rps.marks parts.outputs.dpb) }
 {
     let Some(pps) = sets.pps(header.fields().segment.slice_pic_parameter_set_id) else {
@@ -162,7 +167,17 @@ impl Parts {
         kind: PictureKind,
         segments: FieldList<SegmentPlan>,
     ) -> PicturePlan
-        ensures { result ≡ record { nal = nal; kind = kind; sps = self.sps; pps = self.pps; poc = self.poc; rps = self.rps; outputs = self.outputs; segments = segments } }
+        ensures { result
+            ≡ record {
+              nal = nal;
+              kind = kind;
+              sps = self.sps;
+              pps = self.pps;
+              poc = self.poc;
+              rps = self.rps;
+              outputs = self.outputs;
+              segments = segments;
+            } }
     {
         PicturePlan {
             nal,
@@ -228,7 +243,8 @@ impl State {
     #[tactic(auto, unfolding(spec_pictures::specs::Steps::slice_judged))]
     pub(crate) fn judge_opening(&self, former: &Former, nal: Nal) -> Result<Change, AllocError>
         requires few { length former.now.dpb ≤ 16 }
-        ensures value { IfOk result (λ change. (t : Between) → t.sets ≡ self.now.between.sets → t.former ≡ former.now → t.picture ≡ None → applied t change ≡ slice_judged (unit_of nal) t) }
+        ensures value { IfOk result (λ change. (t : Between) → t.sets ≡ self.now.between.sets → t.former ≡ former.now
+            → t.picture ≡ None → applied t change ≡ slice_judged (unit_of nal) t) }
         ensures few { IfOk result ChangesFew }
     {
         let index = nal.index;

@@ -26,7 +26,8 @@ pub(crate) fn outputs_at(
 ) -> Result<Outputs, AllocError>
     requires few { length former.now.dpb ≤ 16 }
     requires anew { begins_anew header.now.kind ≡ true → count_by is_reference rps.now.marks ≡ 0 }
-    ensures value { IfOk result (λ o. o ≡ outputs_of (current_picture header.now sps.now poc) former.now.dpb rps.now.marks) }
+    ensures value { IfOk result
+        (λ o. o ≡ outputs_of (current_picture header.now sps.now poc) former.now.dpb rps.now.marks) }
     ensures fits { IfOk result (λ o. Fits header.now.kind sps.now rps.now.marks o.dpb) }
 {
     let current = current_picture(header.fields(), sps, poc);

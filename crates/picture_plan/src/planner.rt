@@ -63,7 +63,8 @@ impl Planner {
     /// before.
     #[tactic(auto, unfolding(crate::specs::Plans::behind_unit))]
     pub fn unit(&mut self, next: Next) -> Result<Planned, AllocError>
-        ensures value { IfOk result (λ planned. behind_unit self.old (told_by next) ≡ record { flights = planned.flights; last = planned.last; left = self.new }) }
+        ensures value { IfOk result (λ planned. behind_unit self.old (told_by next)
+            ≡ record { flights = planned.flights; last = planned.last; left = self.new }) }
         ensures stop { IfOk result (λ planned. planned.stop ≡ stop_of self.new.next) }
         ensures err { OnErr result (self.new ≡ self.old) }
     {
@@ -83,7 +84,8 @@ impl Planner {
     /// The input ends: the open picture is closed, all flights end, and the pictures that wait go out.
     #[tactic(auto, unfolding(crate::specs::Plans::at_end, crate::specs::Plans::halted))]
     pub fn finish(&mut self) -> Result<Planned, AllocError>
-        ensures value { IfOk result (λ planned. at_end self.old ≡ record { flights = planned.flights; last = planned.last; left = self.new }) }
+        ensures value { IfOk result
+            (λ planned. at_end self.old ≡ record { flights = planned.flights; last = planned.last; left = self.new }) }
         ensures stop { IfOk result (λ planned. planned.stop ≡ stop_of self.new.next) }
         ensures err { OnErr result (self.new ≡ self.old) }
     {

@@ -43,7 +43,8 @@ fn substreams_of(
     nal: &Nal,
     header: &SliceHeader,
 ) -> Result<FieldList<Substream>, AllocError>
-    ensures { IfOk result (λ s. s ≡ substream_ranges nal.now.rbsp nal.now.removed header.now.data_place header.now.entry_points) }
+    ensures { IfOk result
+        (λ s. s ≡ substream_ranges nal.now.rbsp nal.now.removed header.now.data_place header.now.entry_points) }
 {
     let fields = header.fields();
     substreams(

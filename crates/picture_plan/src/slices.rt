@@ -24,7 +24,8 @@ impl State {
     /// closes the open one first.
     #[tactic(auto, unfolding(spec_pictures::specs::Steps::slice_step))]
     pub(crate) fn plan_slice(&mut self, nal: Nal) -> Result<Step, AllocError>
-        ensures value { IfOk result (λ step. left_by step self.new ≡ taken self.old (slice_step self.old.between (unit_of nal))) }
+        ensures value { IfOk result
+            (λ step. left_by step self.new ≡ taken self.old (slice_step self.old.between (unit_of nal))) }
         ensures err { OnErr result (self.new ≡ self.old) }
     {
         let dropped = is_rasl(nal.nal_type) & self.between.drops_rasl;
@@ -40,7 +41,8 @@ impl State {
     /// Plans a slice segment that goes on with a picture, if one is open.
     #[tactic(auto, unfolding(spec_pictures::specs::Steps::close))]
     fn go_on_or_open(&mut self, nal: Nal) -> Result<Step, AllocError>
-        ensures value { IfOk result (λ step. left_by step self.new ≡ taken self.old (record { closed = []; next = slice_judged (unit_of nal) self.old.between })) }
+        ensures value { IfOk result (λ step. left_by step self.new
+            ≡ taken self.old (record { closed = []; next = slice_judged (unit_of nal) self.old.between })) }
         ensures err { OnErr result (self.new ≡ self.old) }
     {
         match &self.between.picture {
@@ -52,7 +54,8 @@ impl State {
     /// Plans a slice segment that goes on with the open picture.
     fn go_on(&mut self, nal: Nal) -> Result<Step, AllocError>
         requires open { self.old.between.picture ≡ None → ⊥ }
-        ensures value { IfOk result (λ step. left_by step self.new ≡ taken self.old (record { closed = []; next = slice_judged (unit_of nal) self.old.between })) }
+        ensures value { IfOk result (λ step. left_by step self.new
+            ≡ taken self.old (record { closed = []; next = slice_judged (unit_of nal) self.old.between })) }
         ensures err { OnErr result (self.new ≡ self.old) }
     {
         let index = nal.index;
@@ -81,7 +84,8 @@ impl State {
 
     /// Plans a slice segment that begins a picture, or has none to go on with.
     fn open_slice(&mut self, nal: Nal) -> Result<Step, AllocError>
-        ensures value { IfOk result (λ step. left_by step self.new ≡ taken self.old (closing self.old.between (slice_judged (unit_of nal)))) }
+        ensures value { IfOk result
+            (λ step. left_by step self.new ≡ taken self.old (closing self.old.between (slice_judged (unit_of nal)))) }
         ensures err { OnErr result (self.new ≡ self.old) }
     {
         let how = self.closing()?;
@@ -92,7 +96,8 @@ impl State {
     /// Judges a slice segment as it stands once the open picture is closed so.
     fn judge_behind(&self, how: &Closing, nal: Nal) -> Result<Change, AllocError>
         requires { Closes how.now self.now.between }
-        ensures value { IfOk result (λ change. (t : Between) → (close self.now.between).next ≡ Ok t → applied t change ≡ slice_judged (unit_of nal) t) }
+        ensures value { IfOk result (λ change. (t : Between) → (close self.now.between).next ≡ Ok t
+            → applied t change ≡ slice_judged (unit_of nal) t) }
         ensures few { IfOk result ChangesFew }
     {
         match how {

@@ -66,7 +66,8 @@ impl State {
     /// The open picture is over, and leaves this to the next one. After want of memory all is as before.
     fn end_picture(&mut self, former: Former) -> Result<Ended, AllocError>
         requires { Closes (kind.Over former) self.old.between }
-        ensures value { IfOk result (λ ended. left_by (record { ended = ended; stop = None }) self.new ≡ taken self.old (close self.old.between)) }
+        ensures value { IfOk result (λ ended. left_by (record { ended = ended; stop = None }) self.new
+            ≡ taken self.old (close self.old.between)) }
         ensures err { OnErr result (self.new ≡ self.old) }
     {
         let (alloc, ahead) = (self.alloc, self.ahead);
@@ -110,7 +111,8 @@ impl State {
     pub(crate) fn close_by(&mut self, how: Closing, change: Change) -> Result<Step, AllocError>
         requires closes { Closes how self.old.between }
         requires few { ChangesFew change }
-        ensures value { (f : Between → Result Between Stop) → ((t : Between) → (close self.old.between).next ≡ Ok t → applied t change ≡ f t)
+        ensures value { (f : Between → Result Between Stop)
+            → ((t : Between) → (close self.old.between).next ≡ Ok t → applied t change ≡ f t)
             → IfOk result (λ step. left_by step self.new ≡ taken self.old (closing self.old.between f)) }
         ensures err { OnErr result (self.new ≡ self.old) }
     {
@@ -121,7 +123,8 @@ impl State {
     /// Closes the open picture, and then changes what was judged, or stops.
     pub(crate) fn close_then(&mut self, change: Change) -> Result<Step, AllocError>
         requires { ChangesFew change }
-        ensures value { (f : Between → Result Between Stop) → ((t : Between) → (close self.old.between).next ≡ Ok t → applied t change ≡ f t)
+        ensures value { (f : Between → Result Between Stop)
+            → ((t : Between) → (close self.old.between).next ≡ Ok t → applied t change ≡ f t)
             → IfOk result (λ step. left_by step self.new ≡ taken self.old (closing self.old.between f)) }
         ensures err { OnErr result (self.new ≡ self.old) }
     {
@@ -147,8 +150,10 @@ fn end_open(
     pending: &mut Flight,
     last: &mut Option<PicturePlan>,
 ) -> Result<Ended, AllocError>
-    ensures flights { IfOk result (λ ended. ended_by ended ≡ (with_pictures ahead (waiting pending.old) (pictures_in last.old)).flights) }
-    ensures pending { OnOk result (pending.new ≡ (with_pictures ahead (waiting pending.old) (pictures_in last.old)).pending) }
+    ensures flights { IfOk result
+        (λ ended. ended_by ended ≡ (with_pictures ahead (waiting pending.old) (pictures_in last.old)).flights) }
+    ensures pending { OnOk result
+        (pending.new ≡ (with_pictures ahead (waiting pending.old) (pictures_in last.old)).pending) }
     ensures none { OnOk result (last.new ≡ None) }
     ensures err { OnErr result (pending.new ≡ pending.old) }
     ensures back { OnErr result (last.new ≡ last.old) }

@@ -30,7 +30,8 @@ impl State {
     /// all is as before.
     #[tactic(auto, unfolding(spec_pictures::specs::Steps::step))]
     pub(crate) fn plan_next(&mut self, next: Next) -> Result<Step, AllocError>
-        ensures value { IfOk result (λ step. left_by step self.new ≡ taken self.old (stepped self.old.between (told_by next))) }
+        ensures value { IfOk result
+            (λ step. left_by step self.new ≡ taken self.old (stepped self.old.between (told_by next))) }
         ensures err { OnErr result (self.new ≡ self.old) }
     {
         match next {
@@ -44,7 +45,8 @@ impl State {
     /// Plans a unit: those of a layer above the base are passed over.
     #[tactic(auto, unfolding(spec_pictures::specs::Steps::unit_step))]
     fn plan_unit(&mut self, nal: Nal) -> Result<Step, AllocError>
-        ensures value { IfOk result (λ step. left_by step self.new ≡ taken self.old (unit_step self.old.between (unit_of nal))) }
+        ensures value { IfOk result
+            (λ step. left_by step self.new ≡ taken self.old (unit_step self.old.between (unit_of nal))) }
         ensures err { OnErr result (self.new ≡ self.old) }
     {
         if nal.layer > 0 {
@@ -56,7 +58,8 @@ impl State {
 
     /// Plans a unit of a kind.
     fn plan_kind(&mut self, nal: Nal, kind: UnitKind) -> Result<Step, AllocError>
-        ensures value { IfOk result (λ step. left_by step self.new ≡ taken self.old (kind_step self.old.between (unit_of nal) kind)) }
+        ensures value { IfOk result
+            (λ step. left_by step self.new ≡ taken self.old (kind_step self.old.between (unit_of nal) kind)) }
         ensures err { OnErr result (self.new ≡ self.old) }
     {
         match kind {
@@ -71,7 +74,8 @@ impl State {
 
     /// Plans a sequence parameter set.
     fn plan_sps(&mut self, nal: &Nal) -> Result<Step, AllocError>
-        ensures value { IfOk result (λ step. left_by step self.new ≡ taken self.old (kind_step self.old.between (unit_of nal.now) unit.SequenceSet)) }
+        ensures value { IfOk result (λ step. left_by step self.new
+            ≡ taken self.old (kind_step self.old.between (unit_of nal.now) unit.SequenceSet)) }
         ensures err { OnErr result (self.new ≡ self.old) }
     {
         let change = judge_sps(self.alloc, nal)?;
@@ -80,7 +84,8 @@ impl State {
 
     /// Plans a picture parameter set.
     fn plan_pps(&mut self, nal: &Nal) -> Result<Step, AllocError>
-        ensures value { IfOk result (λ step. left_by step self.new ≡ taken self.old (kind_step self.old.between (unit_of nal.now) unit.PictureSet)) }
+        ensures value { IfOk result (λ step. left_by step self.new
+            ≡ taken self.old (kind_step self.old.between (unit_of nal.now) unit.PictureSet)) }
         ensures err { OnErr result (self.new ≡ self.old) }
     {
         let change = judge_pps(self.alloc, nal)?;
@@ -90,7 +95,8 @@ impl State {
 
 /// Judges a sequence parameter set, wherever it stands.
 fn judge_sps(alloc: Global, nal: &Nal) -> Result<Change, AllocError>
-    ensures value { IfOk result (λ change. (t : Between) → applied t change ≡ behind_read nal.now.index (sequence_parameter_set_of nal.now.rbsp) (put_sps t)) }
+    ensures value { IfOk result (λ change. (t : Between)
+        → applied t change ≡ behind_read nal.now.index (sequence_parameter_set_of nal.now.rbsp) (put_sps t)) }
     ensures few { IfOk result ChangesFew }
 {
     match read_sps(alloc, nal.rbsp.as_slice()) {
@@ -101,7 +107,8 @@ fn judge_sps(alloc: Global, nal: &Nal) -> Result<Change, AllocError>
 
 /// Judges a picture parameter set, wherever it stands.
 fn judge_pps(alloc: Global, nal: &Nal) -> Result<Change, AllocError>
-    ensures value { IfOk result (λ change. (t : Between) → applied t change ≡ behind_read nal.now.index (picture_parameter_set_of nal.now.rbsp) (put_pps t)) }
+    ensures value { IfOk result (λ change. (t : Between)
+        → applied t change ≡ behind_read nal.now.index (picture_parameter_set_of nal.now.rbsp) (put_pps t)) }
     ensures few { IfOk result ChangesFew }
 {
     match read_pps(alloc, nal.rbsp.as_slice()) {

@@ -1,5 +1,6 @@
 -- Columns of units.
-use Rattle.std.proofs.Common.{◌≡◌, ◌≢◌, ℕ, suc, ◌+◌, ◌-◌, ◌*◌, ◌/◌, ◌%◌, ◌<◌, ◌≤◌, Bool, true, false, nat_lt, ap, sym, refl, ◌∙◌, arith}
+use Rattle.std.proofs.Common.{◌≡◌, ◌≢◌, ℕ, suc, ◌+◌, ◌-◌, ◌*◌, ◌/◌, ◌%◌, ◌<◌, ◌≤◌, Bool, true, false, nat_lt, ap, sym}
+use Rattle.std.proofs.Common.{refl, ◌∙◌, arith}
 use Rattle.std.proofs.lemmas.Bool.Decides.{nat_tests}
 use Rattle.std.proofs.Math.Nat.{add-mod_right, mod-eq-sub-div-mul, div-mul-le_self, mul-le-mul_right}
 use Rattle.std.proofs.lemmas.Nat.{div-mul-add, mod-mul-add}
@@ -9,10 +10,12 @@ whole : (a w : ℕ) → a / w * w + a % w ≡ a
 whole a w = omega (arith, mod-eq-sub-div-mul a w, div-mul-le_self a w)
 
 higher : (i j w : ℕ) → i < j → i * w + w ≤ j * w
-higher i j w lt = let le : (i + 1) * w ≤ j * w = mul-le-mul_right {m = i + 1} {n = j} w (omega arith) in omega (arith, le)
+higher i j w lt =
+    let le : (i + 1) * w ≤ j * w = mul-le-mul_right {m = i + 1} {n = j} w (omega arith) in omega (arith, le)
 
 not_lower : (i j w a m r : ℕ) → j ≤ i → i * w + r ≡ a → j * w + r ≡ m → a < m → ⊥
-not_lower i j w a m r le ea em lt = let below : j * w ≤ i * w = mul-le-mul_right {m = j} {n = i} w le in omega (arith, below, ea, em)
+not_lower i j w a m r le ea em lt =
+    let below : j * w ≤ i * w = mul-le-mul_right {m = j} {n = i} w le in omega (arith, below, ea, em)
 
 not_higher : (i j w a m r : ℕ) → i < j → i * w + r ≡ a → j * w + r ≡ m → m < a + w → ⊥
 not_higher i j w a m r less ea em near = omega (arith, higher i j w less, ea, em)
@@ -37,11 +40,13 @@ place_by n column k = grind arith
 
 pub above_place : (n column k : ℕ) → k < n → (4 * (n * column) + 4 * k) / 4 / n ≡ column
 above_place n column k lt =
-    ap (λ x. x / 4 / n) (place_by n column k) ∙ ap (λ x. x / n) (div-mul-add (column * n + k) 4 0 (omega arith)) ∙ div-mul-add column n k lt
+    ap (λ x. x / 4 / n) (place_by n column k) ∙ ap (λ x. x / n) (div-mul-add (column * n + k) 4 0 (omega arith))
+    ∙ div-mul-add column n k lt
 
 pub above_within : (n column k : ℕ) → k < n → (4 * (n * column) + 4 * k) / 4 % n ≡ k
 above_within n column k lt =
-    ap (λ x. x / 4 % n) (place_by n column k) ∙ ap (λ x. x % n) (div-mul-add (column * n + k) 4 0 (omega arith)) ∙ mod-mul-add column n k lt
+    ap (λ x. x / 4 % n) (place_by n column k) ∙ ap (λ x. x % n) (div-mul-add (column * n + k) 4 0 (omega arith))
+    ∙ mod-mul-add column n k lt
 
 -- so many rows below the unit's first
 pub left_place : (y k : ℕ) → (y + 4 * k - y) / 4 ≡ k

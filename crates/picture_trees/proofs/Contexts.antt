@@ -4,6 +4,7 @@ use lib.Signed.{mag}
 use Rattle.spec_cabac.specs.declared.init_values.TheConstants.{INIT_VALUES}
 use Rattle.spec_cabac.specs.Contexts.{clip3, contexts_of, first_contexts}
 
-pub contexts_same : (v w : ℤ) (init_type : ℕ) → clip3 (pos 0) (pos 51) v ≡ clip3 (pos 0) (pos 51) w → first_contexts v init_type ≡ first_contexts w init_type
+pub contexts_same : (v w : ℤ) (init_type : ℕ) → clip3 (pos 0) (pos 51) v ≡ clip3 (pos 0) (pos 51) w
+    → first_contexts v init_type ≡ first_contexts w init_type
 unfolding first_contexts
 contexts_same v w init_type e = ap (λ z. contexts_of (mag z) (get_or INIT_VALUES init_type [])) e

@@ -22,7 +22,8 @@ flag_more : (ended : Bool) (s after : State) (follows : End)
       when ended then give end.Segment else give end.More) s ≡ Ok (follows, after)
     → follows ≡ end.More
 flag_more true s after follows e = absurd cc
-flag_more false s after follows e = let same : (end.More, s) ≡ (follows, after) = cc in sym (ap (λ (p : End × State). p.0) same)
+flag_more false s after follows e =
+    let same : (end.More, s) ≡ (follows, after) = cc in sym (ap (λ (p : End × State). p.0) same)
 
 bin_more : (r : Result (Bool × State) Breach) (after : State) (follows : End)
     → bind r (λ ended t. read (do
@@ -45,16 +46,21 @@ pair_more (Ok x) tree ctu after follows more e =
 pair_more (Err d) tree ctu after follows more e = absurd cc
 
 tree_more : (r : Result (Ctu × State) Breach) (ctu : Ctu) (after : State) (follows : End)
-    → bind {Y = Ctu × End} r (λ tree t. bind {Y = Ctu × End} (read (unit_end false false) t) (λ f u. Ok ((tree, f), u))) ≡ Ok ((ctu, follows), after) → follows ≡ end.More
-tree_more (Ok x) ctu after follows e = pair_more (read (unit_end false false) x.1) x.0 ctu after follows (λ t f h. end_more x.1 t f h) e
+    → bind {Y = Ctu × End} r (λ tree t. bind {Y = Ctu × End} (read (unit_end false false) t) (λ f u. Ok ((tree, f), u)))
+    ≡ Ok ((ctu, follows), after)
+    → follows ≡ end.More
+tree_more (Ok x) ctu after follows e =
+    pair_more (read (unit_end false false) x.1) x.0 ctu after follows (λ t f h. end_more x.1 t f h) e
 tree_more (Err d) ctu after follows e = absurd cc
 
 unit_more : (syntax : CtuSyntax) (left above : Sao) (begun ctu : Ctu) (s after : State) (follows : End)
     → read (unit_and_end syntax left above false false begun) s ≡ Ok ((ctu, follows), after) → follows ≡ end.More
 unfolding unit_and_end
-unit_more syntax left above begun ctu s after follows e = tree_more (read (coding_tree_unit syntax left above begun) s) ctu after follows e
+unit_more syntax left above begun ctu s after follows e =
+    tree_more (read (coding_tree_unit syntax left above begun) s) ctu after follows e
 
-right_end : (right : Bool) (x : (Ctu × End) × State) (y : (Ctu × End) × State) → (if right then Ok x else Err (breach.Fault rule.TrailingBits)) ≡ Ok y → x ≡ y
+right_end : (right : Bool) (x : (Ctu × End) × State) (y : (Ctu × End) × State)
+    → (if right then Ok x else Err (breach.Fault rule.TrailingBits)) ≡ Ok y → x ≡ y
 right_end true x y e = cc
 right_end false x y e = absurd cc
 
@@ -63,8 +69,11 @@ unjudged (Ok y) x e = ap (λ (p : (Ctu × End) × State). Ok p) (right_end (judg
 unjudged (Err d) x e = absurd cc
 
 -- behind a unit that ends neither a segment nor a substream more units follow
-pub follows_more : (syntax : CtuSyntax) (left above : Sao) (last subset : Bool) (begun ctu : Ctu) (s after : State) (follows : End)
-    → judged (read (unit_and_end syntax left above last subset begun) s) ≡ Ok ((ctu, follows), after) → last ≡ false → subset ≡ false → follows ≡ end.More
+pub follows_more : (syntax : CtuSyntax) (left above : Sao) (last subset : Bool) (begun ctu : Ctu) (s after : State)
+    (follows : End)
+    → judged (read (unit_and_end syntax left above last subset begun) s) ≡ Ok ((ctu, follows), after) → last ≡ false
+    → subset ≡ false → follows ≡ end.More
 follows_more syntax left above last subset begun ctu s after follows e not_last no_subset =
-    unit_more syntax left above begun ctu s after follows (ap (λ l. read (unit_and_end syntax left above l false begun) s) (sym not_last)
+    unit_more syntax left above begun ctu s after follows
+    (ap (λ l. read (unit_and_end syntax left above l false begun) s) (sym not_last)
     ∙ ap (λ b. read (unit_and_end syntax left above last b begun) s) (sym no_subset) ∙ unjudged _ _ e)

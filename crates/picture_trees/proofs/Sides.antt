@@ -1,5 +1,6 @@
 -- The places beside a unit, one by one.
-use Rattle.std.proofs.Common.{◌≡◌, ℕ, ◌<◌, ◌≤◌, Bool, true, false, List, length, get_or, map, refl, sym, ◌∙◌, if◌then◌else◌, nat_lt, arith}
+use Rattle.std.proofs.Common.{◌≡◌, ℕ, ◌<◌, ◌≤◌, Bool, true, false, List, length, get_or, map, refl, sym, ◌∙◌}
+use Rattle.std.proofs.Common.{if◌then◌else◌, nat_lt, arith}
 use Rattle.std.specs.List.{range_with_len}
 use Rattle.std.proofs.lemmas.Bool.Decides.{nat_tests}
 use Rattle.std.proofs.lemmas.List.FromFn.{fill_by_all, get_or-map-range_with_len}
@@ -11,7 +12,8 @@ taken true x y e = refl
 taken false x y e = absurd cc
 
 -- sixteen places that are all known
-pub places_side : (places : List Side) (f : ℕ → Side) → length places ≡ 16 → ((k : ℕ) → k < 16 → get_or places k no_side ≡ f k) → places ≡ side 16 f
+pub places_side : (places : List Side) (f : ℕ → Side) → length places ≡ 16
+    → ((k : ℕ) → k < 16 → get_or places k no_side ≡ f k) → places ≡ side 16 f
 unfolding side
 places_side places f full each =
     fill_by_all (λ k. if nat_lt k 16 then f k else no_side) places 16 no_side full

@@ -44,4 +44,9 @@ bottom_of n ctu = record { places = side 16 (λ k. side_of ctu k (n - 1)); sao =
 
 -- the unit in this column was read
 abbrev pub behind : UnitsBeside → ℕ → Ctu → UnitsBeside
-behind b column ctu = record { side = b.side; width = b.width; left = right_of b.side ctu; columns = slice_set b.columns column (bottom_of b.side ctu) }
+behind b column ctu = record {
+  side = b.side;
+  width = b.width;
+  left = right_of b.side ctu;
+  columns = slice_set b.columns column (bottom_of b.side ctu);
+}

@@ -23,4 +23,6 @@ Told tells holds = (given : List TreeUnit) × tells given × holds given
 abbrev pub ReadsPicture : Result (Unit {0}) ReadError → (List TreeUnit → Type 0) → Result Progress Halt → Type 0
 ReadsPicture (Ok x) tells read = Told tells (λ given. AreAll given read)
 ReadsPicture (Err error.Memory) tells read = Unit {0}
-ReadsPicture (Err (error.Broken breach nal ctu)) tells read = Told tells (λ given. read ≡ Err (record { given = given; broken = record { breach = breach; nal = nal; ctu = ctu } }))
+ReadsPicture (Err (error.Broken breach nal ctu)) tells read =
+    Told tells
+    (λ given. read ≡ Err (record { given = given; broken = record { breach = breach; nal = nal; ctu = ctu } }))

@@ -1,7 +1,8 @@
 //! What is known of the coding tree units before one, as far as reading asks for it: the places above it and on its
 //! left (6.4.1). A place is a block of 4x4 luma samples.
 
-ghost use Rattle.std.specs.Prelude.{◌≡◌, ℕ, ◌+◌, ◌-◌, ◌*◌, ◌/◌, ◌%◌, ◌^◌, ◌<◌, ◌≤◌, IfOk, slice_index_or, slice_set, length};
+ghost use Rattle.std.specs.Prelude.{◌≡◌, ℕ, ◌+◌, ◌-◌, ◌*◌, ◌/◌, ◌%◌, ◌^◌, ◌<◌, ◌≤◌, IfOk, slice_index_or, slice_set};
+ghost use Rattle.std.specs.Prelude.{length};
 ghost use Rattle.ctu_records.specs.Tree.{no_side, side};
 ghost use Rattle.spec_slice_data.specs.Segment.{side_of};
 ghost use Rattle.picture_trees.specs.Beside.{above_at, behind, left_at, no_column, offset_at};
@@ -58,7 +59,8 @@ impl Model for Beside {
 
     ghost view = { λ b. record { side = b.side; width = b.width; left = b.left; columns = b.columns.items } };
 
-    ghost invariant = { λ b. (1 ≤ b.side) × (b.side ≤ 16) × (1 ≤ b.width) × (length b.left ≡ 16) × (length b.columns.items ≡ b.width) };
+    ghost invariant = { λ b. (1 ≤ b.side) × (b.side ≤ 16) × (1 ≤ b.width) × (length b.left ≡ 16)
+        × (length b.columns.items ≡ b.width) };
 }
 
 impl Beside {

@@ -25,7 +25,8 @@ pub fn read_picture<T: Trees>(
     plan: &PicturePlan,
     trees: &mut T,
 ) -> Result<(), ReadError>
-    ensures value { (given : List TreeUnit) → T.tells trees.old plan.now given → ReadsPicture result (T.tells trees.new plan.now) (picture_read plan.now given) }
+    ensures value { (given : List TreeUnit) → T.tells trees.old plan.now given
+        → ReadsPicture result (T.tells trees.new plan.now) (picture_read plan.now given) }
 {
     let Ok(mut reading) = Reading::new(alloc, &Layout::new(plan)) else {
         return Err(ReadError::Memory);
@@ -47,7 +48,8 @@ fn segment_data(plan: &PicturePlan, number: usize, first: u32) -> SegmentData<'_
     requires first { first ≤ size_in_ctbs plan.now.sps }
     ensures value { (s : SegmentPlan) → result ≡ next_segment plan.now number first s }
     ensures first { result.shape.first ≡ first }
-    ensures behind { result.shape.first + result.shape.count ≡ end_of (size_in_ctbs plan.now.sps) first (drop (number + 1) plan.now.segments) }
+    ensures behind { result.shape.first + result.shape.count
+        ≡ end_of (size_in_ctbs plan.now.sps) first (drop (number + 1) plan.now.segments) }
     ensures inside { result.shape.first + result.shape.count ≤ size_in_ctbs plan.now.sps }
 {
     let segments = plan.segments.as_slice();

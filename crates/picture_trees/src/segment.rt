@@ -41,7 +41,15 @@ impl<'a> Model for Segment<'a> {
 
     ghost Value = { SegmentShape };
 
-    ghost view = { λ s. record { first = s.first; count = s.count; slice = s.slice; qp = s.qp; contexts = s.contexts; dependent = s.dependent; substreams = map (bytes_of s.payload.now) s.ranges.now } };
+    ghost view = { λ s. record {
+      first = s.first;
+      count = s.count;
+      slice = s.slice;
+      qp = s.qp;
+      contexts = s.contexts;
+      dependent = s.dependent;
+      substreams = map (bytes_of s.payload.now) s.ranges.now;
+    } };
 
     ghost invariant = { λ s. s.first + s.count ≤ 262144 };
 }

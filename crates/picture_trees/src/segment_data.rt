@@ -3,7 +3,8 @@
 ghost use Rattle.std.specs.Prelude.{◌≡◌, ℕ, ◌+◌, ◌-◌, ◌*◌, ◌^◌, ◌≤◌, ◌<◌, ◌∷◌, List};
 ghost use Rattle.header_types.specs.SequenceParameterSets.{size_in_ctbs, width_in_ctbs};
 ghost use Rattle.plan_types.specs.declared.segment_plan.SegmentPlan.{SegmentPlan};
-ghost use Rattle.spec_slice_data.specs.Segment.{begins_row, column_of, has_above, has_left, has_stored, is_last, row_of, syntax_at};
+ghost use Rattle.spec_slice_data.specs.Segment.{begins_row, column_of, has_above, has_left, has_stored, is_last};
+ghost use Rattle.spec_slice_data.specs.Segment.{row_of, syntax_at};
 ghost use Rattle.spec_slice_data.specs.Syntax.{IsSyntax};
 ghost use Rattle.spec_picture_data.specs.Picture.{segment_at};
 ghost use Rattle.spec_picture_data.specs.Shapes.{end_of};
@@ -35,9 +36,17 @@ impl<'a> Model for SegmentData<'a> {
 
     ghost Value = { SegmentAt };
 
-    ghost view = { λ s. record { number = s.number; nal = s.nal; syntax = s.syntax; picture = s.layout; shape = s.shape } };
+    ghost view = { λ s. record {
+      number = s.number;
+      nal = s.nal;
+      syntax = s.syntax;
+      picture = s.layout;
+      shape = s.shape;
+    } };
 
-    ghost invariant = { λ s. IsSyntax s.syntax × (s.syntax.log2_min_coding ≤ s.layout.size) × (s.shape.first + s.shape.count ≤ 512 * s.layout.width) };
+    ghost invariant = { λ s. IsSyntax s.syntax
+        × (s.syntax.log2_min_coding ≤ s.layout.size)
+        × (s.shape.first + s.shape.count ≤ 512 * s.layout.width) };
 }
 
 impl<'a> SegmentData<'a> {
@@ -53,7 +62,8 @@ impl<'a> SegmentData<'a> {
         requires order { first ≤ behind }
         requires few { behind ≤ 262144 }
         requires inside { behind ≤ 512 * width_in_ctbs picture.now.sps }
-        ensures value { (later : List SegmentPlan) → behind ≡ end_of (size_in_ctbs picture.now.sps) first later → result ≡ segment_at picture.now number first segment.now later }
+        ensures value { (later : List SegmentPlan) → behind ≡ end_of (size_in_ctbs picture.now.sps) first later
+            → result ≡ segment_at picture.now number first segment.now later }
         ensures first { result.shape.first ≡ first }
         ensures behind { result.shape.first + result.shape.count ≡ behind }
     {

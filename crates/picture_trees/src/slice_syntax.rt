@@ -3,7 +3,8 @@
 ghost use Rattle.std.specs.Prelude.{◌≡◌, ◌≤◌, ◌<◌, ◌+◌, ◌-◌, Some, unwrap_or};
 ghost use Rattle.header_types.specs.SequenceParameterSets.{ctb_log2, max_pcm_log2};
 ghost use Rattle.spec_slice_data.specs.Syntax.{IsSyntax};
-ghost use Rattle.spec_picture_data.specs.Shapes.{active, in_places, init_type, init_type_of, inter_syntax, pcm_syntax, segment_syntax};
+ghost use Rattle.spec_picture_data.specs.Shapes.{active, in_places, init_type, init_type_of, inter_syntax, pcm_syntax};
+ghost use Rattle.spec_picture_data.specs.Shapes.{segment_syntax};
 ghost use Rattle.spec_slice_headers.specs.InterFields.{is_b};
 
 use header_types::{PcmFormat, Sps};

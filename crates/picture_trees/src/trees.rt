@@ -18,7 +18,8 @@ pub trait Trees {
     /// Takes what was read of the coding tree unit at address `ctu`, in raster order, of the picture's slice segment
     /// with this number, from 0.
     fn unit(&mut self, segment: usize, ctu: u32, records: &Records) -> Result<(), AllocError>
-        ensures { (p : PicturePlan) (given : List TreeUnit) → Self.tells self.old p given → OnOk result (Self.tells self.new p (given ++ tree_unit segment ctu records.now ∷ [])) };
+        ensures { (p : PicturePlan) (given : List TreeUnit) → Self.tells self.old p given
+            → OnOk result (Self.tells self.new p (given ++ tree_unit segment ctu records.now ∷ [])) };
 }
 
 /// Why the coding tree units of a picture weren't all read.

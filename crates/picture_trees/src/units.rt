@@ -3,7 +3,9 @@
 ghost use Rattle.std.specs.Prelude.{◌≡◌, ◌+◌, ◌*◌, ◌^◌, ◌<◌, ◌≤◌, List, [], ◌∷◌, ◌++◌, OnOk, IfOk, false, pos};
 ghost use Rattle.ctu_records.specs.Tree.{Ctu};
 ghost use Rattle.spec_cabac.specs.Engine.{IsLive};
-ghost use Rattle.spec_slice_data.specs.Segment.{PictureShape, before_unit, begins_row, begins_substream, column_of, contexts_before, is_last, qp_before, read_unit, stored_behind, unit_step};
+ghost use Rattle.spec_slice_data.specs.Segment.{PictureShape, before_unit, begins_row, begins_substream, column_of};
+ghost use Rattle.spec_slice_data.specs.Segment.{contexts_before, is_last, qp_before, read_unit, stored_behind};
+ghost use Rattle.spec_slice_data.specs.Segment.{unit_step};
 ghost use Rattle.spec_slice_data.specs.declared.syntax.End.TheVariants as end;
 ghost use Rattle.plan_types.specs.declared.picture_plan.PicturePlan.{PicturePlan};
 ghost use Rattle.spec_picture_data.specs.Picture.{TreeUnit, before_picture, segment_read};
@@ -64,7 +66,9 @@ impl<'a> Reading<'a> {
     #[tactic(auto, unfolding(spec_slice_data::specs::Segment::before_unit))]
     fn before_unit(&mut self, segment: &SegmentData<'a>, address: u32) -> Result<(), Breach>
         requires live { MayGoOn segment.now address self.old }
-        ensures value { (units : List Ctu) → Steps result (between_of self.new units) (before_unit segment.now.picture segment.now.shape address (between_of self.old units)) }
+        ensures value { (units : List Ctu)
+            → Steps result (between_of self.new units)
+            (before_unit segment.now.picture segment.now.shape address (between_of self.old units)) }
         ensures live { OnOk result (IsLive self.new.bins.interval) }
         ensures beside { self.new.beside ≡ self.old.beside }
     {
@@ -85,7 +89,8 @@ impl<'a> Reading<'a> {
     /// The contexts that a unit begins with, where a substream begins.
     #[tactic(auto, unfolding(spec_slice_data::specs::Segment::contexts_before))]
     fn contexts_before(&self, segment: &SegmentData<'_>, address: u32) -> Contexts
-        ensures { (units : List Ctu) → result ≡ contexts_before segment.now.picture segment.now.shape address (between_of self.now units) }
+        ensures { (units : List Ctu)
+            → result ≡ contexts_before segment.now.picture segment.now.shape address (between_of self.now units) }
     {
         if segment.layout.begins_row(address) {
             if segment.has_stored(address) {
@@ -103,7 +108,8 @@ impl<'a> Reading<'a> {
     /// Qp'Y before a unit, where a substream begins.
     #[tactic(auto, unfolding(spec_slice_data::specs::Segment::qp_before))]
     fn qp_before(&self, segment: &SegmentData<'_>, address: u32) -> u8
-        ensures { (units : List Ctu) → result ≡ qp_before segment.now.picture segment.now.shape address (between_of self.now units) }
+        ensures { (units : List Ctu)
+            → result ≡ qp_before segment.now.picture segment.now.shape address (between_of self.now units) }
     {
         let begins_slice = address == segment.shape.first && !segment.shape.dependent;
         if segment.layout.begins_row(address) || begins_slice {
@@ -117,10 +123,15 @@ impl<'a> Reading<'a> {
     fn read_unit(&mut self, segment: &SegmentData<'a>, address: u32) -> Result<End, Breach>
         requires live { IsLive self.old.bins.interval }
         requires inside { address < 512 * segment.now.picture.width }
-        ensures value { (units : List Ctu) → IsKept segment.now.picture address self.old.beside units → Steps result (between_of self.new (units ++ self.new.records ∷ [])) (read_unit segment.now.syntax segment.now.picture segment.now.shape address (between_of self.old units)) }
-        ensures kept { OnOk result ((units : List Ctu) → IsKept segment.now.picture address self.old.beside units → IsKept segment.now.picture (address + 1) self.new.beside (units ++ self.new.records ∷ [])) }
+        ensures value { (units : List Ctu) → IsKept segment.now.picture address self.old.beside units
+            → Steps result (between_of self.new (units ++ self.new.records ∷ []))
+            (read_unit segment.now.syntax segment.now.picture segment.now.shape address (between_of self.old units)) }
+        ensures kept { OnOk result
+            ((units : List Ctu) → IsKept segment.now.picture address self.old.beside units
+            → IsKept segment.now.picture (address + 1) self.new.beside (units ++ self.new.records ∷ [])) }
         ensures live { IfOk result (λ follows. follows ≡ end.More → IsLive self.new.bins.interval) }
-        ensures more { IfOk result (λ follows. is_last segment.now.shape address ≡ false → begins_row segment.now.picture (address + 1) ≡ false → follows ≡ end.More) }
+        ensures more { IfOk result (λ follows. is_last segment.now.shape address ≡ false
+            → begins_row segment.now.picture (address + 1) ≡ false → follows ≡ end.More) }
     {
         let syntax = segment.syntax_at(address);
         let place = segment.place_at(address, self.last);
@@ -148,9 +159,11 @@ impl<'a> Reading<'a> {
     fn keep(&mut self, segment: &SegmentData<'_>, address: u32)
         ensures bins { self.new.bins ≡ self.old.bins }
         ensures records { self.new.records ≡ self.old.records }
-        ensures stored { self.new.stored ≡ stored_behind segment.now.picture address self.old.bins.contexts self.old.stored }
+        ensures stored { self.new.stored
+            ≡ stored_behind segment.now.picture address self.old.bins.contexts self.old.stored }
         ensures last { self.new.last ≡ self.old.records.quantization.last }
-        ensures beside { self.new.beside ≡ behind self.old.beside (column_of segment.now.picture address) self.old.records }
+        ensures beside { self.new.beside
+            ≡ behind self.old.beside (column_of segment.now.picture address) self.old.records }
     {
         let column = segment.layout.column(address);
         if segment.layout.sync && column == 1 {
@@ -164,9 +177,15 @@ impl<'a> Reading<'a> {
     fn unit_step(&mut self, segment: &SegmentData<'a>, address: u32) -> Result<End, Breach>
         requires live { MayGoOn segment.now address self.old }
         requires inside { address < 512 * segment.now.picture.width }
-        ensures value { (units : List Ctu) → IsKept segment.now.picture address self.old.beside units → Steps result (between_of self.new (units ++ self.new.records ∷ [])) (unit_step segment.now.syntax segment.now.picture segment.now.shape address (between_of self.old units)) }
-        ensures kept { OnOk result ((units : List Ctu) → IsKept segment.now.picture address self.old.beside units → IsKept segment.now.picture (address + 1) self.new.beside (units ++ self.new.records ∷ [])) }
-        ensures live { OnOk result (address + 1 < segment.now.shape.first + segment.now.shape.count → MayGoOn segment.now (address + 1) self.new) }
+        ensures value { (units : List Ctu) → IsKept segment.now.picture address self.old.beside units
+            → Steps result (between_of self.new (units ++ self.new.records ∷ []))
+            (unit_step segment.now.syntax segment.now.picture segment.now.shape address (between_of self.old units)) }
+        ensures kept { OnOk result
+            ((units : List Ctu) → IsKept segment.now.picture address self.old.beside units
+            → IsKept segment.now.picture (address + 1) self.new.beside (units ++ self.new.records ∷ [])) }
+        ensures live { OnOk result
+            (address + 1 < segment.now.shape.first + segment.now.shape.count
+            → MayGoOn segment.now (address + 1) self.new) }
     {
         self.before_unit(segment, address)?;
         self.read_unit(segment, address)
@@ -178,7 +197,10 @@ impl<'a> Reading<'a> {
         segment: &SegmentData<'a>,
         trees: &mut T,
     ) -> Result<(), ReadError>
-        ensures { (p : PicturePlan) (units : List Ctu) (given : List TreeUnit) → IsKept segment.now.picture segment.now.shape.first self.old.beside units → T.tells trees.old p given → ReadsSegment result segment.now.picture (segment.now.shape.first + segment.now.shape.count) self.new (T.tells trees.new p) (segment_read segment.now (progress_of self.old units given)) }
+        ensures { (p : PicturePlan) (units : List Ctu) (given : List TreeUnit)
+            → IsKept segment.now.picture segment.now.shape.first self.old.beside units → T.tells trees.old p given
+            → ReadsSegment result segment.now.picture (segment.now.shape.first + segment.now.shape.count) self.new
+            (T.tells trees.new p) (segment_read segment.now (progress_of self.old units given)) }
     {
         for address in segment.first()..segment.behind() {
             if let Err(breach) = self.unit_step(segment, address) {

@@ -1,9 +1,12 @@
 //! The pictures that long-term entries name (8.3.2).
 
-ghost use Rattle.std.specs.Prelude.{◌≡◌, ◌+◌, ◌*◌, ◌^◌, ◌<◌, ◌≤◌, map, pos, negsuc, ◌+ℤ◌, ◌-ℤ◌, ◌≤ℤ◌, length, slice_index_or, IfOk};
+ghost use Rattle.std.specs.Prelude.{◌≡◌, ◌+◌, ◌*◌, ◌^◌, ◌<◌, ◌≤◌, map, pos, negsuc, ◌+ℤ◌, ◌-ℤ◌, ◌≤ℤ◌, length};
+ghost use Rattle.std.specs.Prelude.{slice_index_or, IfOk};
 ghost use Rattle.std.specs.List.{range_with_len};
 ghost use Rattle.spec_reference_pictures.specs.PictureOrderCount.{lsb_of};
-ghost use Rattle.spec_reference_pictures.specs.ReferencePictureSet.{IsName, is_for, long_term_entry, long_term_name, long_term_places, long_term_set, msb_cycle_before, name_by, no_entry, place_of, reference_pocs};
+ghost use Rattle.spec_reference_pictures.specs.ReferencePictureSet.{IsName, is_for, long_term_entry, long_term_name};
+ghost use Rattle.spec_reference_pictures.specs.ReferencePictureSet.{long_term_places, long_term_set, msb_cycle_before};
+ghost use Rattle.spec_reference_pictures.specs.ReferencePictureSet.{name_by, no_entry, place_of, reference_pocs};
 
 use crate::picture_order_count::lsb_of;
 use crate::search::place_of;
@@ -45,7 +48,8 @@ fn name_by(current: CurrentPicture, cycle: u64, entry: LongTermRef) -> PictureNa
     requires max_lsb_low { 1 ≤ current.kind.max_lsb }
     requires max_lsb_high { current.kind.max_lsb ≤ 65536 }
     requires cycle { cycle < 2 ^ 41 }
-    ensures value { result ≡ name_by current.kind.max_lsb current.poc entry.poc_lsb_lt cycle entry.delta_poc_msb_cycle_lt }
+    ensures value { result
+        ≡ name_by current.kind.max_lsb current.poc entry.poc_lsb_lt cycle entry.delta_poc_msb_cycle_lt }
     ensures name { IsName result }
 {
     let max_lsb = current.kind.max_lsb;
@@ -115,7 +119,8 @@ pub(crate) fn long_term_places(
     requires entries { length long.now.entries ≤ 33 }
     requires few { length counts.now < 2 ^ 32 }
     ensures value { IfOk result (λ places. places
-        ≡ map (λ i. place_of (long_term_name current.kind long.now current.poc i) counts.now) (range_with_len 0 (length long.now.entries))) }
+        ≡ map (λ i. place_of (long_term_name current.kind long.now current.poc i) counts.now)
+        (range_with_len 0 (length long.now.entries))) }
     ensures each { IfOk result (λ places. length places ≡ length long.now.entries) }
 {
     let mut places = FieldList::new(alloc);

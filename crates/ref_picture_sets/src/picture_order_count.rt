@@ -1,7 +1,8 @@
 //! Picture order count (8.3.1).
 
 ghost use Rattle.std.specs.Prelude.{◌≡◌, ◌<◌, ◌≤◌, pos, negsuc, ◌≤ℤ◌, ◌<ℤ◌};
-ghost use Rattle.spec_reference_pictures.specs.PictureOrderCount.{begins_anew, in_range, is_idr, is_irap, lsb_of, pic_order_cnt_msb, pic_order_cnt_val};
+ghost use Rattle.spec_reference_pictures.specs.PictureOrderCount.{begins_anew, in_range, is_idr, is_irap, lsb_of};
+ghost use Rattle.spec_reference_pictures.specs.PictureOrderCount.{pic_order_cnt_msb, pic_order_cnt_val};
 
 use hv_base::{BLA_W_LP, CRA_NUT, FaultKind, IDR_N_LP, IDR_W_RADL};
 use slice_types::{PictureKind, ReferenceFields};

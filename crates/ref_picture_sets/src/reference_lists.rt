@@ -2,7 +2,9 @@
 
 ghost use Rattle.std.specs.Prelude.{◌≡◌, ◌+◌, ◌<◌, ◌≤◌, IfSome, Option, List, length, map, slice_index_or};
 ghost use Rattle.slice_types.specs.SliceHeaders.{IsInterFields};
-ghost use Rattle.spec_reference_pictures.specs.ReferenceLists.{entry_taken, in_turn, list_0, list_1, list_1_of, no_reference, order_count_at, reference_list, reference_lists, temporary_entry};
+ghost use Rattle.spec_reference_pictures.specs.ReferenceLists.{entry_taken, in_turn, list_0, list_1, list_1_of};
+ghost use Rattle.spec_reference_pictures.specs.ReferenceLists.{no_reference, order_count_at, reference_list};
+ghost use Rattle.spec_reference_pictures.specs.ReferenceLists.{reference_lists, temporary_entry};
 
 use header_types::{DpbPicture, FieldList, Lists, RefEntry, RefList, Rps};
 use slice_types::{InterFields, SliceFields};
@@ -31,7 +33,9 @@ pub fn build_lists(slice: &SliceFields, rps: &Rps, dpb: &[DpbPicture]) -> Lists
 /// List 0 of a P or B slice.
 fn list_0(fields: &InterFields, rps: &Rps, dpb: &[DpbPicture]) -> RefList
     requires { fields.now.num_ref_idx_l0_active_minus1 ≤ 14 }
-    ensures { result ≡ reference_list (in_turn dpb.now rps.now.st_curr_before rps.now.st_curr_after rps.now.lt_curr) (fields.now.num_ref_idx_l0_active_minus1 + 1) fields.now.list_entry_l0 }
+    ensures { result
+        ≡ reference_list (in_turn dpb.now rps.now.st_curr_before rps.now.st_curr_after rps.now.lt_curr)
+        (fields.now.num_ref_idx_l0_active_minus1 + 1) fields.now.list_entry_l0 }
 {
     let turn = Turn {
         dpb,

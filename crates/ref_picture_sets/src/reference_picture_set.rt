@@ -4,7 +4,9 @@ ghost use Rattle.std.specs.Prelude.{◌≡◌, ◌+◌, ◌^◌, ◌<◌, ◌≤
 ghost use Rattle.std.specs.List.{count_by, list_any, range_with_len};
 ghost use Rattle.header_types.specs.declared.short_term_set.ShortTermRef.{ShortTermRef};
 ghost use Rattle.header_types.specs.declared.reference_pictures.LongTermRef.{LongTermRef};
-ghost use Rattle.spec_reference_pictures.specs.ReferencePictureSet.{GivesSet, found, found_set, is_among, lacks_current, mark_after, named_sets, num_pic_total_curr, reference_picture_set};
+ghost use Rattle.spec_reference_pictures.specs.ReferencePictureSet.{GivesSet, found, found_set, is_among};
+ghost use Rattle.spec_reference_pictures.specs.ReferencePictureSet.{lacks_current, mark_after, named_sets};
+ghost use Rattle.spec_reference_pictures.specs.ReferencePictureSet.{num_pic_total_curr, reference_picture_set};
 
 use crate::long_term::{CurrentPicture, long_term_places, long_term_set};
 use crate::picture_order_count::is_irap;

@@ -1,7 +1,8 @@
 //! The search for pictures in the decoded picture buffer by their names (8.3.2).
 
 ghost use Rattle.std.specs.Prelude.{◌≡◌, ◌^◌, ◌<◌, ◌≤◌, length, IfSome};
-ghost use Rattle.spec_reference_pictures.specs.ReferencePictureSet.{IsName, is_among, is_named, is_place, is_sought, place_of};
+ghost use Rattle.spec_reference_pictures.specs.ReferencePictureSet.{IsName, is_among, is_named, is_place, is_sought};
+ghost use Rattle.spec_reference_pictures.specs.ReferencePictureSet.{place_of};
 
 use crate::picture_order_count::lsb_of;
 use header_types::PictureName;

@@ -1,8 +1,11 @@
 //! The pictures that short-term entries name (8.3.2).
 
-ghost use Rattle.std.specs.Prelude.{◌≡◌, ◌++◌, ◌*◌, ◌^◌, ◌<◌, ◌≤◌, pos, negsuc, ◌+ℤ◌, ◌≤ℤ◌, nat_abs, All, length, IfOk, OnOk};
+ghost use Rattle.std.specs.Prelude.{◌≡◌, ◌++◌, ◌*◌, ◌^◌, ◌<◌, ◌≤◌, pos, negsuc, ◌+ℤ◌, ◌≤ℤ◌, nat_abs, All, length, IfOk};
+ghost use Rattle.std.specs.Prelude.{OnOk};
 ghost use Rattle.header_types.specs.declared.short_term_set.ShortTermRef.{ShortTermRef};
-ghost use Rattle.spec_reference_pictures.specs.ReferencePictureSet.{is_reference, is_short_term, place_of, reference_poc, reference_pocs, short_term_poc, short_term_pocs, short_term_set};
+ghost use Rattle.spec_reference_pictures.specs.ReferencePictureSet.{is_reference, is_short_term, place_of};
+ghost use Rattle.spec_reference_pictures.specs.ReferencePictureSet.{reference_poc, reference_pocs, short_term_poc};
+ghost use Rattle.spec_reference_pictures.specs.ReferencePictureSet.{short_term_pocs, short_term_set};
 ghost use Rattle.header_types.specs.declared.reference_pictures.PictureName.TheVariants.{OrderCount};
 
 use crate::long_term::{CurrentPicture, is_for};

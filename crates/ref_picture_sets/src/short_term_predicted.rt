@@ -4,7 +4,8 @@ ghost use Rattle.std.specs.Prelude.{◌≡◌, ◌+◌, ◌*◌, ◌≤◌, ◌+
 ghost use Rattle.header_fields.specs.Takes.{Takes};
 ghost use Rattle.header_types.specs.declared.short_term_set.ShortTermRef.{ShortTermRef};
 ghost use Rattle.header_types.specs.ReferencePictures.{IsStRps};
-ghost use Rattle.spec_reference_pictures.specs.ShortTermSets.{use_delta, use_flags, moved_entry, moved, sides, moved_set, delta_idx_minus1, source_at, predicted_set};
+ghost use Rattle.spec_reference_pictures.specs.ShortTermSets.{use_delta, use_flags, moved_entry, moved, sides};
+ghost use Rattle.spec_reference_pictures.specs.ShortTermSets.{moved_set, delta_idx_minus1, source_at, predicted_set};
 
 use crate::short_term_explicit::signed;
 use header_fields::FieldReader;
@@ -115,7 +116,8 @@ fn read_moved_set<'a>(
     requires negative { All (λ (r : ShortTermRef). nat_abs r.delta_poc ≤ 32768 * 78) negative.now }
     requires positive { All (λ (r : ShortTermRef). nat_abs r.delta_poc ≤ 32768 * 78) positive.now }
     requires small { nat_abs delta ≤ 32768 }
-    ensures { Takes (λ x. x) result reader.old reader.new (moved_set (record { negative = negative.now; positive = positive.now }) delta) }
+    ensures { Takes (λ x. x) result reader.old reader.new
+        (moved_set (record { negative = negative.now; positive = positive.now }) delta) }
 {
     let negative = read_moved(alloc, reader, delta, negative)?;
     let positive = read_moved(alloc, reader, delta, positive)?;

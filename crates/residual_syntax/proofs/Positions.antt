@@ -1,5 +1,6 @@
 -- What is small in the place of the last level.
-use Rattle.std.proofs.Common.{◌≡◌, ℕ, ◌+◌, ◌-◌, ◌*◌, ◌/◌, ◌%◌, ◌^◌, ◌<◌, ◌≤◌, Bool, true, false, not, ◌&&◌, ◌||◌, refl, subst, lit<, arith}
+use Rattle.std.proofs.Common.{◌≡◌, ℕ, ◌+◌, ◌-◌, ◌*◌, ◌/◌, ◌%◌, ◌^◌, ◌<◌, ◌≤◌, Bool, true, false, not, ◌&&◌, ◌||◌, refl}
+use Rattle.std.proofs.Common.{subst, lit<, arith}
 use Rattle.std.specs.Prelude.{nat_le, nat_lt, slice_index}
 use Rattle.std.specs.List.{list_all, range_with_len}
 use Rattle.std.proofs.lemmas.Bool.{lt-ltb, ltb-true, leb-true, and_parts}
@@ -10,7 +11,8 @@ use Rattle.spec_cabac.proofs.TableRules.{tested}
 use Rattle.spec_residuals.specs.declared.tables.TheConstants.{CTX_IDX_MAP}
 
 -- a test of two numbers below 10
-tested_pair : (p : ℕ → ℕ → Bool) → list_all (λ j. p (j / 10) (j % 10)) (range_with_len 0 60) ≡ true → (a b : ℕ) → a ≤ 5 → b < 10 → p a b ≡ true
+tested_pair : (p : ℕ → ℕ → Bool) → list_all (λ j. p (j / 10) (j % 10)) (range_with_len 0 60) ≡ true → (a b : ℕ) → a ≤ 5
+    → b < 10 → p a b ≡ true
 tested_pair p computed a b few small =
     let at = tested (λ j. p (j / 10) (j % 10)) 60 computed (10 * a + b) (omega arith) in
     let d : (10 * a + b) / 10 ≡ a = omega arith in
@@ -26,13 +28,15 @@ both true b e h = h
 both false b e h = e
 
 abbrev last_ok : ℕ → ℕ → Bool
-last_ok log2 p = not (nat_lt 3 p && nat_lt p (2 * log2)) || nat_le (2 ^ (p / 2 - 1) * (2 + p % 2) + 2 ^ (p / 2 - 1)) (2 ^ log2)
+last_ok log2 p =
+    not (nat_lt 3 p && nat_lt p (2 * log2)) || nat_le (2 ^ (p / 2 - 1) * (2 + p % 2) + 2 ^ (p / 2 - 1)) (2 ^ log2)
 
 last_all : list_all (λ j. last_ok (j / 10) (j % 10)) (range_with_len 0 60) ≡ true
 last_all = refl
 
 -- a column or row with a suffix lies in the block
-pub last_small : (log2 prefix suffix : ℕ) → log2 ≤ 5 → prefix < 2 * log2 → 3 < prefix → suffix < 2 ^ (prefix / 2 - 1) → 2 ^ (prefix / 2 - 1) * (2 + prefix % 2) + suffix < 2 ^ log2
+pub last_small : (log2 prefix suffix : ℕ) → log2 ≤ 5 → prefix < 2 * log2 → 3 < prefix → suffix < 2 ^ (prefix / 2 - 1)
+    → 2 ^ (prefix / 2 - 1) * (2 + prefix % 2) + suffix < 2 ^ log2
 last_small log2 prefix suffix few low long small =
     let test = tested_pair last_ok last_all log2 prefix few (omega arith) in
     let le = leb-true _ _ (implied _ _ (both _ _ (lt-ltb _ _ long) (lt-ltb _ _ low)) test) in
@@ -44,7 +48,8 @@ short_all = refl
 pub at_least_4 : (log2 : ℕ) → 2 ≤ log2 → log2 ≤ 5 → 4 ≤ 2 ^ log2
 at_least_4 log2 some few =
     let e : log2 - 2 + 2 ≡ log2 = omega arith in
-    subst (λ (k : ℕ). 4 ≤ 2 ^ k) e (leb-true _ _ (tested (λ k. nat_le 4 (2 ^ (k + 2))) 4 short_all (log2 - 2) (omega arith)))
+    subst (λ (k : ℕ). 4 ≤ 2 ^ k) e
+    (leb-true _ _ (tested (λ k. nat_le 4 (2 ^ (k + 2))) 4 short_all (log2 - 2) (omega arith)))
 
 abbrev context_ok : ℕ → ℕ → Bool
 context_ok log2 i =
@@ -106,4 +111,5 @@ wide_power_small n few =
 pub areas : (log2 : ℕ) → 2 ≤ log2 → 16 * (2 ^ (log2 - 2) * 2 ^ (log2 - 2)) ≡ 4 ^ log2
 areas log2 some =
     let e : 2 + (log2 - 2) ≡ log2 = omega arith in
-    subst (λ (k : ℕ). 16 * (2 ^ (log2 - 2) * 2 ^ (log2 - 2)) ≡ 4 ^ k) e (omega (arith, mul-pow 2 2 (log2 - 2), pow-add 4 2 (log2 - 2)))
+    subst (λ (k : ℕ). 16 * (2 ^ (log2 - 2) * 2 ^ (log2 - 2)) ≡ 4 ^ k) e
+    (omega (arith, mul-pow 2 2 (log2 - 2), pow-add 4 2 (log2 - 2)))

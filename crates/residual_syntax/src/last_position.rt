@@ -2,7 +2,8 @@
 
 ghost use Rattle.std.specs.Prelude.{◌≡◌, ◌+◌, ◌-◌, ◌*◌, ◌/◌, ◌^◌, ◌<◌, ◌≤◌, IfOk};
 ghost use Rattle.spec_cabac.specs.Engine.{IsLive};
-ghost use Rattle.spec_residuals.specs.LastPosition.{transform_skip_flag, prefix_context, last_prefix, last_suffix, last_of, last_position};
+ghost use Rattle.spec_residuals.specs.LastPosition.{transform_skip_flag, prefix_context, last_prefix, last_suffix};
+ghost use Rattle.spec_residuals.specs.LastPosition.{last_of, last_position};
 ghost use Rattle.cabac_contexts.specs.Takes.{Takes};
 
 use block_geometry::Scan;

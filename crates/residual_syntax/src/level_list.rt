@@ -62,7 +62,8 @@ impl Levels {
 
     pub(crate) fn push(&mut self, level: Level)
         requires { length self.old.levels < 1024 }
-        ensures { self.new ≡ record { transform_skip = self.old.transform_skip; levels = self.old.levels ++ level ∷ [] } }
+        ensures { self.new
+            ≡ record { transform_skip = self.old.transform_skip; levels = self.old.levels ++ level ∷ [] } }
     {
         let _pushed = self.levels.push(level);
     }

@@ -1,13 +1,18 @@
 //! The levels of a sub-block, once it is known which are coded.
 
-ghost use Rattle.std.specs.Prelude.{◌≡◌, ◌+◌, ◌-◌, ◌*◌, ◌^◌, ◌<◌, ◌≤◌, ◌∷◌, ◌++◌, List, length, slice_index, IfOk, OnOk};
+ghost use Rattle.std.specs.Prelude.{◌≡◌, ◌+◌, ◌-◌, ◌*◌, ◌^◌, ◌<◌, ◌≤◌, ◌∷◌, ◌++◌, List, length, slice_index, IfOk};
+ghost use Rattle.std.specs.Prelude.{OnOk};
 ghost use Rattle.std.specs.List.{All};
 ghost use Rattle.spec_bits.specs.Bits.{bit_of, digit};
 ghost use Rattle.block_geometry.specs.Scans.{scan_place};
 ghost use Rattle.spec_cabac.specs.Engine.{IsLive};
-ghost use Rattle.spec_cabac.specs.declared.init_values.TheConstants.{COEFF_ABS_LEVEL_GREATER1_FLAG, COEFF_ABS_LEVEL_GREATER2_FLAG};
+ghost use Rattle.spec_cabac.specs.declared.init_values.TheConstants.{COEFF_ABS_LEVEL_GREATER1_FLAG};
+ghost use Rattle.spec_cabac.specs.declared.init_values.TheConstants.{COEFF_ABS_LEVEL_GREATER2_FLAG};
 ghost use Rattle.spec_residuals.specs.LastPosition.{by_component};
-ghost use Rattle.spec_residuals.specs.Levels.{greater1_flag, greater1_flags, greater2_flag, next_context, sign_hidden, coeff_abs_level_remaining, suffix_size, front, next_rice, base_level, greatest_base, is_negative, signed, level_of, sized_level, level_at, levels_from};
+ghost use Rattle.spec_residuals.specs.Levels.{greater1_flag, greater1_flags, greater2_flag, next_context, sign_hidden};
+ghost use Rattle.spec_residuals.specs.Levels.{coeff_abs_level_remaining, suffix_size, front, next_rice, base_level};
+ghost use Rattle.spec_residuals.specs.Levels.{greatest_base, is_negative, signed, level_of, sized_level, level_at};
+ghost use Rattle.spec_residuals.specs.Levels.{levels_from};
 ghost use Rattle.cabac_contexts.specs.Takes.{Leaves, Takes};
 ghost use Rattle.residual_syntax.specs.Judges.{Judges};
 
@@ -74,7 +79,8 @@ fn greater1_flag<'a>(
 fn greater1_context(block: ResidualBlock, set: u32, context: u32) -> usize
     requires set { set ≤ by_component block 3 1 }
     requires context { context ≤ 3 }
-    ensures value { result ≡ by_component block COEFF_ABS_LEVEL_GREATER1_FLAG (COEFF_ABS_LEVEL_GREATER1_FLAG + 16) + 4 * set + context }
+    ensures value { result
+        ≡ by_component block COEFF_ABS_LEVEL_GREATER1_FLAG (COEFF_ABS_LEVEL_GREATER1_FLAG + 16) + 4 * set + context }
     ensures small { result < 154 }
 {
     if block.c == 0 {
@@ -120,7 +126,8 @@ pub fn greater2_flag<'a>(
 #[inline(always)]
 fn greater2_context(block: ResidualBlock, set: u32) -> usize
     requires { set ≤ by_component block 3 1 }
-    ensures value { result ≡ by_component block COEFF_ABS_LEVEL_GREATER2_FLAG (COEFF_ABS_LEVEL_GREATER2_FLAG + 4) + set }
+    ensures value { result
+        ≡ by_component block COEFF_ABS_LEVEL_GREATER2_FLAG (COEFF_ABS_LEVEL_GREATER2_FLAG + 4) + set }
     ensures small { result < 154 }
 {
     if block.c == 0 {
@@ -155,7 +162,8 @@ pub fn levels_from<'a>(
     requires few { length indices.now.items ≤ 16 }
     requires indices { All (λ n. n < 16) indices.now.items }
     requires room { length levels.old.levels + length indices.now.items ≤ 1024 }
-    ensures value { Leaves result levels.new reader.old reader.new (levels_from block sub indices.now.items signs levels.old) }
+    ensures value { Leaves result levels.new reader.old reader.new
+        (levels_from block sub indices.now.items signs levels.old) }
     ensures count { OnOk result (length levels.new.levels ≤ length levels.old.levels + length indices.now.items) }
 {
     let mut state = LevelState { rice: 0, sum: 0 };
@@ -187,7 +195,8 @@ fn level_at<'a>(
     requires rice { state.old.rice ≤ 4 }
     requires sum { state.old.sum ≤ 32768 * j }
     requires room { length levels.old.levels < 1024 }
-    ensures value { Leaves result (state.new, levels.new) reader.old reader.new (level_at block sub indices.now.items signs j (state.old, levels.old)) }
+    ensures value { Leaves result (state.new, levels.new) reader.old reader.new
+        (level_at block sub indices.now.items signs j (state.old, levels.old)) }
     ensures rice { state.new.rice ≤ 4 }
     ensures sum { OnOk result (state.new.sum ≤ 32768 * (j + 1)) }
     ensures count { OnOk result (length levels.new.levels ≡ length levels.old.levels + 1) }
@@ -222,7 +231,8 @@ fn sized_level(
     requires rice { state.old.rice ≤ 4 }
     requires sum { state.old.sum ≤ 32768 * j }
     requires room { length levels.old.levels < 1024 }
-    ensures value { Judges result (state.new, levels.new) (sized_level block sub indices.now.items signs j size (state.old, levels.old)) }
+    ensures value { Judges result (state.new, levels.new)
+        (sized_level block sub indices.now.items signs j size (state.old, levels.old)) }
     ensures rice { state.new.rice ≤ 4 }
     ensures sum { OnOk result (state.new.sum ≤ 32768 * (j + 1)) }
     ensures count { OnOk result (length levels.new.levels ≡ length levels.old.levels + 1) }

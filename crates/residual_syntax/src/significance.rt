@@ -4,7 +4,9 @@ ghost use Rattle.std.specs.Prelude.{◌≡◌, ◌+◌, ◌*◌, ◌^◌, ◌<�
 ghost use Rattle.std.specs.List.{All};
 ghost use Rattle.block_geometry.specs.Scans.{scan_place};
 ghost use Rattle.spec_cabac.specs.Engine.{IsLive};
-ghost use Rattle.spec_residuals.specs.Significance.{sub_block_at, coded_context, coded_sub_block_flag, nearness, diagonal_nearness, neighbour_context, size_context, sig_ctx, sig_context, sig_coeff_flag, sig_coeff, sig_coeffs, coded_indices};
+ghost use Rattle.spec_residuals.specs.Significance.{sub_block_at, coded_context, coded_sub_block_flag, nearness};
+ghost use Rattle.spec_residuals.specs.Significance.{diagonal_nearness, neighbour_context, size_context, sig_ctx};
+ghost use Rattle.spec_residuals.specs.Significance.{sig_context, sig_coeff_flag, sig_coeff, sig_coeffs, coded_indices};
 ghost use Rattle.cabac_contexts.specs.Takes.{Leaves, Takes};
 
 use arrayvec::ArrayVec;
@@ -92,7 +94,8 @@ fn sig_coeffs<'a>(
     requires from { from ≤ 16 }
     requires room { length indices.old.items + from ≤ 16 }
     requires small { All (λ n. n < 16) indices.old.items }
-    ensures value { Leaves result indices.new.items reader.old reader.new (sig_coeffs block sub flagged from indices.old.items) }
+    ensures value { Leaves result indices.new.items reader.old reader.new
+        (sig_coeffs block sub flagged from indices.old.items) }
     ensures small { OnOk result (All (λ n. n < 16) indices.new.items) }
     ensures few { OnOk result (length indices.new.items ≤ 16) }
 {
@@ -117,7 +120,8 @@ fn sig_coeff<'a>(
     requires index { n < 16 }
     requires room { length indices.old.items < 16 }
     requires small { All (λ n. n < 16) indices.old.items }
-    ensures value { Leaves result indices.new.items reader.old reader.new (sig_coeff block sub flagged n indices.old.items) }
+    ensures value { Leaves result indices.new.items reader.old reader.new
+        (sig_coeff block sub flagged n indices.old.items) }
     ensures count { length indices.new.items ≤ length indices.old.items + 1 }
     ensures small { All (λ n. n < 16) indices.new.items }
 {

@@ -35,7 +35,8 @@ pub fn sub_block<'a>(
     requires index { i < 2 ^ (block.log2 - 2) * 2 ^ (block.log2 - 2) }
     requires position { position < 16 }
     requires room { length levels.old.levels ≤ 1008 }
-    ensures value { Leaves result (progress.new, levels.new) reader.old reader.new (sub_block block last position i (progress.old, levels.old)) }
+    ensures value { Leaves result (progress.new, levels.new) reader.old reader.new
+        (sub_block block last position i (progress.old, levels.old)) }
     ensures count { OnOk result (length levels.new.levels ≤ length levels.old.levels + 16) }
 {
     let sub = sub_block_at(block, progress, i);
@@ -85,7 +86,8 @@ fn coded_sub_block<'a>(
     requires x { sub.x < 8 }
     requires y { sub.y < 8 }
     requires room { length levels.old.levels ≤ 1008 }
-    ensures value { Leaves result (progress.new, levels.new) reader.old reader.new (coded_sub_block block last position sub (progress.old, levels.old)) }
+    ensures value { Leaves result (progress.new, levels.new) reader.old reader.new
+        (coded_sub_block block last position sub (progress.old, levels.old)) }
     ensures count { OnOk result (length levels.new.levels ≤ length levels.old.levels + 16) }
 {
     let mut indices = Indices::new();
@@ -113,7 +115,8 @@ fn coded_levels<'a>(
     requires few { length indices.now.items ≤ 16 }
     requires indices { All (λ n. n < 16) indices.now.items }
     requires room { length levels.old.levels + length indices.now.items ≤ 1024 }
-    ensures value { Leaves result (progress.new, levels.new) reader.old reader.new (coded_levels block sub indices.now.items (progress.old, levels.old)) }
+    ensures value { Leaves result (progress.new, levels.new) reader.old reader.new
+        (coded_levels block sub indices.now.items (progress.old, levels.old)) }
     ensures count { OnOk result (length levels.new.levels ≤ length levels.old.levels + length indices.now.items) }
 {
     let set = context_set(block, sub, progress.raised);

@@ -1,5 +1,6 @@
 -- Bounds of products, of their sums and of what is made of them.
-use Rattle.std.proofs.Common.{◌≡◌, ℕ, zero, suc, ◌+◌, ◌-◌, ◌*◌, ◌/◌, ◌%◌, ◌^◌, ◌<◌, ◌≤◌, ℤ, pos, negsuc, ◌≤ℤ◌, ◌*ℤ◌, List, length, slice_index, refl, sym, ap, ◌∙◌, ⊎_elim, arith}
+use Rattle.std.proofs.Common.{◌≡◌, ℕ, zero, suc, ◌+◌, ◌-◌, ◌*◌, ◌/◌, ◌%◌, ◌^◌, ◌<◌, ◌≤◌, ℤ, pos, negsuc, ◌≤ℤ◌, ◌*ℤ◌}
+use Rattle.std.proofs.Common.{List, length, slice_index, refl, sym, ap, ◌∙◌, ⊎_elim, arith}
 use Rattle.std.specs.Prelude.{nat_le}
 use Rattle.std.specs.List.{All}
 use Rattle.std.specs.Int.RustNames.{unsigned_abs}
@@ -31,7 +32,8 @@ product_within a b entry small =
     within (a *ℤ b) 2949120 (rw (unsigned_abs-mul a b) (mul-le-mul p q))
 
 -- the product as the code computes it, which loses nothing
-pub product_is : (a b : ℤ) → IsEntry a → Is16 b → to_z w32 (of_z w32 (to_z w32 (of_z w32 a) *ℤ to_z w32 (of_z w32 b))) ≡ a *ℤ b
+pub product_is : (a b : ℤ) → IsEntry a → Is16 b
+    → to_z w32 (of_z w32 (to_z w32 (of_z w32 a) *ℤ to_z w32 (of_z w32 b))) ≡ a *ℤ b
 product_is a b entry small =
     let p : unsigned_abs a ≤ 90 = omega (arith, ints, entry) in
     let q : unsigned_abs b ≤ 32768 = omega (arith, ints, small) in
@@ -41,16 +43,20 @@ product_is a b entry small =
     simp to_z-of_z
 
 -- the sum of the first n products down a column
-pub column_within : (entries values : List ℤ) (stride size n j column : ℕ) → IsMatrix entries stride size → All Is16 values → size * size ≤ length values →
-    n ≤ size → j < size → column < size → IsWithin (2949120 * n) (sum_below n (λ k. matrix_in entries stride k j *ℤ at values (size * k + column)))
-column_within entries values stride size n j column matrix small long few inside beside = sum_within 2949120 n _ (λ k below.
+pub column_within : (entries values : List ℤ) (stride size n j column : ℕ) → IsMatrix entries stride size →
+    All Is16 values → size * size ≤ length values →
+    n ≤ size → j < size → column < size
+    → IsWithin (2949120 * n) (sum_below n (λ k. matrix_in entries stride k j *ℤ at values (size * k + column)))
+column_within entries values stride size n j column matrix small long few inside beside =
+    sum_within 2949120 n _ (λ k below.
     let k_in : k < size = omega arith in
     let e : stride * k + j < length entries = (let i = matrix.inside k k_in in omega arith) in
     let v : size * k + column < size * size = grind (arith, rows) in
     product_within _ _ (matrix.small (stride * k + j) (pos 0) e) (small (size * k + column) (pos 0) (omega arith)))
 
 -- what such a sum is, of up to 31 products and of up to 32
-pub is_partial_sum : (n size : ℕ) (z sum : ℤ) → z ≡ sum → IsWithin (2949120 * n) sum → n < size → size ≤ 32 → IsPartialSum z
+pub is_partial_sum : (n size : ℕ) (z sum : ℤ) → z ≡ sum → IsWithin (2949120 * n) sum → n < size → size ≤ 32
+    → IsPartialSum z
 is_partial_sum n size z sum is small below few = rw is (omega (arith, ints, small), omega (arith, ints, small))
 
 pub is_sum : (n : ℕ) (z sum : ℤ) → z ≡ sum → IsWithin (2949120 * n) sum → n ≤ 32 → IsSum z
@@ -71,9 +77,11 @@ shift_within (negsuc a) n places low high =
     let d = fewer_places a n places (omega (arith, ints)) in
     (omega (arith, ints, d), omega (arith, ints, d))
 
-pub quantizer_small : (qp factor : ℕ) → qp ≤ 87 → factor ≡ slice_index LEVEL_SCALE (qp % 6) → factor * 2 ^ (qp / 6) ≤ 1179648
+pub quantizer_small : (qp factor : ℕ) → qp ≤ 87 → factor ≡ slice_index LEVEL_SCALE (qp % 6)
+    → factor * 2 ^ (qp / 6) ≤ 1179648
 quantizer_small qp factor h is =
-    let s : slice_index LEVEL_SCALE (qp % 6) ≤ 72 = leb-true _ _ (tested (λ i. nat_le (slice_index LEVEL_SCALE i) 72) 6 refl (qp % 6) (omega arith)) in
+    let s : slice_index LEVEL_SCALE (qp % 6) ≤ 72 =
+    leb-true _ _ (tested (λ i. nat_le (slice_index LEVEL_SCALE i) 72) 6 refl (qp % 6) (omega arith)) in
     let few : qp / 6 ≤ 14 = omega arith in
     let two : 0 < 2 = omega arith in
     let p : 2 ^ (qp / 6) ≤ 2 ^ 14 = pow-le-pow_right two few in
@@ -84,9 +92,11 @@ zero_mul factor = omega (arith, ints)
 
 -- what scaling makes of a level of 0
 zero_rounded : (shift : ℕ) → shift < 14 → clip16 (rounded (suc shift) (pos 0)) ≡ pos 0
-zero_rounded shift h = (Decides-int_eq _ _).0 (tested (λ i. int_eq (clip16 (rounded (suc i) (pos 0))) (pos 0)) 14 refl shift h)
+zero_rounded shift h =
+    (Decides-int_eq _ _).0 (tested (λ i. int_eq (clip16 (rounded (suc i) (pos 0))) (pos 0)) 14 refl shift h)
 
-pub zero_scaled : (shift factor : ℕ) (level : ℤ) → level ≡ pos 0 → 1 ≤ shift → shift ≤ 14 → pos 0 ≡ clip16 (rounded shift (level *ℤ pos factor))
+pub zero_scaled : (shift factor : ℕ) (level : ℤ) → level ≡ pos 0 → 1 ≤ shift → shift ≤ 14
+    → pos 0 ≡ clip16 (rounded shift (level *ℤ pos factor))
 zero_scaled zero factor level zero_level some few = absurd (omega (arith, some))
 zero_scaled (suc shift) factor level zero_level some few =
     let none : level *ℤ pos factor ≡ pos 0 = rw zero_level (zero_mul factor) in

@@ -1,5 +1,6 @@
 -- The tables of the transforms as matrices of a size.
-use Rattle.std.proofs.Common.{◌≡◌, ℕ, zero, suc, ◌+◌, ◌*◌, ◌/◌, ◌^◌, ◌<◌, ◌≤◌, ℤ, pos, negsuc, List, get_or, Bool, true, refl, ap, ◌∙◌, arith}
+use Rattle.std.proofs.Common.{◌≡◌, ℕ, zero, suc, ◌+◌, ◌*◌, ◌/◌, ◌^◌, ◌<◌, ◌≤◌, ℤ, pos, negsuc, List, get_or, Bool, true}
+use Rattle.std.proofs.Common.{refl, ap, ◌∙◌, arith}
 use Rattle.std.specs.List.{All, list_all, range_with_len}
 use Rattle.std.specs.Int.Signed.{le_z, le_z_yes}
 use Rattle.std.proofs.lemmas.Float.{T_from_true}
@@ -22,21 +23,30 @@ cosines_small = All-from_get_or IsEntry COSINE_MATRIX (pos 0) (λ i h. (
   le_z_yes (T_from_true _ (tested (λ i. le_z (get_or COSINE_MATRIX i (pos 0)) (pos 90)) 1024 high_all i h)),
 ))
 
-cosines : (size step : ℕ) → 0 < size → size ≤ 32 → ((k : ℕ) → k < size → 32 * step * k + size ≤ 1024) → IsMatrix COSINE_MATRIX (32 * step) size
+cosines : (size step : ℕ) → 0 < size → size ≤ 32 → ((k : ℕ) → k < size → 32 * step * k + size ≤ 1024)
+    → IsMatrix COSINE_MATRIX (32 * step) size
 cosines size step some few inside = record { some = some; few = few; inside = inside; small = cosines_small }
 
-pub cosines_of_size : (log2 size : ℕ) → size ≡ 2 ^ log2 → 2 ≤ log2 → log2 ≤ 5 → IsMatrix COSINE_MATRIX (32 * (32 / size)) size
+pub cosines_of_size : (log2 size : ℕ) → size ≡ 2 ^ log2 → 2 ≤ log2 → log2 ≤ 5
+    → IsMatrix COSINE_MATRIX (32 * (32 / size)) size
 cosines_of_size zero size is low high = absurd (omega (arith, low))
 cosines_of_size (suc zero) size is low high = absurd (omega (arith, low))
 cosines_of_size (suc (suc zero)) size is low high = rw is (cosines 4 8 (omega arith) (omega arith) (λ k h. omega arith))
-cosines_of_size (suc (suc (suc zero))) size is low high = rw is (cosines 8 4 (omega arith) (omega arith) (λ k h. omega arith))
-cosines_of_size (suc (suc (suc (suc zero)))) size is low high = rw is (cosines 16 2 (omega arith) (omega arith) (λ k h. omega arith))
-cosines_of_size (suc (suc (suc (suc (suc zero))))) size is low high = rw is (cosines 32 1 (omega arith) (omega arith) (λ k h. omega arith))
+cosines_of_size (suc (suc (suc zero))) size is low high =
+    rw is (cosines 8 4 (omega arith) (omega arith) (λ k h. omega arith))
+cosines_of_size (suc (suc (suc (suc zero)))) size is low high =
+    rw is (cosines 16 2 (omega arith) (omega arith) (λ k h. omega arith))
+cosines_of_size (suc (suc (suc (suc (suc zero))))) size is low high =
+    rw is (cosines 32 1 (omega arith) (omega arith) (λ k h. omega arith))
 cosines_of_size (suc (suc (suc (suc (suc (suc more)))))) size is low high = absurd (omega (arith, high))
 
 -- what the two products give is the definition's
-pub by_matrix : (depth size n : ℕ) (dst : Bool) (entries : List ℤ) (stride : ℕ) (new d : List ℤ) → matrix_in entries stride ≡ entry dst size → size ≡ n
-    → ((x y : ℕ) → x < size → y < size → block_in size new x y ≡ residual_of depth (second_stage (matrix_in entries stride) size (first_stage (matrix_in entries stride) size (block_in size d)) x y))
+pub by_matrix : (depth size n : ℕ) (dst : Bool) (entries : List ℤ) (stride : ℕ) (new d : List ℤ)
+    → matrix_in entries stride ≡ entry dst size → size ≡ n
+    → ((x y : ℕ) → x < size → y < size
+    → block_in size new x y
+    ≡ residual_of depth
+    (second_stage (matrix_in entries stride) size (first_stage (matrix_in entries stride) size (block_in size d)) x y))
     → (x y : ℕ) → x < n → y < n → block_in n new x y ≡ transformed depth dst n (block_in n d) x y
 unfolding transformed
 by_matrix depth size n dst entries stride new d is e product x y inside below =

@@ -68,7 +68,8 @@ pub fn row<'a>(matrix: &Matrix<'a>, k: usize) -> &'a [i32]
     requires matrix { IsMatrix matrix.now.entries.now matrix.now.stride matrix.now.size }
     requires k { k < matrix.now.size }
     ensures count { length result.now ≡ matrix.now.size }
-    ensures value { (j : ℕ) → j < matrix.now.size → at result.now j ≡ matrix_in matrix.now.entries.now matrix.now.stride k j }
+    ensures value { (j : ℕ) → j < matrix.now.size
+        → at result.now j ≡ matrix_in matrix.now.entries.now matrix.now.stride k j }
     ensures small { All IsEntry result.now }
 {
     let start = matrix.stride * k;

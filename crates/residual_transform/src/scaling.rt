@@ -1,6 +1,7 @@
 //! The scaling process for transform coefficients (8.6.3).
 
-ghost use Rattle.std.specs.Prelude.{◌≡◌, ℕ, ◌+◌, ◌-◌, ◌*◌, ◌^◌, ◌<◌, ◌≤◌, pos, negsuc, ◌+ℤ◌, ◌*ℤ◌, ◌≤ℤ◌, length, slice_index};
+ghost use Rattle.std.specs.Prelude.{◌≡◌, ℕ, ◌+◌, ◌-◌, ◌*◌, ◌^◌, ◌<◌, ◌≤◌, pos, negsuc, ◌+ℤ◌, ◌*ℤ◌, ◌≤ℤ◌, length};
+ghost use Rattle.std.specs.Prelude.{slice_index};
 ghost use Rattle.std.specs.List.{All};
 ghost use Rattle.spec_transforms.specs.Matrices.{at};
 ghost use Rattle.spec_transforms.specs.Scaling.{Is16, IsDepth, IsParameter, IsSize, clip16, quantizer, rounded, scaled};

@@ -4,7 +4,8 @@ ghost use Rattle.std.specs.Prelude.{◌≡◌, ℕ, ◌+◌, ◌*◌, ◌^◌, �
 ghost use Rattle.std.specs.List.{All};
 ghost use Rattle.spec_transforms.specs.Matrices.{at, matrix_in};
 ghost use Rattle.spec_transforms.specs.Scaling.{Is16, IsDepth, IsSize, clip16, rounded};
-ghost use Rattle.spec_transforms.specs.Transforms.{IsResidual, block_in, first_stage, residual_of, second_stage, transformed};
+ghost use Rattle.spec_transforms.specs.Transforms.{IsResidual, block_in, first_stage, residual_of, second_stage};
+ghost use Rattle.spec_transforms.specs.Transforms.{transformed};
 ghost use Rattle.residual_transform.specs.Sums.{IsMatrix, IsSum};
 
 use crate::matrix::{Matrix, matrix_of};
@@ -38,7 +39,9 @@ fn transform(d: &[i32], matrix: &Matrix<'_>, depth: u32, out: &mut [i32])
     requires room { length out.old ≡ length d.now }
     ensures value { (x y : ℕ) → x < matrix.now.size → y < matrix.now.size → block_in matrix.now.size out.new x y
         ≡ residual_of depth (second_stage (matrix_in matrix.now.entries.now matrix.now.stride) matrix.now.size
-        (first_stage (matrix_in matrix.now.entries.now matrix.now.stride) matrix.now.size (block_in matrix.now.size d.now)) x y) }
+        (first_stage (matrix_in matrix.now.entries.now matrix.now.stride) matrix.now.size
+        (block_in matrix.now.size d.now))
+        x y) }
     ensures small { All IsResidual out.new }
 {
     let mut between = [0; 1024];
@@ -53,7 +56,8 @@ fn transform_columns(d: &[i32], matrix: &Matrix<'_>, out: &mut [i32; 1024])
     requires count { length d.now ≡ matrix.now.size * matrix.now.size }
     requires out { All Is16 out.old }
     ensures value { (x y : ℕ) → x < matrix.now.size → y < matrix.now.size → block_in matrix.now.size out.new y x
-        ≡ first_stage (matrix_in matrix.now.entries.now matrix.now.stride) matrix.now.size (block_in matrix.now.size d.now) x y }
+        ≡ first_stage (matrix_in matrix.now.entries.now matrix.now.stride) matrix.now.size
+        (block_in matrix.now.size d.now) x y }
     ensures small { All Is16 out.new }
 {
     for column in 0..matrix.size {

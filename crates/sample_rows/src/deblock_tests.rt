@@ -11,7 +11,14 @@ struct StrongEdges;
 impl Places for StrongEdges {
     ghost use Rattle.std.specs.Prelude.{pos, false};
 
-    ghost place_at = { λ v x y. record { left_strength = 2; top_strength = 0; qp_y = pos 37; kept = false; slice_beta_offset_div2 = pos 0; slice_tc_offset_div2 = pos 0 } };
+    ghost place_at = { λ v x y. record {
+      left_strength = 2;
+      top_strength = 0;
+      qp_y = pos 37;
+      kept = false;
+      slice_beta_offset_div2 = pos 0;
+      slice_tc_offset_div2 = pos 0;
+    } };
 
     fn place(&self, _x: usize, _y: usize) -> Place {
         Place {

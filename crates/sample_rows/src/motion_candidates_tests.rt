@@ -14,7 +14,8 @@ struct Sides {
 }
 
 impl MotionView for Sides {
-    ghost motion_at = { λ s column row. cond (column == 0 && row == 2) (Some s.left) (cond (column == 2 && row == 0) (Some s.above) None) };
+    ghost motion_at = { λ s column row. cond (column == 0 && row == 2) (Some s.left)
+        (cond (column == 2 && row == 0) (Some s.above) None) };
 
     ghost collocated_at = { λ s column row. None };
 

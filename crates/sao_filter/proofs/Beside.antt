@@ -1,5 +1,6 @@
 -- The units that neighbours stand in.
-use Rattle.std.proofs.Common.{◌≡◌, ℕ, Bool, true, false, zero, suc, ◌+◌, ◌-◌, ◌*◌, ◌/◌, ◌<◌, ◌≤◌, nat_le, nat_lt, ◌&&◌, refl, ap, ◌∙◌, arith}
+use Rattle.std.proofs.Common.{◌≡◌, ℕ, Bool, true, false, zero, suc, ◌+◌, ◌-◌, ◌*◌, ◌/◌, ◌<◌, ◌≤◌, nat_le, nat_lt, ◌&&◌}
+use Rattle.std.proofs.Common.{refl, ap, ◌∙◌, arith}
 use Rattle.std.specs.Prelude.{◌==◌, min}
 use Rattle.std.proofs.lemmas.Bool.Decides.{nat_tests}
 use Rattle.std.proofs.lemmas.Nat.{div-mul-add}
@@ -55,7 +56,8 @@ behind s k x w some low under is =
 -- a neighbour in one direction, from a place that stands first, last, or between
 pub stands : (s k x h w : ℕ) (first last : Bool) → 1 ≤ s → h ≤ 2 → s * k ≤ x → x < s * k + s → x < w →
     first ≡ (x == s * k) → last ≡ (x + 1 == min (s * k + s) w) → Stands s k (shift h first last) x h w
-stands s k x zero w true last some few low high inside is_first is_last = before s k x w some (grind (arith, nat_tests)) inside
+stands s k x zero w true last some few low high inside is_first is_last =
+    before s k x w some (grind (arith, nat_tests)) inside
 stands s k x zero w false last some few low high inside is_first is_last =
     let after : s * k < x + 0 = grind (arith, nat_tests) in
     same s k x 0 w some after (omega arith) (omega arith) (omega arith)
@@ -84,10 +86,12 @@ second_of true c t = t
 second_of false c t = cc
 
 -- whether a neighbour may be read is said by its unit
-pub may_is : (p : OffsetPlane) (k r x y c l h v : ℕ) → Stands p.ctb_size k h x c p.width → Stands p.ctb_size r v y l p.height →
+pub may_is : (p : OffsetPlane) (k r x y c l h v : ℕ) → Stands p.ctb_size k h x c p.width →
+    Stands p.ctb_size r v y l p.height →
     x / p.ctb_size ≡ k → y / p.ctb_size ≡ r → may_read p x y c l ≡ reads_unit p k r h v
 may_is p k r x y c l h v across down column row =
-    and_same (near x c p.width && near y l p.height) (near_unit p.ctb_size k h p.width && near_unit p.ctb_size r v p.height) _ _
+    and_same (near x c p.width && near y l p.height)
+    (near_unit p.ctb_size k h p.width && near_unit p.ctb_size r v p.height) _ _
     (and_same _ _ _ _ across.test (λ t. down.test))
     (λ t.
     let u = across.unit (first_of _ _ t) in

@@ -1,5 +1,6 @@
 -- Parts of a line of a block with edge offset.
-use Rattle.std.proofs.Common.{◌≡◌, ℕ, Bool, true, false, ℤ, ◌+◌, ◌-◌, ◌*◌, ◌<◌, ◌≤◌, List, length, cond, nat_le, nat_lt, ◌&&◌, refl, ap, sym, ◌∙◌, arith}
+use Rattle.std.proofs.Common.{◌≡◌, ℕ, Bool, true, false, ℤ, ◌+◌, ◌-◌, ◌*◌, ◌<◌, ◌≤◌, List, length, cond, nat_le, nat_lt}
+use Rattle.std.proofs.Common.{◌&&◌, refl, ap, sym, ◌∙◌, arith}
 use Rattle.std.specs.Prelude.{◌==◌, min}
 use Rattle.std.proofs.lemmas.Bool.{cond-true}
 use Rattle.std.proofs.lemmas.Bool.Decides.{nat_tests}
@@ -27,32 +28,39 @@ pub record IsPart (row : OffsetRow) (block : Block) (line from to : ℕ) : Type 
 -- what is asked of the units of a neighbour
 abbrev pub part_reads : OffsetRow → Block → ℕ → ℕ → ℕ → ℕ → ℕ → Bool
 part_reads row block line from to c l =
-    reads_unit (plane_of row) block.k row.row (shift c (from == block.from) (to == block.to)) (shift l (line == 0) (line + 1 == block.lines))
+    reads_unit (plane_of row) block.k row.row (shift c (from == block.from) (to == block.to))
+    (shift l (line == 0) (line + 1 == block.lines))
 
-first_is : (from to start end i : ℕ) → start ≤ from → from ≤ i → i < to → to ≤ end → (from + 1 < to → (start < from) × (to < end)) → (from == start) ≡ (i == start)
+first_is : (from to start end i : ℕ) → start ≤ from → from ≤ i → i < to → to ≤ end
+    → (from + 1 < to → (start < from) × (to < end)) → (from == start) ≡ (i == start)
 first_is from to start end i low at below high alike = grind (arith, nat_tests)
 
-last_is : (from to start end i : ℕ) → start ≤ from → from ≤ i → i < to → to ≤ end → (from + 1 < to → (start < from) × (to < end)) → (to == end) ≡ (i + 1 == end)
+last_is : (from to start end i : ℕ) → start ≤ from → from ≤ i → i < to → to ≤ end
+    → (from + 1 < to → (start < from) × (to < end)) → (to == end) ≡ (i + 1 == end)
 last_is from to start end i low at below high alike = grind (arith, nat_tests)
 
 upper_is : (line t : ℕ) → (line == 0) ≡ (t + line == t)
 upper_is line t = grind (arith, nat_tests)
 
-lower_is : (line lines t s h : ℕ) → lines ≡ min s (h - t) → t < h → (line + 1 == lines) ≡ (t + line + 1 == min (t + s) h)
+lower_is : (line lines t s h : ℕ) → lines ≡ min s (h - t) → t < h
+    → (line + 1 == lines) ≡ (t + line + 1 == min (t + s) h)
 lower_is line lines t s h is under =
     let e : t + lines ≡ min (t + s) h = omega arith in
     grind (arith, nat_tests)
 
 -- each of its samples reads the units that the part reads
-pub part_may : (row : OffsetRow) (block : Block) (line from to c l i : ℕ) → IsPart row block line from to → c ≤ 2 → l ≤ 2 → from ≤ i → i < to →
+pub part_may : (row : OffsetRow) (block : Block) (line from to c l i : ℕ) → IsPart row block line from to → c ≤ 2 →
+    l ≤ 2 → from ≤ i → i < to →
     may_read (plane_of row) i (top row + line) c l ≡ part_reads row block line from to c l
 part_may row block line from to c l i is few low at below =
     let start = is.of_block.from in
     let end = is.of_block.to in
     let lines = is.of_block.lines in
     let under = is.of_row.begins in
-    let first : (from == block.from) ≡ (i == row.size * block.k) = first_is from to block.from block.to i is.low at below is.high is.alike ∙ ap (λ (k : ℕ). i == k) start in
-    let last : (to == block.to) ≡ (i + 1 == min (row.size * block.k + row.size) row.width) = last_is from to block.from block.to i is.low at below is.high is.alike ∙ ap (λ (k : ℕ). i + 1 == k) end in
+    let first : (from == block.from) ≡ (i == row.size * block.k) =
+    first_is from to block.from block.to i is.low at below is.high is.alike ∙ ap (λ (k : ℕ). i == k) start in
+    let last : (to == block.to) ≡ (i + 1 == min (row.size * block.k + row.size) row.width) =
+    last_is from to block.from block.to i is.low at below is.high is.alike ∙ ap (λ (k : ℕ). i + 1 == k) end in
     let x_low : row.size * block.k ≤ i = omega (arith, start, is.low, at) in
     let x_high : i < row.size * block.k + row.size = omega (arith, end, is.high, below) in
     let x_in : i < row.width = omega (arith, end, is.high, below) in
@@ -60,7 +68,9 @@ part_may row block line from to c l i is few low at below =
     let y_in : row.size * row.row + line < row.height = omega (arith, lines, is.inside, under) in
     may_is (plane_of row) block.k row.row i (top row + line) c l _ _
     (stands row.size block.k i c row.width _ _ is.of_row.size.0 few x_low x_high x_in first last)
-    (stands row.size row.row (top row + line) l row.height _ _ is.of_row.size.0 low (omega arith) y_high y_in (upper_is line (row.size * row.row)) (lower_is line block.lines (row.size * row.row) row.size row.height lines under))
+    (stands row.size row.row (top row + line) l row.height _ _ is.of_row.size.0 low (omega arith) y_high y_in
+    (upper_is line (row.size * row.row))
+    (lower_is line block.lines (row.size * row.row) row.size row.height lines under))
     (block_is row.size block.k i x_low x_high)
     (block_is row.size row.row (top row + line) (omega arith) y_high)
 
@@ -73,9 +83,11 @@ pub record Inside (p : OffsetPlane) (x y c l : ℕ) : Type 0 where
 
 inside : (p : OffsetPlane) (x y c l : ℕ) → may_read p x y c l ≡ true → Inside p x y c l
 inside p x y c l t =
-    let there = first_of ((nat_lt 0 (x + c) && nat_le (x + c) p.width) && (nat_lt 0 (y + l) && nat_le (y + l) p.height)) _ t in
+    let there =
+    first_of ((nat_lt 0 (x + c) && nat_le (x + c) p.width) && (nat_lt 0 (y + l) && nat_le (y + l) p.height)) _ t in
     let across = first_of (nat_lt 0 (x + c) && nat_le (x + c) p.width) _ there in
-    let down = second_of (nat_lt 0 (x + c) && nat_le (x + c) p.width) (nat_lt 0 (y + l) && nat_le (y + l) p.height) there in
+    let down =
+    second_of (nat_lt 0 (x + c) && nat_le (x + c) p.width) (nat_lt 0 (y + l) && nat_le (y + l) p.height) there in
     record {
       left = grind (arith, nat_tests, across);
       right = grind (arith, nat_tests, across);
@@ -90,94 +102,145 @@ pub record PartInside (row : OffsetRow) (line from to c l : ℕ) : Type 0 where
   pub above : 0 < row.size * row.row + line + l
   pub below : row.size * row.row + line + l ≤ row.height
 
-pub part_inside : (row : OffsetRow) (block : Block) (line from to c l : ℕ) → IsPart row block line from to → c ≤ 2 → l ≤ 2 → part_reads row block line from to c l ≡ true → PartInside row line from to c l
+pub part_inside : (row : OffsetRow) (block : Block) (line from to c l : ℕ) → IsPart row block line from to → c ≤ 2
+    → l ≤ 2 → part_reads row block line from to c l ≡ true → PartInside row line from to c l
 part_inside row block line from to c l is few low t =
     let some = is.some in
-    let a = inside (plane_of row) from (top row + line) c l (part_may row block line from to c l from is few low (omega arith) some ∙ t) in
-    let b = inside (plane_of row) (to - 1) (top row + line) c l (part_may row block line from to c l (to - 1) is few low (omega arith) (omega arith) ∙ t) in
+    let a =
+    inside (plane_of row) from (top row + line) c l
+    (part_may row block line from to c l from is few low (omega arith) some ∙ t) in
+    let b =
+    inside (plane_of row) (to - 1) (top row + line) c l
+    (part_may row block line from to c l (to - 1) is few low (omega arith) (omega arith) ∙ t) in
     record { left = a.left; right = omega (arith, b.right, some); above = a.above; below = a.below }
 
 -- they are among the lines that the row has
-pub part_room : (row : OffsetRow) (block : Block) (samples : List ℕ) (line from to c l : ℕ) → IsPart row block line from to → HasLines row samples → l ≤ 2 → PartInside row line from to c l →
+pub part_room : (row : OffsetRow) (block : Block) (samples : List ℕ) (line from to c l : ℕ) →
+    IsPart row block line from to → HasLines row samples → l ≤ 2 → PartInside row line from to c l →
     row.width * (line + block.skip + l - 1) + (to + c - 1) ≤ length samples
 part_room row block samples line from to c l is has low in_picture =
-    room row.width (line + block.skip + l - 1) (min (row.size * row.row + row.size + 1) row.height - (row.size * row.row - 1)) (to + c - 1) (length samples)
-    (omega (arith, is.of_row.begins, is.inside, is.of_block.lines, is.of_block.skip, in_picture.above, in_picture.below)) has (omega (arith, in_picture.right))
+    room row.width (line + block.skip + l - 1)
+    (min (row.size * row.row + row.size + 1) row.height - (row.size * row.row - 1)) (to + c - 1) (length samples)
+    (omega (
+      arith,
+      is.of_row.begins,
+      is.inside,
+      is.of_block.lines,
+      is.of_block.skip,
+      in_picture.above,
+      in_picture.below,
+    ))
+    has (omega (arith, in_picture.right))
 
-neighbour_index : (width t line skip from i c l first : ℕ) → first ≡ width * (line + skip + l - 1) + (from + c - 1) → skip ≡ min t 1 → from ≤ i → 0 < from + c →
+neighbour_index : (width t line skip from i c l first : ℕ) → first ≡ width * (line + skip + l - 1) + (from + c - 1) →
+    skip ≡ min t 1 → from ≤ i → 0 < from + c →
     first + (i - from) ≡ width * (t + line + l - 1 - (t - 1)) + (i + c - 1)
 neighbour_index width t line skip from i c l first is above low some =
     let e : t + line + l - 1 - (t - 1) ≡ line + skip + l - 1 = omega arith in
     rw (e, is) (omega arith)
 
 -- what is read for a neighbour is the deblocked sample there
-neighbour_is : (row : OffsetRow) (samples : List ℕ) (line skip from i c l first : ℕ) → first ≡ row.width * (line + skip + l - 1) + (from + c - 1) → skip ≡ min (top row) 1 → from ≤ i → 0 < from + c →
+neighbour_is : (row : OffsetRow) (samples : List ℕ) (line skip from i c l first : ℕ) →
+    first ≡ row.width * (line + skip + l - 1) + (from + c - 1) → skip ≡ min (top row) 1 → from ≤ i → 0 < from + c →
     at samples (first + (i - from)) ≡ samples_of row samples (i + c - 1) (top row + line + l - 1)
 neighbour_is row samples line skip from i c l first is above low some =
     ap (λ (k : ℕ). at samples k) (neighbour_index row.width (top row) line skip from i c l first is above low some)
 
-edge_read : (row : OffsetRow) (samples : List ℕ) (offsets : List ℤ) (c l i y s a b : ℕ) → (may_read (plane_of row) i y c l && may_read (plane_of row) i y (2 - c) (2 - l)) ≡ true →
-    s ≡ samples_of row samples i y → a ≡ samples_of row samples (i + c - 1) (y + l - 1) → b ≡ samples_of row samples (i + (2 - c) - 1) (y + (2 - l) - 1) →
+edge_read : (row : OffsetRow) (samples : List ℕ) (offsets : List ℤ) (c l i y s a b : ℕ) →
+    (may_read (plane_of row) i y c l && may_read (plane_of row) i y (2 - c) (2 - l)) ≡ true →
+    s ≡ samples_of row samples i y → a ≡ samples_of row samples (i + c - 1) (y + l - 1) →
+    b ≡ samples_of row samples (i + (2 - c) - 1) (y + (2 - l) - 1) →
     edge_moved row.depth offsets s a b ≡ edge_sample (plane_of row) (samples_of row samples) offsets c l i y
 unfolding edge_sample
 edge_read row samples offsets c l i y s a b t is first second =
     ap (λ (v : ℕ). edge_moved row.depth offsets v a b) is
     ∙ ap (λ (v : ℕ). edge_moved row.depth offsets (samples_of row samples i y) v b) first
-    ∙ ap (λ (v : ℕ). edge_moved row.depth offsets (samples_of row samples i y) (samples_of row samples (i + c - 1) (y + l - 1)) v) second
-    ∙ sym (cond-true (may_read (plane_of row) i y c l && may_read (plane_of row) i y (2 - c) (2 - l)) _ (samples_of row samples i y) t)
+    ∙ ap (λ (v : ℕ). edge_moved row.depth offsets (samples_of row samples i y)
+    (samples_of row samples (i + c - 1) (y + l - 1)) v)
+    second
+    ∙ sym (cond-true (may_read (plane_of row) i y c l && may_read (plane_of row) i y (2 - c) (2 - l)) _
+    (samples_of row samples i y) t)
 
 kept_of : (b : Bool) (v w : ℕ) → b ≡ false → w ≡ cond b v w
 kept_of true v w t = cc
 kept_of false v w t = refl
 
-edge_stays : (row : OffsetRow) (samples : List ℕ) (offsets : List ℤ) (c l i y : ℕ) → (may_read (plane_of row) i y c l && may_read (plane_of row) i y (2 - c) (2 - l)) ≡ false →
+edge_stays : (row : OffsetRow) (samples : List ℕ) (offsets : List ℤ) (c l i y : ℕ) →
+    (may_read (plane_of row) i y c l && may_read (plane_of row) i y (2 - c) (2 - l)) ≡ false →
     samples_of row samples i y ≡ edge_sample (plane_of row) (samples_of row samples) offsets c l i y
 unfolding edge_sample
-edge_stays row samples offsets c l i y t = kept_of (may_read (plane_of row) i y c l && may_read (plane_of row) i y (2 - c) (2 - l)) _ (samples_of row samples i y) t
+edge_stays row samples offsets c l i y t =
+    kept_of (may_read (plane_of row) i y c l && may_read (plane_of row) i y (2 - c) (2 - l)) _
+    (samples_of row samples i y) t
 
-both_may : (row : OffsetRow) (block : Block) (line from to c l i : ℕ) → IsPart row block line from to → c ≤ 2 → l ≤ 2 → from ≤ i → i < to →
-    (may_read (plane_of row) i (top row + line) c l && may_read (plane_of row) i (top row + line) (2 - c) (2 - l)) ≡ (part_reads row block line from to c l && part_reads row block line from to (2 - c) (2 - l))
+both_may : (row : OffsetRow) (block : Block) (line from to c l i : ℕ) → IsPart row block line from to → c ≤ 2 → l ≤ 2 →
+    from ≤ i → i < to →
+    (may_read (plane_of row) i (top row + line) c l && may_read (plane_of row) i (top row + line) (2 - c) (2 - l))
+    ≡ (part_reads row block line from to c l && part_reads row block line from to (2 - c) (2 - l))
 both_may row block line from to c l i is few low at below =
-    ap (λ (b : Bool). b && may_read (plane_of row) i (top row + line) (2 - c) (2 - l)) (part_may row block line from to c l i is few low at below)
-    ∙ ap (λ (b : Bool). part_reads row block line from to c l && b) (part_may row block line from to (2 - c) (2 - l) i is (omega arith) (omega arith) at below)
+    ap (λ (b : Bool). b && may_read (plane_of row) i (top row + line) (2 - c) (2 - l))
+    (part_may row block line from to c l i is few low at below)
+    ∙ ap (λ (b : Bool). part_reads row block line from to c l && b)
+    (part_may row block line from to (2 - c) (2 - l) i is (omega arith) (omega arith) at below)
 
 -- a part whose neighbours may be read
-pub part_laid : (row : OffsetRow) (block : Block) (samples : List ℕ) (offsets : List ℤ) (line from to c l start first count a b : ℕ) (new old : List ℕ) →
-    IsPart row block line from to → c ≤ 2 → l ≤ 2 → (part_reads row block line from to c l && part_reads row block line from to (2 - c) (2 - l)) ≡ true →
+pub part_laid : (row : OffsetRow) (block : Block) (samples : List ℕ) (offsets : List ℤ)
+    (line from to c l start first count a b : ℕ) (new old : List ℕ) →
+    IsPart row block line from to → c ≤ 2 → l ≤ 2 →
+    (part_reads row block line from to c l && part_reads row block line from to (2 - c) (2 - l)) ≡ true →
     start ≡ row.width * (line + block.skip) + from → first ≡ row.width * line + from → count + from ≡ to →
-    a ≡ row.width * (line + block.skip + l - 1) + (from + c - 1) → b ≡ row.width * (line + block.skip + (2 - l) - 1) + (from + (2 - c) - 1) →
-    ((q : ℕ) → at new q ≡ cond (nat_le first q && nat_lt q (first + count)) (edge_moved row.depth offsets (at samples (start + (q - first))) (at samples (a + (q - first))) (at samples (b + (q - first)))) (at old q)) →
-    LaysLine row.width line from to (λ i. edge_sample (plane_of row) (samples_of row samples) offsets c l i (top row + line)) old new
-part_laid row block samples offsets line from to c l start first count a b new old is few low t starts begins many a_is b_is wrote =
+    a ≡ row.width * (line + block.skip + l - 1) + (from + c - 1) →
+    b ≡ row.width * (line + block.skip + (2 - l) - 1) + (from + (2 - c) - 1) →
+    ((q : ℕ)
+    → at new q
+    ≡ cond (nat_le first q && nat_lt q (first + count))
+    (edge_moved row.depth offsets (at samples (start + (q - first))) (at samples (a + (q - first)))
+    (at samples (b + (q - first))))
+    (at old q)) →
+    LaysLine row.width line from to
+    (λ i. edge_sample (plane_of row) (samples_of row samples) offsets c l i (top row + line)) old new
+part_laid row block samples offsets line from to c l start first count a b new old is few low t starts begins
+    many a_is b_is wrote =
     let one = part_inside row block line from to c l is few low (first_of _ _ t) in
-    let two = part_inside row block line from to (2 - c) (2 - l) is (omega arith) (omega arith) (second_of (part_reads row block line from to c l) _ t) in
+    let two =
+    part_inside row block line from to (2 - c) (2 - l) is (omega arith) (omega arith)
+    (second_of (part_reads row block line from to c l) _ t) in
     line_of_run row.width line from to first count new old
     (λ k. edge_moved row.depth offsets (at samples (start + k)) (at samples (a + k)) (at samples (b + k)))
     (λ i. edge_sample (plane_of row) (samples_of row samples) offsets c l i (top row + line))
     begins many (omega (arith, is.of_block.to, is.high)) wrote
-    (λ i at below. edge_read row samples offsets c l i (top row + line) _ _ _ (both_may row block line from to c l i is few low at below ∙ t)
+    (λ i at below. edge_read row samples offsets c l i (top row + line) _ _ _
+    (both_may row block line from to c l i is few low at below ∙ t)
     (sample_is row samples line block.skip from i start starts is.of_block.skip at)
     (neighbour_is row samples line block.skip from i c l a a_is is.of_block.skip at one.left)
     (neighbour_is row samples line block.skip from i (2 - c) (2 - l) b b_is is.of_block.skip at two.left))
 
 -- a part whose neighbours may not be read
-pub part_stays : (row : OffsetRow) (block : Block) (samples : List ℕ) (offsets : List ℤ) (line from to c l start first count : ℕ) (new old : List ℕ) →
-    IsPart row block line from to → c ≤ 2 → l ≤ 2 → (part_reads row block line from to c l && part_reads row block line from to (2 - c) (2 - l)) ≡ false →
+pub part_stays : (row : OffsetRow) (block : Block) (samples : List ℕ) (offsets : List ℤ)
+    (line from to c l start first count : ℕ) (new old : List ℕ) →
+    IsPart row block line from to → c ≤ 2 → l ≤ 2 →
+    (part_reads row block line from to c l && part_reads row block line from to (2 - c) (2 - l)) ≡ false →
     start ≡ row.width * (line + block.skip) + from → first ≡ row.width * line + from → count + from ≡ to →
-    ((q : ℕ) → at new q ≡ cond (nat_le first q && nat_lt q (first + count)) (at samples (start + (q - first))) (at old q)) →
-    LaysLine row.width line from to (λ i. edge_sample (plane_of row) (samples_of row samples) offsets c l i (top row + line)) old new
+    ((q : ℕ)
+    → at new q ≡ cond (nat_le first q && nat_lt q (first + count)) (at samples (start + (q - first))) (at old q)) →
+    LaysLine row.width line from to
+    (λ i. edge_sample (plane_of row) (samples_of row samples) offsets c l i (top row + line)) old new
 part_stays row block samples offsets line from to c l start first count new old is few low t starts begins many wrote =
     line_of_run row.width line from to first count new old
     (λ k. at samples (start + k))
     (λ i. edge_sample (plane_of row) (samples_of row samples) offsets c l i (top row + line))
     begins many (omega (arith, is.of_block.to, is.high)) wrote
     (λ i at below. sample_is row samples line block.skip from i start starts is.of_block.skip at
-    ∙ edge_stays row samples offsets c l i (top row + line) (both_may row block line from to c l i is few low at below ∙ t))
+    ∙ edge_stays row samples offsets c l i (top row + line)
+    (both_may row block line from to c l i is few low at below ∙ t))
 
 -- the first neighbour by another name
-pub renamed : (row : OffsetRow) (samples : List ℕ) (offsets : List ℤ) (line from to c c2 l l2 : ℕ) (old new : List ℕ) → c ≡ c2 → l ≡ l2 →
-    LaysLine row.width line from to (λ i. edge_sample (plane_of row) (samples_of row samples) offsets c l i (top row + line)) old new →
-    LaysLine row.width line from to (λ i. edge_sample (plane_of row) (samples_of row samples) offsets c2 l2 i (top row + line)) old new
+pub renamed : (row : OffsetRow) (samples : List ℕ) (offsets : List ℤ) (line from to c c2 l l2 : ℕ) (old new : List ℕ) →
+    c ≡ c2 → l ≡ l2 →
+    LaysLine row.width line from to
+    (λ i. edge_sample (plane_of row) (samples_of row samples) offsets c l i (top row + line)) old new →
+    LaysLine row.width line from to
+    (λ i. edge_sample (plane_of row) (samples_of row samples) offsets c2 l2 i (top row + line)) old new
 renamed row samples offsets line from to c c2 l l2 old new column down laid i j h =
     laid i j h
     ∙ ap (λ (v : ℕ). cond (j == line && between from to i) v (at old (row.width * j + i)))

@@ -1,5 +1,6 @@
 -- Runs of samples laid over lines.
-use Rattle.std.proofs.Common.{◌≡◌, ℕ, Bool, true, false, ◌+◌, ◌-◌, ◌*◌, ◌%◌, ◌<◌, ◌≤◌, List, length, slice_set, ℤ, pos, slice_index_or, cond, nat_le, nat_lt, ◌&&◌, refl, ap, ◌∙◌, arith}
+use Rattle.std.proofs.Common.{◌≡◌, ℕ, Bool, true, false, ◌+◌, ◌-◌, ◌*◌, ◌%◌, ◌<◌, ◌≤◌, List, length, slice_set, ℤ, pos}
+use Rattle.std.proofs.Common.{slice_index_or, cond, nat_le, nat_lt, ◌&&◌, refl, ap, ◌∙◌, arith}
 use Rattle.std.specs.Prelude.{◌==◌}
 use Rattle.std.proofs.lemmas.Grind.{common_steps}
 use Rattle.std.proofs.lemmas.Bool.Decides.{nat_tests}
@@ -11,7 +12,8 @@ use Rattle.sao_filter.specs.Laying.{LaysLine, LaysLines, between}
 -- one more sample of a run
 pub one_more : (first k v : ℕ) (start before : List ℕ) (s : ℕ → ℕ) → first + k < length before → v ≡ s k →
     ((q : ℕ) → at before q ≡ cond (nat_le first q && nat_lt q (first + k)) (s (q - first)) (at start q)) →
-    (q : ℕ) → at (slice_set before (first + k) v) q ≡ cond (nat_le first q && nat_lt q (first + (k + 1))) (s (q - first)) (at start q)
+    (q : ℕ) → at (slice_set before (first + k) v) q
+    ≡ cond (nat_le first q && nat_lt q (first + (k + 1))) (s (q - first)) (at start q)
 one_more first k v start before s room is told q =
     let t = told q in
     grind (arith, common_steps, nat_tests)
@@ -26,7 +28,8 @@ cond_same false true v w o e h = cc
 pub line_below : (n a b : ℕ) → a < b → n * a + n ≤ n * b
 line_below n a b lt = let le : n * (a + 1) ≤ n * b = mul-le-mul_left n (omega arith) in grind arith
 
-run_test : (width line from to first count i j : ℕ) → first ≡ width * line + from → count + from ≡ to → to ≤ width → i < width →
+run_test : (width line from to first count i j : ℕ) → first ≡ width * line + from → count + from ≡ to → to ≤ width →
+    i < width →
     (nat_le first (width * j + i) && nat_lt (width * j + i) (first + count)) ≡ (j == line && between from to i)
 run_test width line from to first count i j is many inside h =
     let up = line_below width j line in
@@ -41,7 +44,8 @@ pub line_of_run : (width line from to first count : ℕ) (new old : List ℕ) (s
     LaysLine width line from to f old new
 line_of_run width line from to first count new old s f is many inside wrote value i j h =
     let t = run_test width line from to first count i j is many inside h in
-    let v : (nat_le first (width * j + i) && nat_lt (width * j + i) (first + count)) ≡ true → s (width * j + i - first) ≡ f i = λ yes.
+    let v : (nat_le first (width * j + i) && nat_lt (width * j + i) (first + count)) ≡ true
+    → s (width * j + i - first) ≡ f i = λ yes.
     let lo : from ≤ i = grind (arith, nat_tests) in
     let hi : i < to = grind (arith, nat_tests) in
     let same : j ≡ line = grind (arith, nat_tests) in
@@ -60,7 +64,8 @@ lines_more width line from to now before start f wrote told i j h =
 
 -- two parts of a line that stand beside one another
 pub line_join : (width line from mid to : ℕ) (new now old : List ℕ) (f : ℕ → ℕ) → from ≤ mid → mid ≤ to →
-    LaysLine width line from mid f old now → LaysLine width line mid to f now new → LaysLine width line from to f old new
+    LaysLine width line from mid f old now → LaysLine width line mid to f now new
+    → LaysLine width line from to f old new
 line_join width line from mid to new now old f low high first second i j h =
     let w = first i j h in
     let t = second i j h in
@@ -68,7 +73,8 @@ line_join width line from mid to new now old f low high first second i j h =
 
 -- one more entry of a table
 pub table_more : (table : List ℤ) (k : ℕ) (v w : ℤ) (f : ℕ → ℤ) → k < length table → w ≡ v → v ≡ f k →
-    ((q : ℕ) → q < k → slice_index_or table q (pos 0) ≡ f q) → (q : ℕ) → q < k + 1 → slice_index_or (slice_set table k w) q (pos 0) ≡ f q
+    ((q : ℕ) → q < k → slice_index_or table q (pos 0) ≡ f q) → (q : ℕ) → q < k + 1
+    → slice_index_or (slice_set table k w) q (pos 0) ≡ f q
 table_more table k v w f room same is told q low =
     let here : w ≡ f k = same ∙ is in
     let t : q < k → slice_index_or table q (pos 0) ≡ f q = λ h. told q h in

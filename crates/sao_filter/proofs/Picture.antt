@@ -1,5 +1,6 @@
 -- A row of a picture reads what the picture has.
-use Rattle.std.proofs.Common.{◌≡◌, ℕ, Bool, true, false, zero, suc, ◌+◌, ◌-◌, ◌*◌, ◌/◌, ◌<◌, ◌≤◌, nat_lt, nat_le, List, refl, ap, sym, ◌∙◌, arith}
+use Rattle.std.proofs.Common.{◌≡◌, ℕ, Bool, true, false, zero, suc, ◌+◌, ◌-◌, ◌*◌, ◌/◌, ◌<◌, ◌≤◌, nat_lt, nat_le, List}
+use Rattle.std.proofs.Common.{refl, ap, sym, ◌∙◌, arith}
 use Rattle.std.proofs.Math.Nat.{mul-div-le}
 use Rattle.std.proofs.lemmas.Bool.Decides.{nat_tests}
 use Rattle.spec_sample_adaptive_offset.specs.declared.unit.OffsetUnit.{OffsetUnit}
@@ -34,12 +35,15 @@ line_below s r j some low lt =
     let e : s * (r + 1) ≡ s * r + s = grind arith in
     Below low (block_is s (r + 1) j (omega arith) (omega arith))
 
-lies_from : (s r j : ℕ) (above below : Bool) → 1 ≤ s → s * r ≤ j + 1 → j ≤ s * r + s → above ≡ nat_lt j (s * r) → below ≡ nat_le (s * r + s) j → Lies s r j
+lies_from : (s r j : ℕ) (above below : Bool) → 1 ≤ s → s * r ≤ j + 1 → j ≤ s * r + s → above ≡ nat_lt j (s * r)
+    → below ≡ nat_le (s * r + s) j → Lies s r j
 lies_from s r j true below some low high a b = line_above s r j some low (grind (arith, nat_tests))
 lies_from s r j false true some low high a b = line_below s r j some (grind (arith, nat_tests)) high
-lies_from s r j false false some low high a b = Here (block_is s r j (grind (arith, nat_tests)) (grind (arith, nat_tests)))
+lies_from s r j false false some low high a b =
+    Here (block_is s r j (grind (arith, nat_tests)) (grind (arith, nat_tests)))
 
-unit_same : (row : OffsetRow) (lines : List ℕ) (p : OffsetPlane) (f : ℕ → ℕ → ℕ) (i j u v : ℕ) → StandsFor row lines p f → row.size * u < row.width → j < row.height → v ≡ j / row.size →
+unit_same : (row : OffsetRow) (lines : List ℕ) (p : OffsetPlane) (f : ℕ → ℕ → ℕ) (i j u v : ℕ) →
+    StandsFor row lines p f → row.size * u < row.width → j < row.height → v ≡ j / row.size →
     Lies row.size row.row j → p.unit u v ≡ unit_in (units_of row v) u
 unit_same row lines p f i j u v is column inside e (Above some at) =
     let w : v ≡ row.row - 1 = e ∙ at in
@@ -54,7 +58,8 @@ unit_same row lines p f i j u v is column inside e (Below behind at) =
     let n : units_of row v ≡ row.below.now = units_below row v (omega arith) in
     ap (λ (k : ℕ). p.unit u k) w ∙ is.below (omega arith) u column ∙ ap (λ (us : List OffsetUnit). unit_in us u) (sym n)
 
-at_same : (row : OffsetRow) (lines : List ℕ) (p : OffsetPlane) (f : ℕ → ℕ → ℕ) (i j : ℕ) → StandsFor row lines p f → IsRow row → i < row.width → j < row.height →
+at_same : (row : OffsetRow) (lines : List ℕ) (p : OffsetPlane) (f : ℕ → ℕ → ℕ) (i j : ℕ) → StandsFor row lines p f →
+    IsRow row → i < row.width → j < row.height →
     row.size * row.row ≤ j + 1 → j ≤ row.size * row.row + row.size → unit_at p i j ≡ unit_at (plane_of row) i j
 at_same row lines p f i j is a column inside low high =
     let begins = mul-div-le i row.size in
@@ -63,7 +68,8 @@ at_same row lines p f i j is a column inside low high =
     ∙ unit_same row lines p f i j (i / row.size) (j / row.size) is (omega arith) inside refl lies
 
 -- so a sample of the row is the picture's
-pub agrees : (row : OffsetRow) (lines : List ℕ) (p : OffsetPlane) (f : ℕ → ℕ → ℕ) (x j : ℕ) → StandsFor row lines p f → IsRow row → x < row.width → j < lines_of row →
+pub agrees : (row : OffsetRow) (lines : List ℕ) (p : OffsetPlane) (f : ℕ → ℕ → ℕ) (x j : ℕ) → StandsFor row lines p f →
+    IsRow row → x < row.width → j < lines_of row →
     AgreeBeside p (plane_of row) f (samples_of row lines) x (top row + j)
 agrees row lines p f x j is a column line =
     let t : row.size * row.row + j < row.height = omega arith in
@@ -76,6 +82,7 @@ agrees row lines p f x j is a column line =
       depth = is.depth;
       inside = (omega arith, omega arith);
       kept = is.kept x j column line;
-      units = λ i k ins inh x1 x2 y1 y2. at_same row lines p f i k is a (omega arith) (omega arith) (omega arith) (omega arith);
+      units = λ i k ins inh x1 x2 y1 y2. at_same row lines p f i k is a (omega arith) (omega arith) (omega arith)
+          (omega arith);
       samples = λ i k ins inh x1 x2 y1 y2. is.samples i k (omega arith) (omega arith) (omega arith) (omega arith);
     }

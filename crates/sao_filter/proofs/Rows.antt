@@ -24,22 +24,28 @@ index_is width top line skip from i start is above low =
     rw (e, is) (omega arith)
 
 -- a sample of a run is one of the deblocked plane
-pub sample_is : (row : OffsetRow) (samples : List ℕ) (line skip from i start : ℕ) → start ≡ row.width * (line + skip) + from → skip ≡ min (top row) 1 → from ≤ i →
+pub sample_is : (row : OffsetRow) (samples : List ℕ) (line skip from i start : ℕ) →
+    start ≡ row.width * (line + skip) + from → skip ≡ min (top row) 1 → from ≤ i →
     at samples (start + (i - from)) ≡ samples_of row samples i (top row + line)
 sample_is row samples line skip from i start is above low =
     ap (λ (k : ℕ). at samples k) (index_is row.width (top row) line skip from i start is above low)
 
 -- what is made of each sample of a run is laid over the line
-pub line_laid : (row : OffsetRow) (samples : List ℕ) (line skip from to start first count : ℕ) (new old : List ℕ) (g : ℕ → ℕ) →
-    start ≡ row.width * (line + skip) + from → first ≡ row.width * line + from → count + from ≡ to → to ≤ row.width → skip ≡ min (top row) 1 →
-    ((q : ℕ) → at new q ≡ cond (nat_le first q && nat_lt q (first + count)) (g (at samples (start + (q - first)))) (at old q)) →
+pub line_laid : (row : OffsetRow) (samples : List ℕ) (line skip from to start first count : ℕ) (new old : List ℕ)
+    (g : ℕ → ℕ) →
+    start ≡ row.width * (line + skip) + from → first ≡ row.width * line + from → count + from ≡ to → to ≤ row.width →
+    skip ≡ min (top row) 1 →
+    ((q : ℕ)
+    → at new q ≡ cond (nat_le first q && nat_lt q (first + count)) (g (at samples (start + (q - first)))) (at old q)) →
     LaysLine row.width line from to (λ i. g (samples_of row samples i (top row + line))) old new
 line_laid row samples line skip from to start first count new old g is begins many inside above wrote =
-    line_of_run row.width line from to first count new old (λ k. g (at samples (start + k))) (λ i. g (samples_of row samples i (top row + line))) begins many inside wrote
+    line_of_run row.width line from to first count new old (λ k. g (at samples (start + k)))
+    (λ i. g (samples_of row samples i (top row + line))) begins many inside wrote
     (λ i low high. ap g (sample_is row samples line skip from i start is above low))
 
 -- the unit of a sample of the row
-pub unit_is : (row : OffsetRow) (i j k : ℕ) → row.size * k ≤ i → i < row.size * k + row.size → j < row.size → unit_at (plane_of row) i (top row + j) ≡ unit_in row.here.now k
+pub unit_is : (row : OffsetRow) (i j k : ℕ) → row.size * k ≤ i → i < row.size * k + row.size → j < row.size
+    → unit_at (plane_of row) i (top row + j) ≡ unit_in row.here.now k
 unit_is row i j k low high line =
     let column = block_is row.size k i low high in
     let down = block_is row.size row.row (top row + j) (omega arith) (omega arith) in
@@ -50,7 +56,8 @@ unit_is row i j k low high line =
 
 -- one more block of a row
 pub row_more : (width s k n : ℕ) (now before : List ℕ) (G F : ℕ → ℕ → ℕ) →
-    ((i j : ℕ) → i < width → j < n → at now (width * j + i) ≡ cond (nat_le (s * k) i && nat_lt i (s * k + s)) (G i j) (at before (width * j + i))) →
+    ((i j : ℕ) → i < width → j < n
+    → at now (width * j + i) ≡ cond (nat_le (s * k) i && nat_lt i (s * k + s)) (G i j) (at before (width * j + i))) →
     ((i j : ℕ) → s * k ≤ i → i < s * k + s → j < n → G i j ≡ F i j) →
     ((i j : ℕ) → i < width → j < n → i < s * k → at before (width * j + i) ≡ F i j) →
     (i j : ℕ) → i < width → j < n → i < s * (k + 1) → at now (width * j + i) ≡ F i j
@@ -62,7 +69,8 @@ row_more width s k n now before G F wrote value told i j h line left =
     grind (arith, nat_tests)
 
 -- a sample of a line is one of the deblocked plane
-pub line_is : (row : OffsetRow) (samples : List ℕ) (line skip x : ℕ) → skip ≡ min (top row) 1 → at samples (row.width * (line + skip) + x) ≡ samples_of row samples x (top row + line)
+pub line_is : (row : OffsetRow) (samples : List ℕ) (line skip x : ℕ) → skip ≡ min (top row) 1
+    → at samples (row.width * (line + skip) + x) ≡ samples_of row samples x (top row + line)
 line_is row samples line skip x is =
     let e : line + skip ≡ top row + line - (top row - 1) = omega arith in
     ap (λ (k : ℕ). at samples (row.width * k + x)) e

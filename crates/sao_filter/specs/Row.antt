@@ -1,5 +1,6 @@
 -- What a row of coding tree blocks stands for.
-use Rattle.std.specs.Prelude.{◌≡◌, ◌≤◌, ◌<◌, ℕ, ◌+◌, ◌-◌, ◌*◌, ◌/◌, ◌^◌, ◌==◌, nat_lt, min, Bool, false, List, length, slice_index_or, if◌then◌else◌}
+use Rattle.std.specs.Prelude.{◌≡◌, ◌≤◌, ◌<◌, ℕ, ◌+◌, ◌-◌, ◌*◌, ◌/◌, ◌^◌, ◌==◌, nat_lt, min, Bool, false, List, length}
+use Rattle.std.specs.Prelude.{slice_index_or, if◌then◌else◌}
 use Rattle.ctu_records.specs.declared.offset.ComponentOffset.TheVariants.{Off}
 use Rattle.spec_sample_adaptive_offset.specs.declared.unit.OffsetUnit.{OffsetUnit}
 use Rattle.spec_sample_adaptive_offset.specs.Plane.{OffsetPlane}
@@ -23,7 +24,8 @@ abbrev pub top : OffsetRow → ℕ
 top row = row.size * row.row
 
 abbrev pub kept_at : OffsetRow → ℕ → ℕ → Bool
-kept_at row x y = slice_index_or row.kept.now (row.places * ((y - top row) / 2 ^ row.place_log2) + x / 2 ^ row.place_log2) false
+kept_at row x y =
+    slice_index_or row.kept.now (row.places * ((y - top row) / 2 ^ row.place_log2) + x / 2 ^ row.place_log2) false
 
 -- what the samples of the row depend on, apart from the deblocked plane
 abbrev pub plane_of : OffsetRow → OffsetPlane
@@ -57,7 +59,8 @@ pub record IsRow (row : OffsetRow) : Type 0 where
 
 -- the lines that the row reads: its own, one above and one below, where they are
 abbrev pub HasLines : OffsetRow → List ℕ → Type 0
-HasLines row lines = row.width * (min (row.size * row.row + row.size + 1) row.height - (row.size * row.row - 1)) ≤ length lines
+HasLines row lines =
+    row.width * (min (row.size * row.row + row.size + 1) row.height - (row.size * row.row - 1)) ≤ length lines
 
 -- a row and its lines are those of a picture's component, whose deblocked plane is f
 pub record StandsFor (row : OffsetRow) (lines : List ℕ) (plane : OffsetPlane) (f : ℕ → ℕ → ℕ) : Type 0 where
@@ -67,6 +70,8 @@ pub record StandsFor (row : OffsetRow) (lines : List ℕ) (plane : OffsetPlane) 
   pub depth : plane.depth ≡ row.depth
   pub above : 0 < row.row → (u : ℕ) → row.size * u < row.width → plane.unit u (row.row - 1) ≡ unit_in row.above.now u
   pub here : (u : ℕ) → row.size * u < row.width → plane.unit u row.row ≡ unit_in row.here.now u
-  pub below : row.size * row.row + row.size < row.height → (u : ℕ) → row.size * u < row.width → plane.unit u (row.row + 1) ≡ unit_in row.below.now u
+  pub below : row.size * row.row + row.size < row.height → (u : ℕ) → row.size * u < row.width
+      → plane.unit u (row.row + 1) ≡ unit_in row.below.now u
   pub kept : (x j : ℕ) → x < row.width → j < lines_of row → plane.kept x (top row + j) ≡ kept_at row x (top row + j)
-  pub samples : (x y : ℕ) → x < row.width → y < row.height → top row ≤ y + 1 → y ≤ top row + row.size → f x y ≡ samples_of row lines x y
+  pub samples : (x y : ℕ) → x < row.width → y < row.height → top row ≤ y + 1 → y ≤ top row + row.size
+      → f x y ≡ samples_of row lines x y

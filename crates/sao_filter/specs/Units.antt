@@ -1,5 +1,6 @@
 -- The units that the samples of a run read.
-use Rattle.std.specs.Prelude.{◌≡◌, ◌<◌, ℕ, ◌+◌, ◌-◌, ◌*◌, ◌==◌, nat_lt, min, Bool, ◌&&◌, List, ℤ, pos, slice_index_or, if◌then◌else◌}
+use Rattle.std.specs.Prelude.{◌≡◌, ◌<◌, ℕ, ◌+◌, ◌-◌, ◌*◌, ◌==◌, nat_lt, min, Bool, ◌&&◌, List, ℤ, pos, slice_index_or}
+use Rattle.std.specs.Prelude.{if◌then◌else◌}
 use Rattle.spec_sample_adaptive_offset.specs.Plane.{OffsetPlane, meets}
 use Rattle.spec_sample_adaptive_offset.specs.Offsets.{offset_value, band_index, edge_index}
 use Rattle.sao_filter.specs.declared.row.OffsetRow.{OffsetRow}
@@ -13,7 +14,8 @@ shift h first last = if h == 0 && first then 0 else (if h == 2 && last then 2 el
 -- whether samples of a unit may be compared with those of the unit beside it
 abbrev pub reads_unit : OffsetPlane → ℕ → ℕ → ℕ → ℕ → Bool
 reads_unit p k r h v =
-    ((nat_lt 0 (k + h) && nat_lt (p.ctb_size * (k + h - 1)) p.width) && (nat_lt 0 (r + v) && nat_lt (p.ctb_size * (r + v - 1)) p.height))
+    ((nat_lt 0 (k + h) && nat_lt (p.ctb_size * (k + h - 1)) p.width)
+    && (nat_lt 0 (r + v) && nat_lt (p.ctb_size * (r + v - 1)) p.height))
     && meets (p.unit k r) (p.unit (k + h - 1) (r + v - 1))
 
 -- a block of the row

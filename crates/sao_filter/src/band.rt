@@ -35,7 +35,8 @@ pub fn copy_block(row: &OffsetRow<'_>, lines: &[u16], block: Block, out: &mut [u
     requires block { IsBlock row.now block }
     requires lines { HasLines row.now lines.now }
     requires out { row.now.width * block.lines ≤ length out.old }
-    ensures { LaysLines row.now.width block.lines block.from block.to (λ i j. samples_of row.now lines.now i (top row.now + j)) out.old out.new }
+    ensures { LaysLines row.now.width block.lines block.from block.to
+        (λ i j. samples_of row.now lines.now i (top row.now + j)) out.old out.new }
 {
     for line in 0..block.lines {
         copy_run(lines, run_of(row.width, block, line), out);
@@ -55,7 +56,9 @@ pub fn band_block(
     requires block { IsBlock row.now block }
     requires lines { HasLines row.now lines.now }
     requires out { row.now.width * block.lines ≤ length out.old }
-    ensures { LaysLines row.now.width block.lines block.from block.to (λ i j. band_moved row.now.depth position offsets.now (samples_of row.now lines.now i (top row.now + j))) out.old out.new }
+    ensures { LaysLines row.now.width block.lines block.from block.to
+        (λ i j. band_moved row.now.depth position offsets.now (samples_of row.now lines.now i (top row.now + j)))
+        out.old out.new }
 {
     let table = band_changes(row.depth, position, offsets);
     for line in 0..block.lines {

@@ -1,7 +1,9 @@
 //! What is added to a sample.
 
-ghost use Rattle.std.specs.Prelude.{◌≡◌, ◌≤◌, ◌<◌, ◌+◌, ◌-◌, ◌*◌, ◌/◌, ◌%◌, ◌^◌, ℕ, List, ℤ, pos, negsuc, ◌≤ℤ◌, ◌*ℤ◌, min, slice_index_or};
-ghost use Rattle.spec_sample_adaptive_offset.specs.Offsets.{band_index, band_moved, compared, edge_index, edge_moved, moved, offset_value};
+ghost use Rattle.std.specs.Prelude.{◌≡◌, ◌≤◌, ◌<◌, ◌+◌, ◌-◌, ◌*◌, ◌/◌, ◌%◌, ◌^◌, ℕ, List, ℤ, pos, negsuc, ◌≤ℤ◌, ◌*ℤ◌};
+ghost use Rattle.std.specs.Prelude.{min, slice_index_or};
+ghost use Rattle.spec_sample_adaptive_offset.specs.Offsets.{band_index, band_moved, compared, edge_index, edge_moved};
+ghost use Rattle.spec_sample_adaptive_offset.specs.Offsets.{moved, offset_value};
 ghost use Rattle.sao_filter.specs.Units.{IsBandTable, IsEdgeTable};
 
 /// An offset for so many bits: offsets are coded for up to 10.
@@ -108,7 +110,8 @@ fn moved(sample: u16, change: i16, depth: u32) -> u16
 #[inline(always)]
 pub fn band_moved(sample: u16, table: &[i16; 32], depth: u32) -> u16
     requires depth { (8 ≤ depth) × (depth ≤ 14) }
-    ensures { (position : ℕ) (offsets : List ℤ) → IsBandTable depth position offsets table.now → result ≡ band_moved depth position offsets sample }
+    ensures { (position : ℕ) (offsets : List ℤ) → IsBandTable depth position offsets table.now
+        → result ≡ band_moved depth position offsets sample }
 {
     moved(
         sample,
@@ -136,7 +139,8 @@ fn compared(sample: u16, other: u16) -> usize
 #[inline(always)]
 pub fn edge_moved(sample: u16, first: u16, second: u16, table: &[i16; 5], depth: u32) -> u16
     requires depth { (8 ≤ depth) × (depth ≤ 14) }
-    ensures { (offsets : List ℤ) → IsEdgeTable depth offsets table.now → result ≡ edge_moved depth offsets sample first second }
+    ensures { (offsets : List ℤ) → IsEdgeTable depth offsets table.now
+        → result ≡ edge_moved depth offsets sample first second }
 {
     moved(
         sample,

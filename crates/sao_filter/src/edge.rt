@@ -95,7 +95,13 @@ fn reads_both(row: &OffsetRow<'_>, block: Block, edge: &Edge, part: Part) -> boo
     requires block { IsBlock row.now block }
     requires edge { (edge.now.column ≤ 2) × (edge.now.line ≤ 1) }
     requires line { part.line < block.lines }
-    ensures { result ≡ (reads_unit (plane_of row.now) block.k row.now.row (shift edge.now.column (part.from == block.from) (part.to == block.to)) (shift edge.now.line (part.line == 0) (part.line + 1 == block.lines)) && reads_unit (plane_of row.now) block.k row.now.row (shift (2 - edge.now.column) (part.from == block.from) (part.to == block.to)) (shift (2 - edge.now.line) (part.line == 0) (part.line + 1 == block.lines))) }
+    ensures { result
+        ≡ (reads_unit (plane_of row.now) block.k row.now.row
+        (shift edge.now.column (part.from == block.from) (part.to == block.to))
+        (shift edge.now.line (part.line == 0) (part.line + 1 == block.lines))
+        && reads_unit (plane_of row.now) block.k row.now.row
+        (shift (2 - edge.now.column) (part.from == block.from) (part.to == block.to))
+        (shift (2 - edge.now.line) (part.line == 0) (part.line + 1 == block.lines))) }
 {
     let first = part.from == block.from;
     let last = part.to == block.to;
@@ -131,7 +137,11 @@ fn edge_part(
     requires columns { (block.from ≤ part.from) × ((part.from ≤ part.to) × (part.to ≤ block.to)) }
     requires alike { part.from + 1 < part.to → (block.from < part.from) × (part.to < block.to) }
     requires out { row.now.width * block.lines ≤ length out.old }
-    ensures { (offsets : List ℤ) → IsEdgeTable row.now.depth offsets edge.now.table → LaysLine row.now.width part.line part.from part.to (λ i. edge_sample (plane_of row.now) (samples_of row.now lines.now) offsets edge.now.column edge.now.line i (top row.now + part.line)) out.old out.new }
+    ensures { (offsets : List ℤ) → IsEdgeTable row.now.depth offsets edge.now.table
+        → LaysLine row.now.width part.line part.from part.to
+        (λ i. edge_sample (plane_of row.now) (samples_of row.now lines.now) offsets edge.now.column edge.now.line i
+        (top row.now + part.line))
+        out.old out.new }
 {
     if part.from == part.to {
         return;
@@ -169,7 +179,11 @@ fn edge_line(
     requires edge { (edge.now.column ≤ 2) × (edge.now.line ≤ 1) }
     requires line { line < block.lines }
     requires out { row.now.width * block.lines ≤ length out.old }
-    ensures { (offsets : List ℤ) → IsEdgeTable row.now.depth offsets edge.now.table → LaysLine row.now.width line block.from block.to (λ i. edge_sample (plane_of row.now) (samples_of row.now lines.now) offsets edge.now.column edge.now.line i (top row.now + line)) out.old out.new }
+    ensures { (offsets : List ℤ) → IsEdgeTable row.now.depth offsets edge.now.table
+        → LaysLine row.now.width line block.from block.to
+        (λ i. edge_sample (plane_of row.now) (samples_of row.now lines.now) offsets edge.now.column edge.now.line i
+        (top row.now + line))
+        out.old out.new }
 {
     let first = block.from + 1;
     let head = Part {
@@ -229,7 +243,10 @@ pub fn edge_block(
     requires block { IsBlock row.now block }
     requires lines { HasLines row.now lines.now }
     requires out { row.now.width * block.lines ≤ length out.old }
-    ensures { LaysLines row.now.width block.lines block.from block.to (λ i j. edge_sample (plane_of row.now) (samples_of row.now lines.now) offsets.now (first_column class) (first_line class) i (top row.now + j)) out.old out.new }
+    ensures { LaysLines row.now.width block.lines block.from block.to
+        (λ i j. edge_sample (plane_of row.now) (samples_of row.now lines.now) offsets.now (first_column class)
+        (first_line class) i (top row.now + j))
+        out.old out.new }
 {
     let edge = Edge {
         column: first_column(class),

@@ -1,9 +1,11 @@
 //! The blocks of a row one after the other.
 
-ghost use Rattle.std.specs.Prelude.{◌≡◌, ◌≤◌, ◌<◌, ◌+◌, ◌-◌, ◌*◌, ◌==◌, ◌&&◌, ℕ, false, cond, nat_le, nat_lt, length, slice_index_or};
+ghost use Rattle.std.specs.Prelude.{◌≡◌, ◌≤◌, ◌<◌, ◌+◌, ◌-◌, ◌*◌, ◌==◌, ◌&&◌, ℕ, false, cond, nat_le, nat_lt, length};
+ghost use Rattle.std.specs.Prelude.{slice_index_or};
 ghost use Rattle.spec_sample_adaptive_offset.specs.Plane.{OffsetPlane, offset_sample, sample_by, unit_at};
 ghost use Rattle.sao_filter.specs.Laying.{LaysLines};
-ghost use Rattle.sao_filter.specs.Row.{HasLines, IsRow, StandsFor, at, kept_at, lines_of, plane_of, samples_of, top, unit_in};
+ghost use Rattle.sao_filter.specs.Row.{HasLines, IsRow, StandsFor, at, kept_at, lines_of, plane_of, samples_of, top};
+ghost use Rattle.sao_filter.specs.Row.{unit_in};
 ghost use Rattle.sao_filter.specs.Units.{IsBlock};
 
 use crate::band::{band_block, copy_block};
@@ -36,7 +38,12 @@ fn filter_block(row: &OffsetRow<'_>, lines: &[u16], k: usize, out: &mut [u16])
     requires k { k < length row.now.here.now }
     requires lines { HasLines row.now lines.now }
     requires out { row.now.width * lines_of row.now ≤ length out.old }
-    ensures { (i j : ℕ) → i < row.now.width → j < lines_of row.now → at out.new (row.now.width * j + i) ≡ cond (nat_le (row.now.size * k) i && nat_lt i (row.now.size * k + row.now.size)) (sample_by (plane_of row.now) (samples_of row.now lines.now) (unit_in row.now.here.now k).offset i (top row.now + j)) (at out.old (row.now.width * j + i)) }
+    ensures { (i j : ℕ) → i < row.now.width → j < lines_of row.now
+        → at out.new (row.now.width * j + i)
+        ≡ cond (nat_le (row.now.size * k) i && nat_lt i (row.now.size * k + row.now.size))
+        (sample_by (plane_of row.now) (samples_of row.now lines.now) (unit_in row.now.here.now k).offset i
+        (top row.now + j))
+        (at out.old (row.now.width * j + i)) }
 {
     let block = block_of(row, k);
     match row.here[k].offset {
@@ -55,7 +62,10 @@ fn filter_blocks(row: &OffsetRow<'_>, lines: &[u16], out: &mut [u16])
     requires row { IsRow row.now }
     requires lines { HasLines row.now lines.now }
     requires out { row.now.width * lines_of row.now ≤ length out.old }
-    ensures { (i j : ℕ) → i < row.now.width → j < lines_of row.now → at out.new (row.now.width * j + i) ≡ sample_by (plane_of row.now) (samples_of row.now lines.now) (unit_at (plane_of row.now) i (top row.now + j)).offset i (top row.now + j) }
+    ensures { (i j : ℕ) → i < row.now.width → j < lines_of row.now
+        → at out.new (row.now.width * j + i)
+        ≡ sample_by (plane_of row.now) (samples_of row.now lines.now)
+        (unit_at (plane_of row.now) i (top row.now + j)).offset i (top row.now + j) }
 {
     for k in 0..row.here.len() {
         filter_block(row, lines, k, out);
@@ -68,7 +78,10 @@ fn keep_line(row: &OffsetRow<'_>, lines: &[u16], line: usize, out: &mut [u16])
     requires lines { HasLines row.now lines.now }
     requires line { line < lines_of row.now }
     requires out { row.now.width * lines_of row.now ≤ length out.old }
-    ensures { (i j : ℕ) → i < row.now.width → at out.new (row.now.width * j + i) ≡ cond (j == line && kept_at row.now i (top row.now + j)) (samples_of row.now lines.now i (top row.now + j)) (at out.old (row.now.width * j + i)) }
+    ensures { (i j : ℕ) → i < row.now.width
+        → at out.new (row.now.width * j + i)
+        ≡ cond (j == line && kept_at row.now i (top row.now + j)) (samples_of row.now lines.now i (top row.now + j))
+        (at out.old (row.now.width * j + i)) }
 {
     let from = row.width * (line + (row.size * row.row).min(1));
     let first = row.width * line;
@@ -99,7 +112,10 @@ fn keep_samples(row: &OffsetRow<'_>, lines: &[u16], out: &mut [u16])
     requires row { IsRow row.now }
     requires lines { HasLines row.now lines.now }
     requires out { row.now.width * lines_of row.now ≤ length out.old }
-    ensures { (i j : ℕ) → i < row.now.width → j < lines_of row.now → at out.new (row.now.width * j + i) ≡ cond (kept_at row.now i (top row.now + j)) (samples_of row.now lines.now i (top row.now + j)) (at out.old (row.now.width * j + i)) }
+    ensures { (i j : ℕ) → i < row.now.width → j < lines_of row.now
+        → at out.new (row.now.width * j + i)
+        ≡ cond (kept_at row.now i (top row.now + j)) (samples_of row.now lines.now i (top row.now + j))
+        (at out.old (row.now.width * j + i)) }
 {
     if row.kept.is_empty() {
         return;
@@ -116,8 +132,12 @@ pub fn sao_row(row: &OffsetRow<'_>, lines: &[u16], out: &mut [u16])
     requires row { IsRow row.now }
     requires lines { HasLines row.now lines.now }
     requires out { row.now.width * lines_of row.now ≤ length out.old }
-    ensures value { (i j : ℕ) → i < row.now.width → j < lines_of row.now → at out.new (row.now.width * j + i) ≡ offset_sample (plane_of row.now) (samples_of row.now lines.now) i (top row.now + j) }
-    ensures picture { (plane : OffsetPlane) (f : ℕ → ℕ → ℕ) → StandsFor row.now lines.now plane f → (i j : ℕ) → i < row.now.width → j < lines_of row.now → at out.new (row.now.width * j + i) ≡ offset_sample plane f i (top row.now + j) }
+    ensures value { (i j : ℕ) → i < row.now.width → j < lines_of row.now
+        → at out.new (row.now.width * j + i)
+        ≡ offset_sample (plane_of row.now) (samples_of row.now lines.now) i (top row.now + j) }
+    ensures picture { (plane : OffsetPlane) (f : ℕ → ℕ → ℕ) → StandsFor row.now lines.now plane f
+        → (i j : ℕ) → i < row.now.width → j < lines_of row.now
+        → at out.new (row.now.width * j + i) ≡ offset_sample plane f i (top row.now + j) }
 {
     filter_blocks(row, lines, out);
     keep_samples(row, lines, out);

@@ -23,7 +23,9 @@ pub struct Run {
 pub fn copy_run(lines: &[u16], run: Run, out: &mut [u16])
     requires lines { run.from + run.count ≤ length lines.now }
     requires out { run.first + run.count ≤ length out.old }
-    ensures { (q : ℕ) → at out.new q ≡ cond (nat_le run.first q && nat_lt q (run.first + run.count)) (at lines.now (run.from + (q - run.first))) (at out.old q) }
+    ensures { (q : ℕ) → at out.new q
+        ≡ cond (nat_le run.first q && nat_lt q (run.first + run.count)) (at lines.now (run.from + (q - run.first)))
+        (at out.old q) }
 {
     for k in 0..run.count {
         out[run.first + k] = lines[run.from + k];
@@ -36,7 +38,10 @@ pub fn band_run(lines: &[u16], run: Run, table: &[i16; 32], depth: u32, out: &mu
     requires lines { run.from + run.count ≤ length lines.now }
     requires out { run.first + run.count ≤ length out.old }
     requires depth { (8 ≤ depth) × (depth ≤ 14) }
-    ensures { (position : ℕ) (offsets : List ℤ) → IsBandTable depth position offsets table.now → (q : ℕ) → at out.new q ≡ cond (nat_le run.first q && nat_lt q (run.first + run.count)) (band_moved depth position offsets (at lines.now (run.from + (q - run.first)))) (at out.old q) }
+    ensures { (position : ℕ) (offsets : List ℤ) → IsBandTable depth position offsets table.now → (q : ℕ)
+        → at out.new q
+        ≡ cond (nat_le run.first q && nat_lt q (run.first + run.count))
+        (band_moved depth position offsets (at lines.now (run.from + (q - run.first)))) (at out.old q) }
 {
     for k in 0..run.count {
         out[run.first + k] = band_moved(lines[run.from + k], table, depth);
@@ -67,7 +72,12 @@ pub fn edge_run(
     requires second { beside.second + run.count ≤ length lines.now }
     requires out { run.first + run.count ≤ length out.old }
     requires depth { (8 ≤ depth) × (depth ≤ 14) }
-    ensures { (offsets : List ℤ) → IsEdgeTable depth offsets table.now → (q : ℕ) → at out.new q ≡ cond (nat_le run.first q && nat_lt q (run.first + run.count)) (edge_moved depth offsets (at lines.now (run.from + (q - run.first))) (at lines.now (beside.first + (q - run.first))) (at lines.now (beside.second + (q - run.first)))) (at out.old q) }
+    ensures { (offsets : List ℤ) → IsEdgeTable depth offsets table.now → (q : ℕ)
+        → at out.new q
+        ≡ cond (nat_le run.first q && nat_lt q (run.first + run.count))
+        (edge_moved depth offsets (at lines.now (run.from + (q - run.first)))
+        (at lines.now (beside.first + (q - run.first))) (at lines.now (beside.second + (q - run.first))))
+        (at out.old q) }
 {
     for k in 0..run.count {
         out[run.first + k] = edge_moved(

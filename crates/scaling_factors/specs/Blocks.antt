@@ -6,7 +6,8 @@ use Rattle.spec_reconstruction.specs.Factors.{listed_factor}
 
 -- row after row
 abbrev pub block_of_list : ScalingList → ℕ → List ℕ
-block_of_list list log2 = map (λ k. listed_factor list log2 (k % 2 ^ log2) (k / 2 ^ log2)) (range_with_len 0 (2 ^ log2 * 2 ^ log2))
+block_of_list list log2 =
+    map (λ k. listed_factor list log2 (k % 2 ^ log2) (k / 2 ^ log2)) (range_with_len 0 (2 ^ log2 * 2 ^ log2))
 
 -- the sizes of transform blocks
 pub record IsSize (log2 : ℕ) : Type 0 where

@@ -44,7 +44,8 @@ fn lay_size(lists: &UnitLists<'_>, log2: u32, first: usize, factors: &mut [u8])
     requires size { IsSize log2 }
     requires room { first + 3 * (2 ^ log2 * 2 ^ log2) ≤ length factors.old }
     ensures count { length factors.new ≡ length factors.old }
-    ensures value { take (first + 3 * (2 ^ log2 * 2 ^ log2)) factors.new ≡ take first factors.old ++ factors_of_size (Some lists.now.lists.now) lists.now.intra log2 }
+    ensures value { take (first + 3 * (2 ^ log2 * 2 ^ log2)) factors.new
+        ≡ take first factors.old ++ factors_of_size (Some lists.now.lists.now) lists.now.intra log2 }
 {
     let count = side_of(log2) * side_of(log2);
     lay_block(lists, log2, 0, first, factors);
@@ -58,7 +59,8 @@ fn lay_block(lists: &UnitLists<'_>, log2: u32, c: usize, first: usize, factors: 
     requires component { c < 3 }
     requires room { first + 2 ^ log2 * 2 ^ log2 ≤ length factors.old }
     ensures count { length factors.new ≡ length factors.old }
-    ensures value { take (first + 2 ^ log2 * 2 ^ log2) factors.new ≡ take first factors.old ++ factors_in_rows (Some lists.now.lists.now) lists.now.intra log2 c }
+    ensures value { take (first + 2 ^ log2 * 2 ^ log2) factors.new
+        ≡ take first factors.old ++ factors_in_rows (Some lists.now.lists.now) lists.now.intra log2 c }
 {
     let count = side_of(log2) * side_of(log2);
     fill_block(lists, log2, c, &mut factors[first..first + count]);

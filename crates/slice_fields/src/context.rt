@@ -5,7 +5,8 @@ ghost use Rattle.std.specs.Option.{option_copied};
 ghost use Rattle.slice_types.specs.SliceHeaders.{IsSliceHeader};
 ghost use Rattle.header_fields.specs.Takes.{Takes};
 ghost use Rattle.spec_formats.specs.Fields.{flag, optional};
-ghost use Rattle.spec_slice_headers.specs.Context.{ceil_log2, first_of, flag_or, header_of, last_address, last_segment, no_rasl_output_flag, slice_header, slice_of, ue_or};
+ghost use Rattle.spec_slice_headers.specs.Context.{ceil_log2, first_of, flag_or, header_of, last_address, last_segment};
+ghost use Rattle.spec_slice_headers.specs.Context.{no_rasl_output_flag, slice_header, slice_of, ue_or};
 ghost use Rattle.slice_fields.specs.Views.{context_of};
 
 use header_fields::FieldReader;

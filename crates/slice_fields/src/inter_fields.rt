@@ -5,7 +5,8 @@ ghost use Rattle.header_fields.specs.Takes.{Takes};
 ghost use Rattle.spec_formats.specs.Fields.{optional, repeated};
 ghost use Rattle.spec_slice_headers.specs.Context.{ue_or};
 ghost use Rattle.spec_slice_headers.specs.SliceFields.{inter_of};
-ghost use Rattle.spec_slice_headers.specs.InterFields.{is_b, entries_1, list_entry, modification, collocated_minus1, collocated, has_weights, inter_fields};
+ghost use Rattle.spec_slice_headers.specs.InterFields.{is_b, entries_1, list_entry, modification, collocated_minus1};
+ghost use Rattle.spec_slice_headers.specs.InterFields.{collocated, has_weights, inter_fields};
 
 use crate::context::{ceil_log2, flag_or, ue_or};
 use crate::reference_rules::is_i;
@@ -116,7 +117,8 @@ fn read_collocated<'a>(
     l0_minus1: u32,
     l1_minus1: Option<u32>,
 ) -> Result<Option<Collocated>, Refusal>
-    ensures { Takes (λ x. x) result reader.old reader.new (optional is_coded (collocated slice_type l0_minus1 l1_minus1)) }
+    ensures { Takes (λ x. x) result reader.old reader.new
+        (optional is_coded (collocated slice_type l0_minus1 l1_minus1)) }
 {
     if !is_coded {
         return Ok(None);

@@ -66,7 +66,9 @@ pub fn judge_references<'a>(
     requires max_lsb_high { kind.max_lsb ≤ 65536 }
     requires references { AreReferences kind.max_lsb front.now.references }
     requires few { length context.former.now.dpb < 2 ^ 32 }
-    ensures { Parses (λ _. true) result (judged_references (context_of context.entry) (option_copied former.entry) kind front.now.slice_type front.now.pic_output_flag front.now.references) }
+    ensures { Parses (λ _. true) result
+        (judged_references (context_of context.entry) (option_copied former.entry) kind front.now.slice_type
+        front.now.pic_output_flag front.now.references) }
 {
     let references = &front.references;
     let prev = context.former.prev_tid0_pic_order_cnt;

@@ -6,7 +6,9 @@ ghost use Rattle.header_fields.specs.Takes.{Takes};
 ghost use Rattle.header_types.specs.ReferencePictures.{IsStRps};
 ghost use Rattle.header_types.specs.SequenceParameterSets.{max_lsb};
 ghost use Rattle.spec_formats.specs.Fields.{each};
-ghost use Rattle.spec_slice_headers.specs.References.{coded_short_term, named_short_term, short_term, msb_cycle, named_long_term, coded_long_term, long_term_entry, long_term, coded_references, reference_fields};
+ghost use Rattle.spec_slice_headers.specs.References.{coded_short_term, named_short_term, short_term, msb_cycle};
+ghost use Rattle.spec_slice_headers.specs.References.{named_long_term, coded_long_term, long_term_entry, long_term};
+ghost use Rattle.spec_slice_headers.specs.References.{coded_references, reference_fields};
 ghost use Rattle.slice_fields.specs.Ranges.{AreReferences};
 ghost use Rattle.slice_fields.specs.Views.{short_term_of};
 
@@ -161,7 +163,8 @@ fn read_long_term_entries<'a>(
     count: u32,
 ) -> Result<FieldList<LongTermRef>, Refusal>
     requires { length candidates.now ≤ 32 }
-    ensures value { Takes (λ x. x) result reader.old reader.new (each (long_term_entry sps.now candidates.now num_long_term_sps) (range_with_len 0 count)) }
+    ensures value { Takes (λ x. x) result reader.old reader.new
+        (each (long_term_entry sps.now candidates.now num_long_term_sps) (range_with_len 0 count)) }
     ensures count { IfOk result (λ entries. length entries ≡ count) }
 {
     let mut entries = FieldList::new(alloc);

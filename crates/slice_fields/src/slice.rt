@@ -4,7 +4,10 @@ ghost use Rattle.std.specs.Prelude.{◌≡◌, ◌<◌, ◌≤◌, ◌^◌, leng
 ghost use Rattle.std.specs.Option.{option_copied};
 ghost use Rattle.header_types.specs.SequenceParameterSets.{max_lsb};
 ghost use Rattle.header_fields.specs.Takes.{Takes};
-ghost use Rattle.spec_slice_headers.specs.SliceFields.{kind_of, type_of, slice_type, temporal_flag, slice_qp, qp_delta, chroma_offset, control_of, pps_deblocking, own_deblocking, deblocking, across_slices, filter_fields, later_fields, slice_fields};
+ghost use Rattle.spec_slice_headers.specs.SliceFields.{kind_of, type_of, slice_type, temporal_flag, slice_qp, qp_delta};
+ghost use Rattle.spec_slice_headers.specs.SliceFields.{chroma_offset, control_of, pps_deblocking, own_deblocking};
+ghost use Rattle.spec_slice_headers.specs.SliceFields.{deblocking, across_slices, filter_fields, later_fields};
+ghost use Rattle.spec_slice_headers.specs.SliceFields.{slice_fields};
 ghost use Rattle.slice_fields.specs.Ranges.{AreReferences};
 ghost use Rattle.slice_fields.specs.Views.{context_of, filters_of, joined, named_of};
 
@@ -221,7 +224,8 @@ fn read_temporal<'a, 'b>(
     former: Option<&SliceHeaderFields>,
     sps: &Sps,
 ) -> Result<bool, Refusal>
-    ensures { Takes (λ x. x) result reader.old reader.new (temporal_flag (context_of context.entry) (option_copied former.entry) sps.now) }
+    ensures { Takes (λ x. x) result reader.old reader.new
+        (temporal_flag (context_of context.entry) (option_copied former.entry) sps.now) }
 {
     let is_coded = !is_idr(context.nal_type) && sps.fields().sps_temporal_mvp_enabled_flag;
     let slice_temporal_mvp_enabled_flag = flag_or(reader, is_coded, false)?;
@@ -254,7 +258,9 @@ fn read_later_fields<'a, 'b, 'c>(
     front: &FrontFields,
 ) -> Result<LaterFields, Refusal>
     requires { AreReferences (max_lsb named.sps.now) front.now.references }
-    ensures { Takes (joined front.now) result reader.old reader.new (later_fields (context_of context.entry) (option_copied former.entry) (named_of named.entry) front.now.slice_type front.now.pic_output_flag front.now.references) }
+    ensures { Takes (joined front.now) result reader.old reader.new
+        (later_fields (context_of context.entry) (option_copied former.entry) (named_of named.entry)
+        front.now.slice_type front.now.pic_output_flag front.now.references) }
 {
     let has_sao = named.sps.fields().sample_adaptive_offset_enabled_flag;
     let total = num_pic_total_curr(&front.references);
@@ -315,7 +321,8 @@ pub fn read_slice_fields<'a, 'b, 'c>(
     named: SliceSets<'c>,
 ) -> Result<SliceFields, Refusal>
     requires { length context.former.now.dpb < 2 ^ 32 }
-    ensures { Takes (λ x. x) result reader.old reader.new (slice_fields (context_of context.entry) (option_copied former.entry) (named_of named.entry)) }
+    ensures { Takes (λ x. x) result reader.old reader.new
+        (slice_fields (context_of context.entry) (option_copied former.entry) (named_of named.entry)) }
 {
     reader.u(named.pps.fields().num_extra_slice_header_bits)?;
     let slice_type = read_slice_type(reader, context)?;

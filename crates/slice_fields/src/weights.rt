@@ -4,7 +4,8 @@ ghost use Rattle.std.specs.Prelude.{◌≡◌, false, slice_index_or};
 ghost use Rattle.std.specs.List.{range_with_len};
 ghost use Rattle.header_fields.specs.Takes.{Takes};
 ghost use Rattle.spec_formats.specs.Fields.{each, flag, optional, repeated};
-ghost use Rattle.spec_slice_headers.specs.Weights.{luma_weight, chroma_weight, chroma_weights, entry_weights, weights_at, list_weights, pred_weight_table};
+ghost use Rattle.spec_slice_headers.specs.Weights.{luma_weight, chroma_weight, chroma_weights, entry_weights};
+ghost use Rattle.spec_slice_headers.specs.Weights.{weights_at, list_weights, pred_weight_table};
 
 use header_fields::FieldReader;
 use header_types::FieldList;
@@ -106,7 +107,8 @@ fn read_each_weights<'a>(
     chromas: &[bool],
     count: u32,
 ) -> Result<FieldList<RefWeights>, Refusal>
-    ensures { Takes (λ x. x) result reader.old reader.new (each (weights_at lumas.now chromas.now) (range_with_len 0 count)) }
+    ensures { Takes (λ x. x) result reader.old reader.new
+        (each (weights_at lumas.now chromas.now) (range_with_len 0 count)) }
 {
     let mut weights = FieldList::new(alloc);
     for i in 0..count {

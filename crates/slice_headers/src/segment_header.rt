@@ -9,7 +9,9 @@ ghost use Rattle.spec_formats.specs.Fields.{Parses, Reads, optional, repeated, u
 ghost use Rattle.spec_header_ranges.specs.Ranges.{IsNamed};
 ghost use Rattle.spec_slice_headers.specs.Context.{first_of, slice_header};
 ghost use Rattle.spec_slice_headers.specs.NamedSets.{named_by};
-ghost use Rattle.spec_slice_headers.specs.SegmentHeader.{taken_fields, fields_of_slice, entry_point, entry_points, coded_extension, alignment, slice_segment_header, slice_header_of, unit_context};
+ghost use Rattle.spec_slice_headers.specs.SegmentHeader.{taken_fields, fields_of_slice, entry_point, entry_points};
+ghost use Rattle.spec_slice_headers.specs.SegmentHeader.{coded_extension, alignment, slice_segment_header};
+ghost use Rattle.spec_slice_headers.specs.SegmentHeader.{slice_header_of, unit_context};
 ghost use Rattle.slice_fields.specs.Views.{context_of, named_of};
 
 use crate::named_sets::read_named_sets;
@@ -31,7 +33,8 @@ fn taken_fields<'a, 'b>(
     reader: &mut FieldReader<'a>,
     context: SegmentContext<'b>,
 ) -> Result<SliceFields, Refusal>
-    ensures value { Takes (λ x. x) result reader.old reader.new (taken_fields (slice_header (context_of context.entry).segments)) }
+    ensures value { Takes (λ x. x) result reader.old reader.new
+        (taken_fields (slice_header (context_of context.entry).segments)) }
     ensures in_range { IfSome (slice_header (context_of context.entry).segments) IsSliceHeader }
 {
     match slice_header(context.segments) {
@@ -49,8 +52,10 @@ fn read_fields_of_slice<'a, 'b, 'c>(
     segment: SegmentFields,
 ) -> Result<SliceFields, Refusal>
     requires few { length context.former.now.dpb < 2 ^ 32 }
-    ensures value { Takes (λ x. x) result reader.old reader.new (fields_of_slice (context_of context.entry) (named_of named.entry) segment) }
-    ensures taken { segment.dependent_slice_segment_flag ≡ true → IfSome (slice_header (context_of context.entry).segments) IsSliceHeader }
+    ensures value { Takes (λ x. x) result reader.old reader.new
+        (fields_of_slice (context_of context.entry) (named_of named.entry) segment) }
+    ensures taken { segment.dependent_slice_segment_flag ≡ true
+        → IfSome (slice_header (context_of context.entry).segments) IsSliceHeader }
 {
     if segment.dependent_slice_segment_flag {
         return taken_fields(alloc, reader, context);
@@ -142,8 +147,10 @@ fn read_segment_header<'a, 'b>(
 ) -> Result<SliceHeaderFields, Refusal>
     requires few { length context.former.now.dpb < 2 ^ 32 }
     ensures value { Takes (λ x. x) result reader.old reader.new (slice_segment_header (context_of context.entry)) }
-    ensures named { IfOk result (λ h. IfSome (named_by (context_of context.entry).sets h.segment.slice_pic_parameter_set_id) IsNamed) }
-    ensures taken { IfOk result (λ h. h.segment.dependent_slice_segment_flag ≡ true → IfSome (slice_header (context_of context.entry).segments) IsSliceHeader) }
+    ensures named { IfOk result
+        (λ h. IfSome (named_by (context_of context.entry).sets h.segment.slice_pic_parameter_set_id) IsNamed) }
+    ensures taken { IfOk result (λ h. h.segment.dependent_slice_segment_flag ≡ true
+        → IfSome (slice_header (context_of context.entry).segments) IsSliceHeader) }
 {
     let front = read_front(reader, context)?;
     let is_first = front.first_slice_segment_in_pic_flag;
@@ -191,7 +198,8 @@ pub fn read_slice_header(
     segments: &[SegmentPlan],
 ) -> Result<SliceHeader, Refusal>
     requires { length former.now.dpb < 2 ^ 32 }
-    ensures value { Parses (λ x. x) result (slice_header_of (unit_context nal.now sets.now former.now segments.now) nal.now.rbsp) }
+    ensures value { Parses (λ x. x) result
+        (slice_header_of (unit_context nal.now sets.now former.now segments.now) nal.now.rbsp) }
     ensures first { segments.now ≡ [] → IfOk result (λ h. h.slice.references.slice_pic_order_cnt_lsb < h.kind.max_lsb) }
 {
     let payload = nal.rbsp.as_slice();

@@ -64,7 +64,8 @@ pub fn read_place<'a, 'b, 'c>(
     named: SliceSets<'c>,
     segment: SegmentFields,
 ) -> Result<SegmentFields, Refusal>
-    ensures value { Takes (λ x. x) result reader.old reader.new (place (context_of context.entry) (named_of named.entry) segment) }
+    ensures value { Takes (λ x. x) result reader.old reader.new
+        (place (context_of context.entry) (named_of named.entry) segment) }
     ensures id { IfOk result (λ s. s.slice_pic_parameter_set_id ≡ segment.slice_pic_parameter_set_id) }
 {
     if segment.first_slice_segment_in_pic_flag {

@@ -1,5 +1,6 @@
 -- The ranges of a slice segment header's fields (7.4.7).
-use Rattle.std.specs.Prelude.{◌≡◌, ℕ, ◌+◌, ◌^◌, ◌<◌, ◌≤◌, pos, ◌+ℤ◌, List, true, Option, Some, None, is_some, All, IfSome, length, if◌then◌else◌}
+use Rattle.std.specs.Prelude.{◌≡◌, ℕ, ◌+◌, ◌^◌, ◌<◌, ◌≤◌, pos, ◌+ℤ◌, List, true, Option, Some, None, is_some, All}
+use Rattle.std.specs.Prelude.{IfSome, length, if◌then◌else◌}
 use Rattle.slice_types.specs.declared.slice.Collocated.{Collocated}
 use Rattle.slice_types.specs.declared.slice.InterFields.{InterFields}
 use Rattle.slice_types.specs.declared.slice.ReferenceFields.{ReferenceFields}
@@ -51,9 +52,12 @@ pub record IsInterFields (f : InterFields) : Type 0 where
   pub few_0 : f.num_ref_idx_l0_active_minus1 ≤ 14
   pub few_1 : IfSome f.num_ref_idx_l1_active_minus1 (λ n. n ≤ 14)
   pub list_entry_l0 : IfSome f.list_entry_l0 (λ (entries : List ℕ). length entries ≡ f.num_ref_idx_l0_active_minus1 + 1)
-  pub list_entry_l1 : IfSome f.list_entry_l1 (λ (entries : List ℕ). length entries ≡ active_1 f.num_ref_idx_l1_active_minus1)
-  pub collocated : IfSome f.collocated (IsCollocated (f.num_ref_idx_l0_active_minus1 + 1) (active_1 f.num_ref_idx_l1_active_minus1))
-  pub weights : IfSome f.weights (IsPredWeightTable (f.num_ref_idx_l0_active_minus1 + 1) (active_1 f.num_ref_idx_l1_active_minus1))
+  pub list_entry_l1 : IfSome f.list_entry_l1
+      (λ (entries : List ℕ). length entries ≡ active_1 f.num_ref_idx_l1_active_minus1)
+  pub collocated : IfSome f.collocated
+      (IsCollocated (f.num_ref_idx_l0_active_minus1 + 1) (active_1 f.num_ref_idx_l1_active_minus1))
+  pub weights : IfSome f.weights
+      (IsPredWeightTable (f.num_ref_idx_l0_active_minus1 + 1) (active_1 f.num_ref_idx_l1_active_minus1))
   pub merge : f.five_minus_max_num_merge_cand ≤ 4
 
 -- an I slice has none of these fields, and a B slice alone has a list 1

@@ -1,5 +1,7 @@
 -- Exp-Golomb codes and the bits that spell them.
-use Rattle.std.proofs.Common.{◌≡◌, ℕ, zero, suc, ◌+◌, ◌-◌, ◌*◌, ◌/◌, ◌%◌, ◌^◌, ◌<◌, ◌≤◌, Bool, true, false, cond, Option, Some, None, List, [], ◌∷◌, ◌++◌, length, replicate, take, drop, ◌⊎◌, inl, inr, ⊎_elim, lit<, refl, sym, ap, subst, ◌∙◌, arith}
+use Rattle.std.proofs.Common.{◌≡◌, ℕ, zero, suc, ◌+◌, ◌-◌, ◌*◌, ◌/◌, ◌%◌, ◌^◌, ◌<◌, ◌≤◌, Bool, true, false, cond}
+use Rattle.std.proofs.Common.{Option, Some, None, List, [], ◌∷◌, ◌++◌, length, replicate, take, drop, ◌⊎◌, inl, inr}
+use Rattle.std.proofs.Common.{⊎_elim, lit<, refl, sym, ap, subst, ◌∙◌, arith}
 use Rattle.std.specs.Prelude.{◌==◌, nat_lt}
 use Rattle.std.specs.Int.Count.{count_leading_zeros, leading_unique}
 use Rattle.std.proofs.lemmas.Nat.{pow_pos, leading_top, shr_high}
@@ -15,7 +17,8 @@ use Rattle.spec_bits.proofs.Digits.{u_bits-zero, u_at-u_bits, u_at-found, u_at-o
 
 -- ---- the zeros before a 1
 
-pub leading_zero_bits-replicate : (zeros : ℕ) (more : List Bool) → leading_zero_bits (replicate zeros false ++ true ∷ more) ≡ zeros
+pub leading_zero_bits-replicate : (zeros : ℕ) (more : List Bool)
+    → leading_zero_bits (replicate zeros false ++ true ∷ more) ≡ zeros
 leading_zero_bits-replicate zero more = refl
 leading_zero_bits-replicate (suc zeros) more = ap suc (leading_zero_bits-replicate zeros more)
 
@@ -25,7 +28,8 @@ take-leading_zero_bits (true ∷ bs) = refl
 take-leading_zero_bits (false ∷ bs) = ap (λ x. false ∷ x) (take-leading_zero_bits bs)
 
 -- what follows the zeros is nothing, or a 1
-pub drop-leading_zero_bits : (bs : List Bool) → (drop (leading_zero_bits bs) bs ≡ []) ⊎ ((more : List Bool) × (drop (leading_zero_bits bs) bs ≡ true ∷ more))
+pub drop-leading_zero_bits : (bs : List Bool)
+    → (drop (leading_zero_bits bs) bs ≡ []) ⊎ ((more : List Bool) × (drop (leading_zero_bits bs) bs ≡ true ∷ more))
 drop-leading_zero_bits [] = inl refl
 drop-leading_zero_bits (true ∷ bs) = inr (bs, refl)
 drop-leading_zero_bits (false ∷ bs) = drop-leading_zero_bits bs
@@ -49,16 +53,20 @@ pub leading_zero_bits_of-unique : (value zeros : ℕ) → HasDigits value zeros 
 unfolding leading_zero_bits_of
 leading_zero_bits_of-unique value zeros d =
     let few = d.few in
-    let is = leading_unique 32 (value + 1) (31 - zeros) (zeros + 1) (omega arith) d.high (omega (arith, d.low, two_pow-succ zeros)) in
+    let is =
+    leading_unique 32 (value + 1) (31 - zeros) (zeros + 1) (omega arith) d.high
+    (omega (arith, d.low, two_pow-succ zeros)) in
     omega (arith, is)
 
 -- the greatest digit of value + 1 is 1
 first_digit : (value zeros : ℕ) → HasDigits value zeros → (value + 1) / 2 ^ zeros ≡ 1
 first_digit value zeros d =
     let r : value + 1 ≡ 1 * 2 ^ zeros + (value + 1 - 2 ^ zeros) = omega (arith, d.low) in
-    ap (λ n. n / 2 ^ zeros) r ∙ shr_high 1 zeros (value + 1 - 2 ^ zeros) (omega (arith, d.low, d.high, two_pow-succ zeros))
+    ap (λ n. n / 2 ^ zeros) r
+    ∙ shr_high 1 zeros (value + 1 - 2 ^ zeros) (omega (arith, d.low, d.high, two_pow-succ zeros))
 
-pub u_bits-first : (value zeros : ℕ) → HasDigits value zeros → u_bits (zeros + 1) (value + 1) ≡ true ∷ u_bits zeros (value + 1)
+pub u_bits-first : (value zeros : ℕ) → HasDigits value zeros
+    → u_bits (zeros + 1) (value + 1) ≡ true ∷ u_bits zeros (value + 1)
 unfolding u_bits bit_of
 u_bits-first value zeros d =
     let e : zeros + 1 ≡ suc zeros = omega arith in
@@ -66,7 +74,8 @@ u_bits-first value zeros d =
 
 -- ---- reading
 
-pub bind_some : {A B : Type 0} (o : Option A) (f : A → Option B) (y : B) → (o >>= f) ≡ Some y → (x : A) × (o ≡ Some x) × (f x ≡ Some y)
+pub bind_some : {A B : Type 0} (o : Option A) (f : A → Option B) (y : B) → (o >>= f) ≡ Some y
+    → (x : A) × (o ≡ Some x) × (f x ≡ Some y)
 bind_some (Some x) f y h = (x, refl, h)
 bind_some None f y h = absurd cc
 
@@ -76,18 +85,23 @@ unfolding ue_at
 ue_from zeros bs mid rest prefix code is few first second =
     rw (is, le-ltb 31 zeros few, first, second) refl
 
-ue_at-zeros : (value zeros : ℕ) (rest : List Bool) → HasDigits value zeros → ue_at ((replicate zeros false ++ u_bits (zeros + 1) (value + 1)) ++ rest) ≡ Some (value, rest)
+ue_at-zeros : (value zeros : ℕ) (rest : List Bool) → HasDigits value zeros
+    → ue_at ((replicate zeros false ++ u_bits (zeros + 1) (value + 1)) ++ rest) ≡ Some (value, rest)
 ue_at-zeros value zeros rest d =
     let code : List Bool = u_bits (zeros + 1) (value + 1) ++ rest in
     let split = append_assoc (replicate zeros false) (u_bits (zeros + 1) (value + 1)) rest in
-    let starts = ap (λ x. leading_zero_bits (replicate zeros false ++ (x ++ rest))) (u_bits-first value zeros d) ∙ leading_zero_bits-replicate zeros (u_bits zeros (value + 1) ++ rest) in
+    let starts =
+    ap (λ x. leading_zero_bits (replicate zeros false ++ (x ++ rest))) (u_bits-first value zeros d)
+    ∙ leading_zero_bits-replicate zeros (u_bits zeros (value + 1) ++ rest) in
     let none : 0 < 2 ^ zeros = pow_pos zeros in
     let first = ap (λ x. u_at zeros (x ++ code)) (sym (u_bits-zero zeros)) ∙ u_at-u_bits zeros 0 code none in
     let second = u_at-u_bits (zeros + 1) (value + 1) rest d.high in
     let e : value + 1 - 1 ≡ value = omega arith in
-    ap ue_at split ∙ ue_from zeros (replicate zeros false ++ code) code rest 0 (value + 1) starts d.few first second ∙ ap (λ v. Some (v, rest)) e
+    ap ue_at split ∙ ue_from zeros (replicate zeros false ++ code) code rest 0 (value + 1) starts d.few first second
+    ∙ ap (λ v. Some (v, rest)) e
 
-pub ue_at-ue_bits : (value : ℕ) (rest : List Bool) → value ≤ 4294967294 → ue_at (ue_bits value ++ rest) ≡ Some (value, rest)
+pub ue_at-ue_bits : (value : ℕ) (rest : List Bool) → value ≤ 4294967294
+    → ue_at (ue_bits value ++ rest) ≡ Some (value, rest)
 unfolding ue_bits
 ue_at-ue_bits value rest h = ue_at-zeros value (leading_zero_bits_of value) rest (leading_zero_bits_of-digits value h)
 
@@ -109,8 +123,12 @@ ue_at-read : (bs : List Bool) (value : ℕ) (rest : List Bool) → ue_at bs ≡ 
 unfolding ue_at
 ue_at-read bs value rest h =
     let zeros = leading_zero_bits bs in
-    let within = cond_some (nat_lt 31 zeros) (u_at zeros bs >>= λ prefix. u_at (zeros + 1) prefix.1 >>= λ code. Some (code.0 - 1, code.1)) (value, rest) h in
-    let first = bind_some (u_at zeros bs) (λ prefix. u_at (zeros + 1) prefix.1 >>= λ code. Some (code.0 - 1, code.1)) (value, rest) within.1 in
+    let within =
+    cond_some (nat_lt 31 zeros)
+    (u_at zeros bs >>= λ prefix. u_at (zeros + 1) prefix.1 >>= λ code. Some (code.0 - 1, code.1)) (value, rest) h in
+    let first =
+    bind_some (u_at zeros bs) (λ prefix. u_at (zeros + 1) prefix.1 >>= λ code. Some (code.0 - 1, code.1))
+    (value, rest) within.1 in
     let second = bind_some (u_at (zeros + 1) first.0.1) (λ code. Some (code.0 - 1, code.1)) (value, rest) first.2 in
     let parts = some_pair_parts (second.0.0 - 1) value second.0.1 rest second.2 in
     record {
@@ -131,21 +149,24 @@ digit_worth code zeros h = ⊎_elim
     (λ le. le)
     (cases_lt code (2 ^ zeros))
 
-worth_from_first : (code count : ℕ) (mid more : List Bool) → (mid ≡ []) ⊎ ((x : List Bool) × (mid ≡ true ∷ x)) → mid ≡ bit_of code count ∷ more → 2 ^ count ≤ code
+worth_from_first : (code count : ℕ) (mid more : List Bool) → (mid ≡ []) ⊎ ((x : List Bool) × (mid ≡ true ∷ x))
+    → mid ≡ bit_of code count ∷ more → 2 ^ count ≤ code
 worth_from_first code count mid more (inl none) is = absurd cc
 worth_from_first code count mid more (inr one) is =
     let same : true ∷ one.0 ≡ bit_of code count ∷ more = sym one.1 ∙ is in
     digit_worth code count (sym cc)
 
 -- the code's first bit is the 1 that ends the zeros
-code_worth : (zeros code : ℕ) (mid rest : List Bool) → (mid ≡ []) ⊎ ((more : List Bool) × (mid ≡ true ∷ more)) → mid ≡ u_bits (zeros + 1) code ++ rest → 2 ^ zeros ≤ code
+code_worth : (zeros code : ℕ) (mid rest : List Bool) → (mid ≡ []) ⊎ ((more : List Bool) × (mid ≡ true ∷ more))
+    → mid ≡ u_bits (zeros + 1) code ++ rest → 2 ^ zeros ≤ code
 unfolding u_bits
 code_worth zeros code mid rest starts is =
     let e : zeros + 1 ≡ suc zeros = omega arith in
     let digits : mid ≡ bit_of code zeros ∷ (u_bits zeros code ++ rest) = is ∙ ap (λ k. u_bits k code ++ rest) e in
     worth_from_first code zeros mid (u_bits zeros code ++ rest) starts digits
 
-pub ue_at-only : (bs : List Bool) (value : ℕ) (rest : List Bool) → ue_at bs ≡ Some (value, rest) → (value ≤ 4294967294) × (bs ≡ ue_bits value ++ rest)
+pub ue_at-only : (bs : List Bool) (value : ℕ) (rest : List Bool) → ue_at bs ≡ Some (value, rest)
+    → (value ≤ 4294967294) × (bs ≡ ue_bits value ++ rest)
 unfolding ue_bits
 ue_at-only bs value rest h =
     let r = ue_at-read bs value rest h in
@@ -153,7 +174,8 @@ ue_at-only bs value rest h =
     let zeros = leading_zero_bits bs in
     let mid : drop zeros bs ≡ r.mid = (u_at-found zeros bs r.prefix r.mid r.first).left in
     let only = u_at-only (zeros + 1) r.mid r.code rest r.second in
-    let starts = subst (λ (m : List Bool). (m ≡ []) ⊎ ((more : List Bool) × (m ≡ true ∷ more))) mid (drop-leading_zero_bits bs) in
+    let starts =
+    subst (λ (m : List Bool). (m ≡ []) ⊎ ((more : List Bool) × (m ≡ true ∷ more))) mid (drop-leading_zero_bits bs) in
     let worth = code_worth zeros r.code r.mid rest starts only.1 in
     let some = pow_pos zeros in
     let next : value + 1 ≡ r.code = omega (arith, r.told) in
@@ -162,16 +184,20 @@ ue_at-only bs value rest h =
     let most : zeros + 1 ≤ 32 = omega arith in
     let two : 0 < 2 = lit< tt in
     let spelled : bs ≡ replicate zeros false ++ (u_bits (zeros + 1) (value + 1) ++ rest) =
-    sym (take-append-drop zeros bs) ∙ ap (λ x. x ++ drop zeros bs) (take-leading_zero_bits bs) ∙ ap (λ x. replicate zeros false ++ x) (mid ∙ only.1)
+    sym (take-append-drop zeros bs) ∙ ap (λ x. x ++ drop zeros bs) (take-leading_zero_bits bs)
+    ∙ ap (λ x. replicate zeros false ++ x) (mid ∙ only.1)
     ∙ ap (λ c. replicate zeros false ++ (u_bits (zeros + 1) c ++ rest)) (sym next) in (
       omega (arith, only.0, pow-le-pow_right two most),
       rw is (spelled ∙ sym (append_assoc (replicate zeros false) (u_bits (zeros + 1) (value + 1)) rest)),
     )
 
 -- reading depends on the bits of the code alone
-pub ue_at-other : (bs : List Bool) (value : ℕ) (rest other : List Bool) → ue_at bs ≡ Some (value, rest) → ue_at (take (length bs - length rest) bs ++ other) ≡ Some (value, other)
+pub ue_at-other : (bs : List Bool) (value : ℕ) (rest other : List Bool) → ue_at bs ≡ Some (value, rest)
+    → ue_at (take (length bs - length rest) bs ++ other) ≡ Some (value, other)
 ue_at-other bs value rest other h =
     let only = ue_at-only bs value rest h in
-    let count : length (ue_bits value) ≡ length bs - length rest = omega (arith, ap length only.1, length-append (ue_bits value) rest) in
-    let front : take (length bs - length rest) bs ≡ ue_bits value = ap (take (length bs - length rest)) only.1 ∙ take_at (ue_bits value) rest (length bs - length rest) count in
+    let count : length (ue_bits value) ≡ length bs - length rest =
+    omega (arith, ap length only.1, length-append (ue_bits value) rest) in
+    let front : take (length bs - length rest) bs ≡ ue_bits value =
+    ap (take (length bs - length rest)) only.1 ∙ take_at (ue_bits value) rest (length bs - length rest) count in
     ap (λ x. ue_at (x ++ other)) front ∙ ue_at-ue_bits value other only.0

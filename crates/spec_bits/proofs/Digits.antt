@@ -1,5 +1,7 @@
 -- The binary digits of a number, and the number that they spell.
-use Rattle.std.proofs.Common.{◌≡◌, ℕ, zero, suc, ◌+◌, ◌*◌, ◌/◌, ◌%◌, ◌^◌, ◌<◌, ◌≤◌, Bool, true, false, cond, Option, Some, None, List, [], ◌∷◌, ◌++◌, length, replicate, take, drop, refl, sym, ap, subst, ◌∙◌, arith}
+use Rattle.std.proofs.Common.{◌≡◌, ℕ, zero, suc, ◌+◌, ◌*◌, ◌/◌, ◌%◌, ◌^◌, ◌<◌, ◌≤◌, Bool, true, false, cond, Option}
+use Rattle.std.proofs.Common.{Some, None, List, [], ◌∷◌, ◌++◌, length, replicate, take, drop, refl, sym, ap, subst, ◌∙◌}
+use Rattle.std.proofs.Common.{arith}
 use Rattle.std.specs.Prelude.{◌==◌, nat_lt, ◌↔◌}
 use Rattle.std.proofs.Math.Nat.{pow-suc, add-mul, mul_assoc, div-one, div-lt_iff_lt-mul, mod-eq_of_lt}
 use Rattle.std.proofs.lemmas.Nat.{pow_pos, shr-shr, mod-pow-add}
@@ -69,7 +71,8 @@ pub number_after-div : (before : ℕ) (bs : List Bool) → number_after before b
 number_after-div before [] = div-one before
 number_after-div before (b ∷ bs) =
     let e : length bs + 1 ≡ suc (length bs) = omega arith in
-    sym (shr-shr (number_after (2 * before + digit b) bs) (length bs) 1 ∙ ap (λ k. number_after (2 * before + digit b) bs / 2 ^ k) e)
+    sym (shr-shr (number_after (2 * before + digit b) bs) (length bs) 1
+    ∙ ap (λ k. number_after (2 * before + digit b) bs / 2 ^ k) e)
     ∙ ap (λ n. n / 2) (number_after-div (2 * before + digit b) bs) ∙ half_digit before b
 
 pub number_of-below : (bs : List Bool) → number_of bs < 2 ^ length bs
@@ -93,7 +96,8 @@ u_bits-number_of bs = u_bits-number_after 0 bs
 
 -- ---- bits that stand side by side
 
-number_after-append : (before : ℕ) (front back : List Bool) → number_after before (front ++ back) ≡ number_after (number_after before front) back
+number_after-append : (before : ℕ) (front back : List Bool)
+    → number_after before (front ++ back) ≡ number_after (number_after before front) back
 number_after-append before [] back = refl
 number_after-append before (b ∷ front) back = number_after-append (2 * before + digit b) front back
 
@@ -102,7 +106,8 @@ number_after-number_of before bs =
     ap (number_after before) (sym (u_bits-number_of bs)) ∙ number_after-u_bits before (length bs) (number_of bs)
     ∙ ap (λ r. before * 2 ^ length bs + r) (mod-eq_of_lt (number_of-below bs))
 
-pub number_of-append : (front back : List Bool) → number_of (front ++ back) ≡ number_of front * 2 ^ length back + number_of back
+pub number_of-append : (front back : List Bool)
+    → number_of (front ++ back) ≡ number_of front * 2 ^ length back + number_of back
 unfolding number_of
 number_of-append front back = number_after-append 0 front back ∙ number_after-number_of (number_after 0 front) back
 
@@ -119,18 +124,27 @@ number_of-single false = refl
 
 -- ---- u(n)
 
-pub u_at-u_bits : (n value : ℕ) (rest : List Bool) → value < 2 ^ n → u_at n (u_bits n value ++ rest) ≡ Some (value, rest)
+pub u_at-u_bits : (n value : ℕ) (rest : List Bool) → value < 2 ^ n
+    → u_at n (u_bits n value ++ rest) ≡ Some (value, rest)
 unfolding u_at
 u_at-u_bits n value rest h =
-    let long : n ≤ length (u_bits n value ++ rest) = omega (arith, length-append (u_bits n value) rest, length-u_bits n value) in
-    rw (le-ltb (length (u_bits n value ++ rest)) n long, take_at (u_bits n value) rest n (length-u_bits n value), drop_at (u_bits n value) rest n (length-u_bits n value), number_of-u_bits n value h) refl
+    let long : n ≤ length (u_bits n value ++ rest) =
+    omega (arith, length-append (u_bits n value) rest, length-u_bits n value) in
+    rw (
+      le-ltb (length (u_bits n value ++ rest)) n long,
+      take_at (u_bits n value) rest n (length-u_bits n value),
+      drop_at (u_bits n value) rest n (length-u_bits n value),
+      number_of-u_bits n value h,
+    )
+    refl
 
 pub u_at-short : (n : ℕ) (bs : List Bool) → length bs < n → u_at n bs ≡ None
 unfolding u_at
 u_at-short n bs h = rw (lt-ltb (length bs) n h) refl
 
 -- reading as many bits as stand before others
-pub u_at-front : (n : ℕ) (front rest : List Bool) → length front ≡ n → u_at n (front ++ rest) ≡ Some (number_of front, rest)
+pub u_at-front : (n : ℕ) (front rest : List Bool) → length front ≡ n
+    → u_at n (front ++ rest) ≡ Some (number_of front, rest)
 unfolding u_at
 u_at-front n front rest h =
     let long : n ≤ length (front ++ rest) = omega (arith, length-append front rest) in
@@ -143,22 +157,27 @@ pub record Found (n : ℕ) (bs : List Bool) (value : ℕ) (rest : List Bool) : T
   pub left : drop n bs ≡ rest
 
 found_if : (n : ℕ) (bs : List Bool) (short : Bool) (value : ℕ) (rest : List Bool) → nat_lt (length bs) n ≡ short
-    → cond {A = Option (ℕ × List Bool)} short None (Some (number_of (take n bs), drop n bs)) ≡ Some (value, rest) → Found n bs value rest
+    → cond {A = Option (ℕ × List Bool)} short None (Some (number_of (take n bs), drop n bs)) ≡ Some (value, rest)
+    → Found n bs value rest
 found_if n bs true value rest e h = absurd cc
 found_if n bs false value rest e h =
     let parts = some_pair_parts (number_of (take n bs)) value (drop n bs) rest h in
     record { enough = ltb-false (length bs) n e; number = parts.0; left = parts.1 }
 
-pub u_at-found : (n : ℕ) (bs : List Bool) (value : ℕ) (rest : List Bool) → u_at n bs ≡ Some (value, rest) → Found n bs value rest
+pub u_at-found : (n : ℕ) (bs : List Bool) (value : ℕ) (rest : List Bool) → u_at n bs ≡ Some (value, rest)
+    → Found n bs value rest
 unfolding u_at
 u_at-found n bs value rest h = found_if n bs (nat_lt (length bs) n) value rest refl h
 
-pub u_at-only : (n : ℕ) (bs : List Bool) (value : ℕ) (rest : List Bool) → u_at n bs ≡ Some (value, rest) → (value < 2 ^ n) × (bs ≡ u_bits n value ++ rest)
+pub u_at-only : (n : ℕ) (bs : List Bool) (value : ℕ) (rest : List Bool) → u_at n bs ≡ Some (value, rest)
+    → (value < 2 ^ n) × (bs ≡ u_bits n value ++ rest)
 u_at-only n bs value rest h =
     let f = u_at-found n bs value rest h in
     let long = length-take-le n bs f.enough in
-    let small : value < 2 ^ n = subst (λ v. v < 2 ^ n) f.number (subst (λ k. number_of (take n bs) < 2 ^ k) long (number_of-below (take n bs))) in
-    let digits : u_bits n value ≡ take n bs = rw (← f.number) (ap (λ k. u_bits k (number_of (take n bs))) (sym long) ∙ u_bits-number_of (take n bs)) in
+    let small : value < 2 ^ n =
+    subst (λ v. v < 2 ^ n) f.number (subst (λ k. number_of (take n bs) < 2 ^ k) long (number_of-below (take n bs))) in
+    let digits : u_bits n value ≡ take n bs =
+    rw (← f.number) (ap (λ k. u_bits k (number_of (take n bs))) (sym long) ∙ u_bits-number_of (take n bs)) in
     (small, sym (take-append-drop n bs) ∙ ap (λ x. x ++ drop n bs) (sym digits) ∙ ap (λ x. u_bits n value ++ x) f.left)
 
 digit_same : (a b : Bool) → digit a ≡ digit b → a ≡ b
@@ -170,10 +189,14 @@ digit_same false false h = refl
 u_at-one : (b : Bool) (bs : List Bool) → u_at 1 (b ∷ bs) ≡ Some (digit b, bs)
 u_at-one b bs = u_at-front 1 (b ∷ []) bs refl ∙ ap (λ n. Some (n, bs)) (number_of-single b)
 
-pub flag_at-u_at : (flag : Bool) (bs rest : List Bool) → (flag_at bs ≡ Some (flag, rest)) ↔ (u_at 1 bs ≡ Some (digit flag, rest))
+pub flag_at-u_at : (flag : Bool) (bs rest : List Bool)
+    → (flag_at bs ≡ Some (flag, rest)) ↔ (u_at 1 bs ≡ Some (digit flag, rest))
 unfolding flag_at
-flag_at-u_at flag [] rest = (λ h. absurd (none-some _ h), λ h. absurd (none-some _ (sym (u_at-short 1 [] (omega arith)) ∙ h)))
+flag_at-u_at flag [] rest =
+    (λ h. absurd (none-some _ h), λ h. absurd (none-some _ (sym (u_at-short 1 [] (omega arith)) ∙ h)))
 flag_at-u_at flag (b ∷ bs) rest = (
-  λ h. let parts = some_pair_parts b flag bs rest h in u_at-one b bs ∙ ap (λ f. Some (digit f, bs)) parts.0 ∙ ap (λ r. Some (digit flag, r)) parts.1,
-  λ h. let parts = some_pair_parts (digit b) (digit flag) bs rest (sym (u_at-one b bs) ∙ h) in ap (λ f. Some (f, bs)) (digit_same b flag parts.0) ∙ ap (λ r. Some (flag, r)) parts.1,
+  λ h. let parts = some_pair_parts b flag bs rest h in
+      u_at-one b bs ∙ ap (λ f. Some (digit f, bs)) parts.0 ∙ ap (λ r. Some (digit flag, r)) parts.1,
+  λ h. let parts = some_pair_parts (digit b) (digit flag) bs rest (sym (u_at-one b bs) ∙ h) in
+      ap (λ f. Some (f, bs)) (digit_same b flag parts.0) ∙ ap (λ r. Some (flag, r)) parts.1,
 )

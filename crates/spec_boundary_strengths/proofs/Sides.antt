@@ -1,5 +1,6 @@
 -- Both sides of an edge.
-use Rattle.std.proofs.Common.{◌≡◌, ℕ, zero, suc, Bool, true, false, not, ◌&&◌, ◌||◌, cond, refl, ap, sym, ◌∙◌, arith, Option, Some, None, ℤ, pos, negsuc, neg_ℤ, ◌-ℤ◌, nat_le}
+use Rattle.std.proofs.Common.{◌≡◌, ℕ, zero, suc, Bool, true, false, not, ◌&&◌, ◌||◌, cond, refl, ap, sym, ◌∙◌, arith}
+use Rattle.std.proofs.Common.{Option, Some, None, ℤ, pos, negsuc, neg_ℤ, ◌-ℤ◌, nat_le}
 use Rattle.std.specs.Prelude.{◌==◌}
 use Rattle.std.specs.Int.RustNames.{unsigned_abs}
 use Rattle.std.proofs.lemmas.Int.{ints}
@@ -8,7 +9,8 @@ use Rattle.picture_buffer.specs.declared.place_motion.PlaceMotion.{PlaceMotion}
 use Rattle.picture_buffer.specs.declared.place_motion.PlaceVector.{PlaceVector}
 use Rattle.spec_boundary_strengths.specs.declared.vectors.Vectors.{Vectors}
 use Rattle.spec_boundary_strengths.specs.declared.vectors.Vectors.TheVariants.{NoVector, OneVector, TwoVectors}
-use Rattle.spec_boundary_strengths.specs.Motion.{vectors, same_picture, are_apart, differ_by_two, differ, motion_strength}
+use Rattle.spec_boundary_strengths.specs.Motion.{vectors, same_picture, are_apart, differ_by_two, differ}
+use Rattle.spec_boundary_strengths.specs.Motion.{motion_strength}
 use Rattle.spec_boundary_strengths.specs.Strengths.{strength}
 
 same_tests : (a b : Bool) → (a ≡ true → b ≡ true) → (b ≡ true → a ≡ true) → a ≡ b
@@ -61,7 +63,9 @@ picture_sym v w = equal_sym v.reference.picture w.reference.picture
 
 apart_sym : (v w : PlaceVector) → are_apart v w ≡ are_apart w v
 unfolding are_apart
-apart_sym v w = either_same _ _ _ _ (ap (nat_le 4) (gap_sym v.vector.mv.x w.vector.mv.x)) (ap (nat_le 4) (gap_sym v.vector.mv.y w.vector.mv.y))
+apart_sym v w =
+    either_same _ _ _ _ (ap (nat_le 4) (gap_sym v.vector.mv.x w.vector.mv.x))
+    (ap (nat_le 4) (gap_sym v.vector.mv.y w.vector.mv.y))
 
 apart_self : (v : PlaceVector) → are_apart v v ≡ false
 unfolding are_apart
@@ -69,7 +73,8 @@ apart_self v = either_same _ _ _ _ (ap (nat_le 4) (gap_self v.vector.mv.x)) (ap 
 
 -- the cases of two vectors on each side, by what is the same and what is apart
 abbrev cases_of : Bool → Bool → Bool → Bool → Bool → Bool
-cases_of in_order crossed same straight across = cond (not (in_order || crossed)) true (cond same (straight && across) (cond in_order straight across))
+cases_of in_order crossed same straight across =
+    cond (not (in_order || crossed)) true (cond same (straight && across) (cond in_order straight across))
 
 -- all vectors of one side point to the same picture where those of the other do
 cases_same : (in_order crossed same same' straight across : Bool) → ((in_order || crossed) ≡ true → same ≡ same')
@@ -78,7 +83,8 @@ cases_same false false same same' straight across e = refl
 cases_same false true same same' straight across e = ap (λ t. cond t (straight && across) across) (e refl)
 cases_same true crossed same same' straight across e = ap (λ t. cond t (straight && across) straight) (e refl)
 
-cases_exchanged : (o o' c c' s s' a a' b b' : Bool) → o ≡ o' → c ≡ c' → a ≡ a' → b ≡ b' → ((o' || c') ≡ true → s ≡ s') → cases_of o c s a b ≡ cases_of o' c' s' a' b'
+cases_exchanged : (o o' c c' s s' a a' b b' : Bool) → o ≡ o' → c ≡ c' → a ≡ a' → b ≡ b' → ((o' || c') ≡ true → s ≡ s')
+    → cases_of o c s a b ≡ cases_of o' c' s' a' b'
 cases_exchanged o o' c c' s s' a a' b b' eo ec ea eb es = rw (eo, ec, ea, eb) (cases_same o' c' s s' a' b' es)
 
 pictures_same : (a b c d : ℕ) → (((c == a) && (d == b)) || ((c == b) && (d == a))) ≡ true → (a == b) ≡ (c == d)
@@ -116,7 +122,8 @@ strength_sym coded None (Some q) = refl
 strength_sym coded (Some p) None = refl
 strength_sym coded (Some p) (Some q) = ap (λ (n : ℕ). cond coded 1 n) (motion_sym p q)
 
-straight_none : (crossed same across in_order straight : Bool) → in_order ≡ true → straight ≡ false → cases_of in_order crossed same straight across ≡ false
+straight_none : (crossed same across in_order straight : Bool) → in_order ≡ true → straight ≡ false
+    → cases_of in_order crossed same straight across ≡ false
 straight_none crossed true across in_order straight eo es = rw (eo, es) refl
 straight_none crossed false across in_order straight eo es = rw (eo, es) refl
 
@@ -137,7 +144,8 @@ unfolding motion_strength
 motion_self p = ap (λ (b : Bool). cond b 1 0) (differ_self (vectors p))
 
 -- the same motion on both sides, and nothing coded
-pub strength_self : (coded : Bool) (p q : Option PlaceMotion) (motion : PlaceMotion) → coded ≡ false → p ≡ Some motion → q ≡ Some motion → strength coded p q ≡ 0
+pub strength_self : (coded : Bool) (p q : Option PlaceMotion) (motion : PlaceMotion) → coded ≡ false → p ≡ Some motion
+    → q ≡ Some motion → strength coded p q ≡ 0
 unfolding strength
 strength_self coded p q motion ec ep eq = rw (ec, ep, eq) (motion_self motion)
 

@@ -1,12 +1,15 @@
 -- The boundary filtering strengths of a coding tree unit (8.7.2.4).
-use Rattle.std.specs.Prelude.{ℕ, ◌+◌, ◌-◌, ◌%◌, ◌==◌, Bool, true, false, not, ◌&&◌, ◌||◌, List, Option, Some, None, if◌then◌else◌}
+use Rattle.std.specs.Prelude.{ℕ, ◌+◌, ◌-◌, ◌%◌, ◌==◌, Bool, true, false, not, ◌&&◌, ◌||◌, List, Option, Some, None}
+use Rattle.std.specs.Prelude.{if◌then◌else◌}
 use Rattle.std.specs.List.{fold}
 use Rattle.ctu_records.specs.declared.item.Item.{Item}
-use Rattle.ctu_records.specs.declared.item.Item.TheVariants.{Unit, Luma, Chroma, Prediction, Pcm, Sample, Transform, Delta, Block, Level}
+use Rattle.ctu_records.specs.declared.item.Item.TheVariants.{Unit, Luma, Chroma, Prediction, Pcm, Sample, Transform}
+use Rattle.ctu_records.specs.declared.item.Item.TheVariants.{Delta, Block, Level}
 use Rattle.ctu_records.specs.Tree.{laid}
 use Rattle.picture_buffer.specs.declared.place_motion.PlaceMotion.{PlaceMotion}
 use Rattle.spec_boundary_strengths.specs.Motion.{motion_strength}
-use Rattle.spec_boundary_strengths.specs.Edges.{is_transform_left, is_transform_top, is_prediction_left, is_prediction_top}
+use Rattle.spec_boundary_strengths.specs.Edges.{is_transform_left, is_transform_top, is_prediction_left}
+use Rattle.spec_boundary_strengths.specs.Edges.{is_prediction_top}
 
 -- what a unit's strengths depend on, apart from what was read of it. Columns and rows of places are counted from 1 at
 -- the unit's first place: column 0 stands left of the unit, row 0 above it. The motion of a place, None where it is
@@ -59,7 +62,8 @@ is_filtered disabled side line = not disabled && (line % 2 == 0 && (if line == 0
 unfoldable pub left_strength : Beside → List Item → ℕ → ℕ → ℕ
 left_strength beside items x y =
     if is_filtered beside.disabled beside.left x && (is_transform_left items x y || is_prediction_left items x y)
-    then strength (is_transform_left items x y && (coded_around beside items x (y + 1) || coded_around beside items (x + 1) (y + 1)))
+    then strength (is_transform_left items x y
+    && (coded_around beside items x (y + 1) || coded_around beside items (x + 1) (y + 1)))
     (beside.motion x (y + 1)) (beside.motion (x + 1) (y + 1))
     else 0
 
@@ -67,6 +71,7 @@ left_strength beside items x y =
 unfoldable pub top_strength : Beside → List Item → ℕ → ℕ → ℕ
 top_strength beside items x y =
     if is_filtered beside.disabled beside.top y && (is_transform_top items x y || is_prediction_top items x y)
-    then strength (is_transform_top items x y && (coded_around beside items (x + 1) y || coded_around beside items (x + 1) (y + 1)))
+    then strength (is_transform_top items x y
+    && (coded_around beside items (x + 1) y || coded_around beside items (x + 1) (y + 1)))
     (beside.motion (x + 1) y) (beside.motion (x + 1) (y + 1))
     else 0

@@ -31,7 +31,15 @@ unfoldable pub whole_square : Square
 whole_square = record { x = 0; y = 0; log2_size = 2 }
 
 unfoldable pub skipped_unit : CodingUnit
-skipped_unit = record { square = whole_square; depth = 0; transquant_bypass = false; skipped = false; intra = false; qp_predicted = 26; qp = 26 }
+skipped_unit = record {
+  square = whole_square;
+  depth = 0;
+  transquant_bypass = false;
+  skipped = false;
+  intra = false;
+  qp_predicted = 26;
+  qp = 26;
+}
 
 unfoldable pub half : ℕ → PredictionUnit
 half part = record { unit = whole_square; part_mode = Nx2N; part = part; motion = Merge 0 }

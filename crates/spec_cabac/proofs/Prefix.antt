@@ -7,22 +7,29 @@ use Rattle.spec_cabac.specs.Bins.{State, Tree, read, unary}
 abbrev after : Tree ℕ → (ℕ → Tree Bool) → ℕ → ℕ → Bool → State → Result (ℕ × State) Breach
 after over bin i n more t = read (when more then unary over bin (i + 1) n else give i) t
 
-step : (over : Tree ℕ) (bin : ℕ → Tree Bool) (i n : ℕ) (s : State) (r : Result (Bool × State) Breach) (total : Result (ℕ × State) Breach) → i < n
+step : (over : Tree ℕ) (bin : ℕ → Tree Bool) (i n : ℕ) (s : State) (r : Result (Bool × State) Breach)
+    (total : Result (ℕ × State) Breach)
+    → i < n
     → read (bin i) s ≡ r → read (unary over bin i (n - i)) s ≡ total → bind r (after over bin i (n - (i + 1))) ≡ total
 unfolding unary
 step over bin i n s r total lt is so_far =
     let e : n - i ≡ suc (n - (i + 1)) = omega arith in
     sym (ap (λ m. read (unary over bin i m) s) e ∙ ap (λ q. bind q (after over bin i (n - (i + 1)))) is) ∙ so_far
 
-pub unary_goes_on : (over : Tree ℕ) (bin : ℕ → Tree Bool) (i n : ℕ) (s t : State) (total : Result (ℕ × State) Breach) → i < n
-    → read (bin i) s ≡ Ok (true, t) → read (unary over bin i (n - i)) s ≡ total → read (unary over bin (i + 1) (n - (i + 1))) t ≡ total
+pub unary_goes_on : (over : Tree ℕ) (bin : ℕ → Tree Bool) (i n : ℕ) (s t : State) (total : Result (ℕ × State) Breach)
+    → i < n
+    → read (bin i) s ≡ Ok (true, t) → read (unary over bin i (n - i)) s ≡ total
+    → read (unary over bin (i + 1) (n - (i + 1))) t ≡ total
 unary_goes_on over bin i n s t total lt is so_far = step over bin i n s (Ok (true, t)) total lt is so_far
 
-pub unary_stops : (over : Tree ℕ) (bin : ℕ → Tree Bool) (i n : ℕ) (s t : State) (total : Result (ℕ × State) Breach) → i < n
+pub unary_stops : (over : Tree ℕ) (bin : ℕ → Tree Bool) (i n : ℕ) (s t : State) (total : Result (ℕ × State) Breach)
+    → i < n
     → read (bin i) s ≡ Ok (false, t) → read (unary over bin i (n - i)) s ≡ total → total ≡ Ok (i, t)
 unary_stops over bin i n s t total lt is so_far = sym (step over bin i n s (Ok (false, t)) total lt is so_far)
 
-pub unary_ends : (over : Tree ℕ) (bin : ℕ → Tree Bool) (i n : ℕ) (s : State) (e : Breach) (total : Result (ℕ × State) Breach) → i < n
+pub unary_ends : (over : Tree ℕ) (bin : ℕ → Tree Bool) (i n : ℕ) (s : State) (e : Breach)
+    (total : Result (ℕ × State) Breach)
+    → i < n
     → read (bin i) s ≡ Err e → read (unary over bin i (n - i)) s ≡ total → total ≡ Err e
 unary_ends over bin i n s e total lt is so_far = sym (step over bin i n s (Err e) total lt is so_far)
 

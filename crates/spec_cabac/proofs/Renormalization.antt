@@ -41,8 +41,14 @@ pub scaled_below : (offset range more n : ℕ) → offset < range → more < 2 ^
 scaled_below offset range more n below small = grind arith
 
 -- what renormalization leaves is live, in numbers of 32 bits too
-pub renormalized_live : (range offset more n at : ℕ) (bits : List Bool) → 2 ≤ range → range ≤ 510 → offset < range → n ≡ doublings range → more < 2 ^ n
-    → IsLive (record { range = range * 2 ^ n % 4294967296; offset = offset * 2 ^ n % 4294967296 + more; bits = bits; at = at })
+pub renormalized_live : (range offset more n at : ℕ) (bits : List Bool) → 2 ≤ range → range ≤ 510 → offset < range
+    → n ≡ doublings range → more < 2 ^ n
+    → IsLive (record {
+      range = range * 2 ^ n % 4294967296;
+      offset = offset * 2 ^ n % 4294967296 + more;
+      bits = bits;
+      at = at;
+    })
 renormalized_live range offset more n at bits low high below is small =
     let d : Doubled range = Doubled-range range low high in
     let least : 256 ≤ range * 2 ^ n = rw is d.low in
@@ -60,8 +66,10 @@ leading_all : list_all leading_ok (range_with_len 0 509) ≡ true
 unfolding doublings count_leading_zeros
 leading_all = refl
 
-pub leading_zeros-doublings : (range : ℕ) → 2 ≤ range → range ≤ 510 → count_leading_zeros 32 range ≡ doublings range + 23
+pub leading_zeros-doublings : (range : ℕ) → 2 ≤ range → range ≤ 510
+    → count_leading_zeros 32 range ≡ doublings range + 23
 leading_zeros-doublings range low high =
     let inside : range - 2 < 509 = omega arith in
     let is : range - 2 + 2 ≡ range = omega arith in
-    subst (λ (r : ℕ). count_leading_zeros 32 r ≡ doublings r + 23) is (eqb-true _ _ (tested leading_ok 509 leading_all (range - 2) inside))
+    subst (λ (r : ℕ). count_leading_zeros 32 r ≡ doublings r + 23) is
+    (eqb-true _ _ (tested leading_ok 509 leading_all (range - 2) inside))

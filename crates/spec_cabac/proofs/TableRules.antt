@@ -1,5 +1,6 @@
 -- What holds of each entry of the tables.
-use Rattle.std.proofs.Common.{◌≡◌, ℕ, ◌+◌, ◌-◌, ◌*◌, ◌/◌, ◌%◌, ◌<◌, ◌≤◌, Bool, true, length, get_or, min, max, refl, subst, ◌∙◌, zero-add, arith}
+use Rattle.std.proofs.Common.{◌≡◌, ℕ, ◌+◌, ◌-◌, ◌*◌, ◌/◌, ◌%◌, ◌<◌, ◌≤◌, Bool, true, length, get_or, min, max, refl}
+use Rattle.std.proofs.Common.{subst, ◌∙◌, zero-add, arith}
 use Rattle.std.specs.Prelude.{slice_index, nat_le, nat_eq}
 use Rattle.std.specs.List.{list_all, range_with_len}
 use Rattle.std.proofs.lemmas.Bool.{leb-true, eqb-true}
@@ -45,11 +46,15 @@ mps_below_all = refl
 
 pub state_after_lps_bound : (state : ℕ) → state < 63 → state_after_lps state < 63
 unfolding state_after_lps
-state_after_lps_bound state h = let le = leb-true _ _ (tested (λ i. nat_le (slice_index TRANS_IDX_LPS i) 62) 63 lps_below_all state h) in omega arith
+state_after_lps_bound state h =
+    let le = leb-true _ _ (tested (λ i. nat_le (slice_index TRANS_IDX_LPS i) 62) 63 lps_below_all state h) in
+    omega arith
 
 pub state_after_mps_bound : (state : ℕ) → state < 63 → state_after_mps state < 63
 unfolding state_after_mps
-state_after_mps_bound state h = let le = leb-true _ _ (tested (λ i. nat_le (slice_index TRANS_IDX_MPS i) 62) 63 mps_below_all state h) in omega arith
+state_after_mps_bound state h =
+    let le = leb-true _ _ (tested (λ i. nat_le (slice_index TRANS_IDX_MPS i) 62) 63 mps_below_all state h) in
+    omega arith
 
 -- preCtxState in numbers without a sign, as the code computes it
 abbrev pub unsigned_pre_state : ℕ → ℕ → ℕ
@@ -63,19 +68,27 @@ same_pre_state_all : list_all same_pre_state (range_with_len 0 13312) ≡ true
 unfolding pre_context_state
 same_pre_state_all = refl
 
-pub unsigned_pre_state-is : (qp init_value : ℕ) → qp ≤ 51 → init_value < 256 → unsigned_pre_state qp init_value ≡ pre_context_state qp init_value
+pub unsigned_pre_state-is : (qp init_value : ℕ) → qp ≤ 51 → init_value < 256
+    → unsigned_pre_state qp init_value ≡ pre_context_state qp init_value
 unsigned_pre_state-is qp init_value low small =
     let inside : 256 * qp + init_value < 13312 = omega arith in
     let d : (256 * qp + init_value) / 256 ≡ qp = omega arith in
     let m : (256 * qp + init_value) % 256 ≡ init_value = omega arith in
     let e = eqb-true _ _ (tested same_pre_state 13312 same_pre_state_all (256 * qp + init_value) inside) in
     subst (λ (i : ℕ). unsigned_pre_state i init_value ≡ pre_context_state i init_value) d
-    (subst (λ (i : ℕ). unsigned_pre_state ((256 * qp + init_value) / 256) i ≡ pre_context_state ((256 * qp + init_value) / 256) i) m e)
+    (subst (λ (i : ℕ). unsigned_pre_state ((256 * qp + init_value) / 256) i
+    ≡ pre_context_state ((256 * qp + init_value) / 256) i)
+    m e)
 
-falls_all : list_all (λ i. nat_le (slice_index RANGE_TAB_LPS (i + 4)) (slice_index RANGE_TAB_LPS i)) (range_with_len 0 248) ≡ true
+falls_all : list_all (λ i. nat_le (slice_index RANGE_TAB_LPS (i + 4)) (slice_index RANGE_TAB_LPS i))
+    (range_with_len 0 248)
+    ≡ true
 falls_all = refl
 
-grows_all : list_all (λ i. nat_le (slice_index RANGE_TAB_LPS (4 * (i / 3) + i % 3)) (slice_index RANGE_TAB_LPS (4 * (i / 3) + (i % 3 + 1)))) (range_with_len 0 189) ≡ true
+grows_all : list_all (λ i. nat_le (slice_index RANGE_TAB_LPS (4 * (i / 3) + i % 3))
+    (slice_index RANGE_TAB_LPS (4 * (i / 3) + (i % 3 + 1))))
+    (range_with_len 0 189)
+    ≡ true
 grows_all = refl
 
 lowers_all : list_all (λ i. nat_le (slice_index TRANS_IDX_LPS i) i) (range_with_len 0 63) ≡ true
@@ -84,21 +97,32 @@ lowers_all = refl
 raises_all : list_all (λ i. nat_eq (slice_index TRANS_IDX_MPS i) (min (i + 1) 62)) (range_with_len 0 63) ≡ true
 raises_all = refl
 
-pub range_falls : (state q : ℕ) → state < 62 → q < 4 → slice_index RANGE_TAB_LPS (4 * (state + 1) + q) ≤ slice_index RANGE_TAB_LPS (4 * state + q)
+pub range_falls : (state q : ℕ) → state < 62 → q < 4
+    → slice_index RANGE_TAB_LPS (4 * (state + 1) + q) ≤ slice_index RANGE_TAB_LPS (4 * state + q)
 range_falls state q low small =
     let at : 4 * (state + 1) + q ≡ 4 * state + q + 4 = omega arith in
-    rw at (leb-true _ _ (tested (λ i. nat_le (slice_index RANGE_TAB_LPS (i + 4)) (slice_index RANGE_TAB_LPS i)) 248 falls_all (4 * state + q) (omega arith)))
+    rw at (leb-true _ _
+    (tested (λ i. nat_le (slice_index RANGE_TAB_LPS (i + 4)) (slice_index RANGE_TAB_LPS i)) 248 falls_all
+    (4 * state + q) (omega arith)))
 
-pub range_grows : (state q : ℕ) → state < 63 → q < 3 → slice_index RANGE_TAB_LPS (4 * state + q) ≤ slice_index RANGE_TAB_LPS (4 * state + (q + 1))
+pub range_grows : (state q : ℕ) → state < 63 → q < 3
+    → slice_index RANGE_TAB_LPS (4 * state + q) ≤ slice_index RANGE_TAB_LPS (4 * state + (q + 1))
 range_grows state q low small =
     let d : (3 * state + q) / 3 ≡ state = omega arith in
     let m : (3 * state + q) % 3 ≡ q = omega arith in
-    let all = leb-true _ _ (tested (λ i. nat_le (slice_index RANGE_TAB_LPS (4 * (i / 3) + i % 3)) (slice_index RANGE_TAB_LPS (4 * (i / 3) + (i % 3 + 1)))) 189 grows_all (3 * state + q) (omega arith)) in
+    let all =
+    leb-true _ _
+    (tested (λ i. nat_le (slice_index RANGE_TAB_LPS (4 * (i / 3) + i % 3))
+    (slice_index RANGE_TAB_LPS (4 * (i / 3) + (i % 3 + 1))))
+    189 grows_all (3 * state + q) (omega arith)) in
     subst (λ (k : ℕ). slice_index RANGE_TAB_LPS (4 * k + q) ≤ slice_index RANGE_TAB_LPS (4 * k + (q + 1))) d
-    (subst (λ (k : ℕ). slice_index RANGE_TAB_LPS (4 * ((3 * state + q) / 3) + k) ≤ slice_index RANGE_TAB_LPS (4 * ((3 * state + q) / 3) + (k + 1))) m all)
+    (subst (λ (k : ℕ). slice_index RANGE_TAB_LPS (4 * ((3 * state + q) / 3) + k)
+    ≤ slice_index RANGE_TAB_LPS (4 * ((3 * state + q) / 3) + (k + 1)))
+    m all)
 
 pub lps_lowers : (state : ℕ) → state < 63 → slice_index TRANS_IDX_LPS state ≤ state
 lps_lowers state h = leb-true _ _ (tested (λ i. nat_le (slice_index TRANS_IDX_LPS i) i) 63 lowers_all state h)
 
 pub mps_raises : (state : ℕ) → state < 63 → slice_index TRANS_IDX_MPS state ≡ min (state + 1) 62
-mps_raises state h = eqb-true _ _ (tested (λ i. nat_eq (slice_index TRANS_IDX_MPS i) (min (i + 1) 62)) 63 raises_all state h)
+mps_raises state h =
+    eqb-true _ _ (tested (λ i. nat_eq (slice_index TRANS_IDX_MPS i) (min (i + 1) 62)) 63 raises_all state h)

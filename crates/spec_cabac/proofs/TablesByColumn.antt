@@ -1,10 +1,12 @@
 -- The tables against the same tables laid out the other way, by computing both.
-use Rattle.std.proofs.Common.{◌≡◌, ℕ, ◌+◌, ◌-◌, ◌*◌, ◌/◌, ◌%◌, ◌<◌, ◌≤◌, Bool, true, [], get_or, map, refl, subst, arith}
+use Rattle.std.proofs.Common.{◌≡◌, ℕ, ◌+◌, ◌-◌, ◌*◌, ◌/◌, ◌%◌, ◌<◌, ◌≤◌, Bool, true, [], get_or, map, refl, subst}
+use Rattle.std.proofs.Common.{arith}
 use Rattle.std.specs.Prelude.{slice_index, nat_eq}
 use Rattle.std.specs.List.{list_all, range_with_len}
 use Rattle.std.proofs.lemmas.Bool.{eqb-true}
 use Rattle.spec_cabac.specs.Contexts.{lps_range_of, state_after_lps, state_after_mps}
-use Rattle.spec_cabac.specs.TablesByColumn.{all_init_values, bases_from, elements, init_values_at, next_states, ranges_by_index}
+use Rattle.spec_cabac.specs.TablesByColumn.{all_init_values, bases_from, elements, init_values_at, next_states}
+use Rattle.spec_cabac.specs.TablesByColumn.{ranges_by_index}
 use Rattle.spec_cabac.specs.declared.tables.TheConstants.{RANGE_TAB_LPS}
 use Rattle.spec_cabac.proofs.TableRules.{tested}
 
@@ -23,8 +25,12 @@ ranges state range h low high =
     let m : (4 * state + range / 64 % 4) % 4 ≡ (range - 256) / 64 = omega arith in
     let d : (4 * state + range / 64 % 4) / 4 ≡ state = omega arith in
     let same = eqb-true _ _ (tested same_range 256 same_range_all (4 * state + range / 64 % 4) (omega arith)) in
-    subst (λ (k : ℕ). slice_index RANGE_TAB_LPS (4 * state + range / 64 % 4) ≡ slice_index (get_or ranges_by_index k []) state) m
-    (subst (λ (k : ℕ). slice_index RANGE_TAB_LPS (4 * state + range / 64 % 4) ≡ slice_index (get_or ranges_by_index ((4 * state + range / 64 % 4) % 4) []) k) d same)
+    subst (λ (k : ℕ). slice_index RANGE_TAB_LPS (4 * state + range / 64 % 4)
+    ≡ slice_index (get_or ranges_by_index k []) state)
+    m
+    (subst (λ (k : ℕ). slice_index RANGE_TAB_LPS (4 * state + range / 64 % 4)
+    ≡ slice_index (get_or ranges_by_index ((4 * state + range / 64 % 4) % 4) []) k)
+    d same)
 
 pub states : map (λ state. (state_after_lps state, state_after_mps state)) (range_with_len 0 64) ≡ next_states
 unfolding state_after_lps state_after_mps next_states

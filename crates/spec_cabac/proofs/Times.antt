@@ -16,14 +16,19 @@ module _ {X : Type 0} where
       let e : n ≡ suc (n - 1) = omega arith in
       ap (λ k. read (times i k step x) s) e
 
-  pub times_goes_on : (step : ℕ → X → Tree X) (i n : ℕ) (x y : X) (s t : State) (total : Result (X × State) Breach) → i < n
-      → read (step i x) s ≡ Ok (y, t) → read (times i (n - i) step x) s ≡ total → read (times (i + 1) (n - (i + 1)) step y) t ≡ total
+  pub times_goes_on : (step : ℕ → X → Tree X) (i n : ℕ) (x y : X) (s t : State) (total : Result (X × State) Breach)
+      → i < n
+      → read (step i x) s ≡ Ok (y, t) → read (times i (n - i) step x) s ≡ total
+      → read (times (i + 1) (n - (i + 1)) step y) t ≡ total
   times_goes_on step i n x y s t total lt is so_far =
       let k : n - i - 1 ≡ n - (i + 1) = omega arith in
       let go = λ (r : Result (X × State) Breach). bind r (λ z u. read (times (i + 1) (n - i - 1) step z) u) in
-      sym (times_some i (n - i) step x s (omega arith) ∙ ap go is ∙ ap (λ m. read (times (i + 1) m step y) t) k) ∙ so_far
+      sym (times_some i (n - i) step x s (omega arith) ∙ ap go is ∙ ap (λ m. read (times (i + 1) m step y) t) k)
+      ∙ so_far
 
-  pub times_ends : (step : ℕ → X → Tree X) (i n : ℕ) (x : X) (s : State) (e : Breach) (total : Result (X × State) Breach) → i < n
+  pub times_ends : (step : ℕ → X → Tree X) (i n : ℕ) (x : X) (s : State) (e : Breach)
+      (total : Result (X × State) Breach)
+      → i < n
       → read (step i x) s ≡ Err e → read (times i (n - i) step x) s ≡ total → total ≡ Err e
   times_ends step i n x s e total lt is so_far =
       let go = λ (r : Result (X × State) Breach). bind r (λ z u. read (times (i + 1) (n - i - 1) step z) u) in

@@ -1,5 +1,6 @@
 -- Contexts: their first values, and how a bin changes them. A context is 2 * pStateIdx + valMps.
-use Rattle.std.specs.Prelude.{ℕ, ◌+◌, ◌-◌, ◌*◌, ◌/◌, ◌%◌, ◌==◌, nat_le, if◌then◌else◌, slice_index, get_or, List, [], map, ℤ, pos, ◌+ℤ◌, ◌-ℤ◌, ◌*ℤ◌}
+use Rattle.std.specs.Prelude.{ℕ, ◌+◌, ◌-◌, ◌*◌, ◌/◌, ◌%◌, ◌==◌, nat_le, if◌then◌else◌, slice_index, get_or, List, []}
+use Rattle.std.specs.Prelude.{map, ℤ, pos, ◌+ℤ◌, ◌-ℤ◌, ◌*ℤ◌}
 use Rattle.std.specs.Int.{int_shr, int_max, int_min}
 use Rattle.std.specs.List.{range_with_len}
 use lib.Signed.{mag}

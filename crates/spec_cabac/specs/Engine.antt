@@ -1,5 +1,6 @@
 -- The arithmetic decoding engine, one bit at a time (9.3.2.5, 9.3.4.3).
-use Rattle.std.specs.Prelude.{ℕ, ◌+◌, ◌-◌, ◌*◌, ◌/◌, ◌%◌, ◌^◌, ◌<◌, ◌≤◌, ◌==◌, Bool, true, false, not, ◌&&◌, List, [], ◌∷◌, length, drop, Option, Some, None, nat_lt, nat_le, min, count_by, if◌then◌else◌}
+use Rattle.std.specs.Prelude.{ℕ, ◌+◌, ◌-◌, ◌*◌, ◌/◌, ◌%◌, ◌^◌, ◌<◌, ◌≤◌, ◌==◌, Bool, true, false, not, ◌&&◌, List, []}
+use Rattle.std.specs.Prelude.{◌∷◌, length, drop, Option, Some, None, nat_lt, nat_le, min, count_by, if◌then◌else◌}
 use Rattle.std.specs.List.{list_all}
 use Rattle.spec_bits.specs.Bits.{u_at, ◌>>=◌}
 use Rattle.spec_cabac.specs.Contexts.{lps_range_of, context_after_lps, context_after_mps}
@@ -46,7 +47,12 @@ doublings range = count_by (λ t. nat_lt range t) (256 ∷ 128 ∷ 64 ∷ 32 ∷
 unfoldable pub renormalized_at : ℕ → ℕ → Engine → Option Engine
 renormalized_at range offset e = do
   more ← number_at (doublings range) e
-  Some (record { range = range * 2 ^ doublings range; offset = offset * 2 ^ doublings range + more.0; bits = more.1.bits; at = more.1.at })
+  Some (record {
+    range = range * 2 ^ doublings range;
+    offset = offset * 2 ^ doublings range + more.0;
+    bits = more.1.bits;
+    at = more.1.at;
+  })
 
 -- a decision: the bin, the engine and the context after it (9.3.4.3.2)
 unfoldable pub decision_at : Engine × ℕ → Option (Bool × (Engine × ℕ))

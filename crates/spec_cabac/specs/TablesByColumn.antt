@@ -1,7 +1,18 @@
 -- The tables of arithmetic decoding a second time, laid out the other way: the ranges column by column, both next
 -- states of each state side by side, and initValue of each context for all three initTypes, element by element.
 use Rattle.std.specs.Prelude.{ℕ, ◌+◌, List, [], ◌∷◌, ◌++◌, length, get_or, slice_index}
-use Rattle.spec_cabac.specs.declared.init_values.TheConstants.{ABS_MVD_GREATER0_FLAG, ABS_MVD_GREATER1_FLAG, CBF_CHROMA, CBF_LUMA, CODED_SUB_BLOCK_FLAG, COEFF_ABS_LEVEL_GREATER1_FLAG, COEFF_ABS_LEVEL_GREATER2_FLAG, CU_QP_DELTA_ABS, CU_SKIP_FLAG, CU_TRANSQUANT_BYPASS_FLAG, INIT_VALUES, INTER_PRED_IDC, INTRA_CHROMA_PRED_MODE, LAST_SIG_COEFF_X_PREFIX, LAST_SIG_COEFF_Y_PREFIX, MERGE_FLAG, MERGE_IDX, MVP_FLAG, PART_MODE, PRED_MODE_FLAG, PREV_INTRA_LUMA_PRED_FLAG, REF_IDX, RQT_ROOT_CBF, SAO_MERGE_FLAG, SAO_TYPE_IDX, SIG_COEFF_FLAG, SPLIT_CU_FLAG, SPLIT_TRANSFORM_FLAG, TRANSFORM_SKIP_FLAG}
+use Rattle.spec_cabac.specs.declared.init_values.TheConstants.{ABS_MVD_GREATER0_FLAG, ABS_MVD_GREATER1_FLAG, CBF_CHROMA}
+use Rattle.spec_cabac.specs.declared.init_values.TheConstants.{CBF_LUMA, CODED_SUB_BLOCK_FLAG}
+use Rattle.spec_cabac.specs.declared.init_values.TheConstants.{COEFF_ABS_LEVEL_GREATER1_FLAG}
+use Rattle.spec_cabac.specs.declared.init_values.TheConstants.{COEFF_ABS_LEVEL_GREATER2_FLAG, CU_QP_DELTA_ABS}
+use Rattle.spec_cabac.specs.declared.init_values.TheConstants.{CU_SKIP_FLAG, CU_TRANSQUANT_BYPASS_FLAG, INIT_VALUES}
+use Rattle.spec_cabac.specs.declared.init_values.TheConstants.{INTER_PRED_IDC, INTRA_CHROMA_PRED_MODE}
+use Rattle.spec_cabac.specs.declared.init_values.TheConstants.{LAST_SIG_COEFF_X_PREFIX, LAST_SIG_COEFF_Y_PREFIX}
+use Rattle.spec_cabac.specs.declared.init_values.TheConstants.{MERGE_FLAG, MERGE_IDX, MVP_FLAG, PART_MODE}
+use Rattle.spec_cabac.specs.declared.init_values.TheConstants.{PRED_MODE_FLAG, PREV_INTRA_LUMA_PRED_FLAG, REF_IDX}
+use Rattle.spec_cabac.specs.declared.init_values.TheConstants.{RQT_ROOT_CBF, SAO_MERGE_FLAG, SAO_TYPE_IDX}
+use Rattle.spec_cabac.specs.declared.init_values.TheConstants.{SIG_COEFF_FLAG, SPLIT_CU_FLAG, SPLIT_TRANSFORM_FLAG}
+use Rattle.spec_cabac.specs.declared.init_values.TheConstants.{TRANSFORM_SKIP_FLAG}
 
 -- rangeTabLps where qRangeIdx is 0: the ranges of all pStateIdx (9.3.4.3.2)
 abbrev ranges_0 : List ℕ
@@ -111,8 +122,11 @@ elements =
 
 -- initValue of a context for initType 0, 1 and 2
 abbrev pub init_values_at : ℕ → ℕ × ℕ × ℕ
-init_values_at i =
-    (slice_index (get_or INIT_VALUES 0 []) i, slice_index (get_or INIT_VALUES 1 []) i, slice_index (get_or INIT_VALUES 2 []) i)
+init_values_at i = (
+  slice_index (get_or INIT_VALUES 0 []) i,
+  slice_index (get_or INIT_VALUES 1 []) i,
+  slice_index (get_or INIT_VALUES 2 []) i,
+)
 
 -- initValue of all contexts, one element's behind the other's
 abbrev pub all_init_values : List ElementContexts → List (ℕ × ℕ × ℕ)

@@ -6,7 +6,8 @@ ghost use Rattle.hv_base.specs.declared.breach.Breach.{Breach};
 ghost use Rattle.spec_formats.specs.Format.{One, IsSpelledAs, IsReadAgain};
 ghost use Rattle.spec_cabac.specs.Bins.{Bin, bin_at, exp_golomb, fixed};
 ghost use Rattle.spec_cabac.specs.Contexts.{lps_range_of, state_after_lps, state_after_mps};
-ghost use Rattle.spec_cabac.specs.TablesByColumn.{all_init_values, bases_from, elements, init_values_at, next_states, ranges_by_index};
+ghost use Rattle.spec_cabac.specs.TablesByColumn.{all_init_values, bases_from, elements, init_values_at, next_states};
+ghost use Rattle.spec_cabac.specs.TablesByColumn.{ranges_by_index};
 
 /// A bin that is read is spelled by the word that the data have, and what such words spell or wrote is read.
 pub fn bins_are_spelled()

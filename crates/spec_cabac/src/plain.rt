@@ -2,7 +2,8 @@
 
 ghost use Rattle.std.specs.Prelude.{◌≡◌, ◌+◌, ◌*◌, ◌^◌, ◌<◌, ◌≤◌, length, IfSome, OnSome, false};
 ghost use Rattle.spec_bits.specs.Bits.{Finds};
-ghost use Rattle.spec_cabac.specs.Engine.{IsLive, left, number_at, start_at, doublings, renormalized_at, decision_at, bypass_at, terminate_at};
+ghost use Rattle.spec_cabac.specs.Engine.{IsLive, left, number_at, start_at, doublings, renormalized_at, decision_at};
+ghost use Rattle.spec_cabac.specs.Engine.{bypass_at, terminate_at};
 ghost use Rattle.spec_cabac.specs.Plain.{engine_of};
 
 use crate::context::{after_lps, after_mps};

@@ -82,8 +82,10 @@ pub fn next_state_mps(state: u32) -> u32
 /// doesn't fall with the range, a less probable symbol doesn't raise the state, and a more probable one raises it by
 /// one, up to 62.
 pub fn tables_keep_their_order()
-    ensures falls { (state q : ℕ) → state < 62 → q < 4 → slice_index RANGE_TAB_LPS (4 * (state + 1) + q) ≤ slice_index RANGE_TAB_LPS (4 * state + q) }
-    ensures grows { (state q : ℕ) → state < 63 → q < 3 → slice_index RANGE_TAB_LPS (4 * state + q) ≤ slice_index RANGE_TAB_LPS (4 * state + (q + 1)) }
+    ensures falls { (state q : ℕ) → state < 62 → q < 4
+        → slice_index RANGE_TAB_LPS (4 * (state + 1) + q) ≤ slice_index RANGE_TAB_LPS (4 * state + q) }
+    ensures grows { (state q : ℕ) → state < 63 → q < 3
+        → slice_index RANGE_TAB_LPS (4 * state + q) ≤ slice_index RANGE_TAB_LPS (4 * state + (q + 1)) }
     ensures lps { (state : ℕ) → state < 63 → slice_index TRANS_IDX_LPS state ≤ state }
     ensures mps { (state : ℕ) → state < 63 → slice_index TRANS_IDX_MPS state ≡ min (state + 1) 62 }
 {}

@@ -41,7 +41,8 @@ luma_filter beta tc first last =
     if nat_lt (bends first + bends last) beta
     then (if is_flat beta tc first && is_flat beta tc last
     then Strong
-    else Normal (nat_lt (bend_before first + bend_before last) (side_bound beta)) (nat_lt (bend_behind first + bend_behind last) (side_bound beta)))
+    else Normal (nat_lt (bend_before first + bend_before last) (side_bound beta))
+    (nat_lt (bend_behind first + bend_behind last) (side_bound beta)))
     else Off
 
 -- how the lines of an edge are filtered, from the places on both sides and the first and the last of the lines

@@ -17,4 +17,9 @@ across samples x y = record {
 
 -- the sample of a line at a place, counted from p3 on
 abbrev pub nth : Line → ℕ → ℕ
-nth line k = if k == 0 then line.p3 else (if k == 1 then line.p2 else (if k == 2 then line.p1 else (if k == 3 then line.p0 else (if k == 4 then line.q0 else (if k == 5 then line.q1 else (if k == 6 then line.q2 else line.q3))))))
+nth line k =
+    if k == 0 then line.p3
+    else (if k == 1 then line.p2
+    else (if k == 2 then line.p1
+    else (if k == 3 then line.p0
+    else (if k == 4 then line.q0 else (if k == 5 then line.q1 else (if k == 6 then line.q2 else line.q3))))))

@@ -17,7 +17,8 @@ filtered_line plane depth places samples e y =
     let q : Place = place_behind plane places e y in
     let first : ℕ = side plane * (y / side plane) in
     let last : ℕ = first + (side plane - 1) in
-    filtered (edge_filter plane depth p q (across samples (8 * e - 4) first) (across samples (8 * e - 4) last)) (2 ^ depth - 1) (tc plane depth p q) (across samples (8 * e - 4) y)
+    filtered (edge_filter plane depth p q (across samples (8 * e - 4) first) (across samples (8 * e - 4) last))
+    (2 ^ depth - 1) (tc plane depth p q) (across samples (8 * e - 4) y)
 
 -- sample k of line y across that edge; the samples of a side that is kept stay
 unfoldable pub edge_sample : Plane → ℕ → (ℕ → ℕ → Place) → (ℕ → ℕ → ℕ) → ℕ → ℕ → ℕ → ℕ

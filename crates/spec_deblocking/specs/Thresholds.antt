@@ -31,7 +31,8 @@ abbrev pub beta_index : Place → Place → ℕ
 beta_index p q = clipped 51 (mean_qp p q +ℤ pos 2 *ℤ q.slice_beta_offset_div2)
 
 abbrev pub tc_index : Plane → Place → Place → ℕ
-tc_index plane p q = clipped 53 (edge_qp plane p q +ℤ pos 2 *ℤ (pos q.left_strength -ℤ pos 1) +ℤ pos 2 *ℤ q.slice_tc_offset_div2)
+tc_index plane p q =
+    clipped 53 (edge_qp plane p q +ℤ pos 2 *ℤ (pos q.left_strength -ℤ pos 1) +ℤ pos 2 *ℤ q.slice_tc_offset_div2)
 
 -- the bound on how far the lines of an edge are from straight, at a bit depth
 unfoldable pub beta : ℕ → Place → Place → ℕ

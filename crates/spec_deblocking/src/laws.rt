@@ -13,13 +13,16 @@ ghost use Rattle.spec_deblocking.specs.Step.{step_place, step_sample, smoothed};
 /// filtered, and before horizontal edges are on four lines on each side of it too, where the plane has them. Of places
 /// it depends on those of its own lines, and for horizontal edges on those beside them too.
 pub fn rows_read_their_lines_and_four_beside()
-    ensures vertical { (plane : Plane) (depth width : ℕ) (places others : ℕ → ℕ → Place) (samples other : ℕ → ℕ → ℕ) (top lines x y : ℕ)
+    ensures vertical { (plane : Plane) (depth width : ℕ) (places others : ℕ → ℕ → Place) (samples other : ℕ → ℕ → ℕ)
+        (top lines x y : ℕ)
         → width % 4 ≡ 0 → top % 8 ≡ 0 → lines % 4 ≡ 0 → x < width → top ≤ y → y < top + lines
         → ((i s : ℕ) → top ≤ side plane * s → side plane * s < top + lines → places i s ≡ others i s)
         → ((i j : ℕ) → i < width → top ≤ j → j < top + lines → samples i j ≡ other i j)
         → vertical plane depth width places samples x y ≡ vertical plane depth width others other x y }
-    ensures horizontal { (plane : Plane) (depth width height : ℕ) (places others : ℕ → ℕ → Place) (samples other : ℕ → ℕ → ℕ) (top lines x y : ℕ)
-        → width % 4 ≡ 0 → height % 4 ≡ 0 → top % 8 ≡ 0 → lines % 4 ≡ 0 → x < width → y < height → top ≤ y → y < top + lines
+    ensures horizontal { (plane : Plane) (depth width height : ℕ) (places others : ℕ → ℕ → Place)
+        (samples other : ℕ → ℕ → ℕ) (top lines x y : ℕ)
+        → width % 4 ≡ 0 → height % 4 ≡ 0 → top % 8 ≡ 0 → lines % 4 ≡ 0 → x < width → y < height → top ≤ y
+        → y < top + lines
         → ((i s : ℕ) → top ≤ side plane * s + side plane → side plane * s ≤ top + lines → places i s ≡ others i s)
         → ((i j : ℕ) → i < width → j < height → top ≤ j + 4 → j < top + lines + 4 → samples i j ≡ other i j)
         → horizontal plane depth height places samples x y ≡ horizontal plane depth height others other x y }

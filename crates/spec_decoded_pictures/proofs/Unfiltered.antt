@@ -10,7 +10,8 @@ use Rattle.spec_picture_samples.specs.Border.{has_sample}
 use Rattle.spec_picture_samples.specs.Built.{units_built}
 use Rattle.spec_picture_samples.specs.References.{DecodedPicture, motions_of}
 
-pub as_built : (buffer : List DecodedPicture) (p : PicturePlan) (units : List TreeUnit) (c x y : ℕ) → AreDisabled p.segments → All HasNoOffset units → has_sample (picture_shape p.sps p.pps) c x y ≡ true
+pub as_built : (buffer : List DecodedPicture) (p : PicturePlan) (units : List TreeUnit) (c x y : ℕ)
+    → AreDisabled p.segments → All HasNoOffset units → has_sample (picture_shape p.sps p.pps) c x y ≡ true
     → (units_decoded buffer p units).samples c x y ≡ (units_built buffer p units).samples c x y
 unfolding decoded_by samples_filtered
 as_built buffer p units c x y disabled none inside =

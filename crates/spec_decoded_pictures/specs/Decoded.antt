@@ -28,7 +28,8 @@ abbrev pub units_decoded : List DecodedPicture → PicturePlan → List TreeUnit
 units_decoded buffer p units = decoded_by p (units_built buffer p units) (units_filtered (motions_of buffer) p units)
 
 -- by how reading it ended
-abbrev pub reading_decoded : List DecodedPicture → PicturePlan → Result Progress Halt → Result DecodedPicture PictureBroken
+abbrev pub reading_decoded : List DecodedPicture → PicturePlan → Result Progress Halt
+    → Result DecodedPicture PictureBroken
 reading_decoded buffer p (Ok progress) = Ok (units_decoded buffer p progress.given)
 reading_decoded buffer p (Err halt) = Err halt.broken
 

@@ -12,5 +12,7 @@ ghost use Rattle.spec_picture_samples.specs.References.{DecodedPicture};
 
 /// A picture of which each slice is without deblocking, and each unit without offsets, has the samples that were built.
 pub fn pictures_without_filters_are_as_built()
-    ensures { (buffer : List DecodedPicture) (p : PicturePlan) (units : List TreeUnit) (c x y : ℕ) → AreDisabled p.segments → All HasNoOffset units → has_sample (picture_shape p.sps p.pps) c x y ≡ true → (units_decoded buffer p units).samples c x y ≡ (units_built buffer p units).samples c x y }
+    ensures { (buffer : List DecodedPicture) (p : PicturePlan) (units : List TreeUnit) (c x y : ℕ)
+        → AreDisabled p.segments → All HasNoOffset units → has_sample (picture_shape p.sps p.pps) c x y ≡ true
+        → (units_decoded buffer p units).samples c x y ≡ (units_built buffer p units).samples c x y }
 {}

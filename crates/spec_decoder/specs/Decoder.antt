@@ -1,5 +1,6 @@
 -- The sequential decoder, as a function of the bytes.
-use Rattle.std.specs.Prelude.{◌≡◌, ℕ, suc, Bool, List, [], ◌∷◌, ◌++◌, slice_get, Option, Some, None, Result, Ok, Err, ◌==◌, if◌then◌else◌}
+use Rattle.std.specs.Prelude.{◌≡◌, ℕ, suc, Bool, List, [], ◌∷◌, ◌++◌, slice_get, Option, Some, None, Result, Ok, Err}
+use Rattle.std.specs.Prelude.{◌==◌, if◌then◌else◌}
 use Rattle.std.specs.List.{concat, list_any}
 use Rattle.hv_base.specs.declared.refusal.Stop.{Stop}
 use Rattle.hv_base.specs.Stops.{stopped_at}
@@ -64,7 +65,8 @@ abbrev pub behind_picture : PicturePlan → (List DecodedPicture → Decoded) �
 behind_picture p next buffer = put_out (out_at buffer p.outputs.behind) (next (kept_from p.outputs.kept 0 buffer))
 
 -- a decoded picture stands behind the last of the buffer; where it couldn't be decoded, that ends decoding
-abbrev pub entered : PicturePlan → (List DecodedPicture → Decoded) → List DecodedPicture → Result DecodedPicture Stop → Decoded
+abbrev pub entered : PicturePlan → (List DecodedPicture → Decoded) → List DecodedPicture → Result DecodedPicture Stop
+    → Decoded
 entered p next buffer (Err s) = ended (Some s)
 entered p next buffer (Ok picture) = behind_picture p next (buffer ++ picture ∷ [])
 

@@ -11,7 +11,8 @@ use Rattle.spec_bits.proofs.Digits.{u_at-only, u_at-u_bits}
 use Rattle.spec_bits.proofs.Codes.{ue_at-only, ue_at-ue_bits}
 use Rattle.spec_bits.proofs.Signed.{se_at-only, se_at-se_bits}
 use Rattle.spec_formats.specs.Format.{Give, Refuse, One, Then, bind}
-use Rattle.spec_formats.specs.Fields.{Field, U, Flag, Ue, Se, UeTo, SeWithin, Within, field_at, Header, read, whole, judged, is_within}
+use Rattle.spec_formats.specs.Fields.{Field, U, Flag, Ue, Se, UeTo, SeWithin, Within, field_at, Header, read, whole}
+use Rattle.spec_formats.specs.Fields.{judged, is_within}
 use Rattle.spec_formats.specs.Locality.{Reading, HasFront, IsLocal}
 
 -- what a reading gave is one thing
@@ -23,13 +24,15 @@ ok_parts : {X : Type 0} (x y : X) (r : Result X Breach) → r ≡ Ok x → r ≡
 ok_parts x y r is e = ap (given x) (sym is ∙ e)
 
 -- what was read first, where two are read one after the other
-record Steps {X Y : Type 0} (read : Result (X × List Bool) Breach) (next : X → Reading Y) (y : Y) (rest : List Bool) : Type 0 where
+record Steps {X Y : Type 0} (read : Result (X × List Bool) Breach) (next : X → Reading Y) (y : Y)
+    (rest : List Bool) : Type 0 where
   first : X
   between : List Bool
   found : read ≡ Ok (first, between)
   then_found : next first between ≡ Ok (y, rest)
 
-steps : {X Y : Type 0} (read : Result (X × List Bool) Breach) (next : X → Reading Y) (y : Y) (rest : List Bool) → bind read next ≡ Ok (y, rest) → Steps read next y rest
+steps : {X Y : Type 0} (read : Result (X × List Bool) Breach) (next : X → Reading Y) (y : Y) (rest : List Bool)
+    → bind read next ≡ Ok (y, rest) → Steps read next y rest
 steps (Ok x) next y rest e = record { first = x.0; between = x.1; found = refl; then_found = e }
 steps (Err d) next y rest e = absurd cc
 
@@ -50,7 +53,8 @@ refused e = λ bs. Err e
 local-refuse : {X : Type 0} (e : Breach) → IsLocal (refused {X = X} e)
 local-refuse e = record { begins = λ bs y rest is. absurd cc }
 
-local-then : {X Y : Type 0} {m : Reading X} {f : X → Reading Y} → IsLocal m → ((x : X) → IsLocal (f x)) → IsLocal (λ bs. bind (m bs) f)
+local-then : {X Y : Type 0} {m : Reading X} {f : X → Reading Y} → IsLocal m → ((x : X) → IsLocal (f x))
+    → IsLocal (λ bs. bind (m bs) f)
 local-then {m = m} {f = f} first next = record {
   begins = λ bs y rest e.
       let s = steps (m bs) f y rest e in
@@ -64,7 +68,8 @@ local-then {m = m} {f = f} first next = record {
 }
 
 -- a field that was read was there whole
-pub whole-some : {X : Type 0} (rules : FieldRules) (o : Option (X × List Bool)) (r : X × List Bool) → whole rules o ≡ Ok r → o ≡ Some r
+pub whole-some : {X : Type 0} (rules : FieldRules) (o : Option (X × List Bool)) (r : X × List Bool)
+    → whole rules o ≡ Ok r → o ≡ Some r
 whole-some rules None r e = absurd cc
 whole-some rules (Some x) r e = ap Some (ok_parts x r (Ok x) refl e)
 
@@ -79,7 +84,8 @@ local-u rules n = record {
       };
 }
 
-flag-begins : (rules : FieldRules) (bs : List Bool) (value : Bool) (rest : List Bool) → whole rules (flag_at bs) ≡ Ok (value, rest) → HasFront (λ bits. whole rules (flag_at bits)) bs value rest
+flag-begins : (rules : FieldRules) (bs : List Bool) (value : Bool) (rest : List Bool)
+    → whole rules (flag_at bs) ≡ Ok (value, rest) → HasFront (λ bits. whole rules (flag_at bits)) bs value rest
 unfolding flag_at
 flag-begins rules [] value rest e = absurd cc
 flag-begins rules (b ∷ bs) value rest e =
@@ -113,21 +119,25 @@ local-se rules = record {
 }
 
 -- a value that was judged was read and in range
-pub record Held {X : Type 0} (rules : FieldRules) (fact : X → Bool) (r : Result (X × List Bool) Breach) (x : X × List Bool) : Type 0 where
+pub record Held {X : Type 0} (rules : FieldRules) (fact : X → Bool) (r : Result (X × List Bool) Breach)
+    (x : X × List Bool) : Type 0 where
   pub found : r ≡ Ok x
   pub holds : fact x.0 ≡ true
 
-held-if : {X : Type 0} (rules : FieldRules) (fact : X → Bool) (y x : X × List Bool) (b : Bool) → fact y.0 ≡ b → (if b then Ok y else Err (breach.Fault rules.range)) ≡ Ok x → Held rules fact (Ok y) x
+held-if : {X : Type 0} (rules : FieldRules) (fact : X → Bool) (y x : X × List Bool) (b : Bool) → fact y.0 ≡ b
+    → (if b then Ok y else Err (breach.Fault rules.range)) ≡ Ok x → Held rules fact (Ok y) x
 held-if rules fact y x true is e =
     let same = ok_parts y x (Ok y) refl e in
     record { found = e; holds = sym (ap (λ (p : _ × List Bool). fact p.0) same) ∙ is }
 held-if rules fact y x false is e = absurd cc
 
-pub held : {X : Type 0} (rules : FieldRules) (fact : X → Bool) (r : Result (X × List Bool) Breach) (x : X × List Bool) → judged rules fact r ≡ Ok x → Held rules fact r x
+pub held : {X : Type 0} (rules : FieldRules) (fact : X → Bool) (r : Result (X × List Bool) Breach) (x : X × List Bool)
+    → judged rules fact r ≡ Ok x → Held rules fact r x
 held rules fact (Ok y) x e = held-if rules fact y x (fact y.0) refl e
 held rules fact (Err d) x e = absurd cc
 
-local-judged : {X : Type 0} (rules : FieldRules) (fact : X → Bool) {m : Reading X} → IsLocal m → IsLocal (λ bs. judged rules fact (m bs))
+local-judged : {X : Type 0} (rules : FieldRules) (fact : X → Bool) {m : Reading X} → IsLocal m
+    → IsLocal (λ bs. judged rules fact (m bs))
 local-judged rules fact {m = m} local = record {
   begins = λ bs value rest e.
       let h = held rules fact (m bs) (value, rest) e in

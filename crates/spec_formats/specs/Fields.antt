@@ -1,5 +1,6 @@
 -- Fields of headers and parameter sets: formats whose questions are fields, each with its range (7.2).
-use Rattle.std.specs.Prelude.{◌≡◌, ℕ, zero, suc, ℤ, pos, negsuc, Bool, true, false, List, [], ◌∷◌, Option, Some, None, Result, Ok, Err, nat_lt, nat_le, if◌then◌else◌}
+use Rattle.std.specs.Prelude.{◌≡◌, ℕ, zero, suc, ℤ, pos, negsuc, Bool, true, false, List, [], ◌∷◌, Option, Some, None}
+use Rattle.std.specs.Prelude.{Result, Ok, Err, nat_lt, nat_le, if◌then◌else◌}
 use Rattle.spec_bits.specs.Bits.{u_at, flag_at}
 use Rattle.spec_bits.specs.ExpGolomb.{ue_at, se_at}
 use Rattle.hv_base.specs.declared.breach.Breach.{Breach}
@@ -35,7 +36,8 @@ whole rules None = Err (breach.Fault rules.syntax)
 whole rules (Some x) = Ok x
 
 -- what must hold of a field, by the rule that one out of range breaks
-abbrev pub judged : {X : Type 0} → FieldRules → (X → Bool) → Result (X × List Bool) Breach → Result (X × List Bool) Breach
+abbrev pub judged : {X : Type 0} → FieldRules → (X → Bool) → Result (X × List Bool) Breach
+    → Result (X × List Bool) Breach
 judged rules fact (Err e) = Err e
 judged rules fact (Ok x) = if fact x.0 then Ok x else Err (breach.Fault rules.range)
 

@@ -7,7 +7,8 @@ use Rattle.header_types.specs.PictureParameterSet.{IsDeblockingControl, IsPps, I
 use Rattle.header_types.specs.Scaling.{IsScalingLists}
 use Rattle.spec_bits.specs.Bits.{bits}
 use Rattle.spec_formats.proofs.Values.{CanBe}
-use Rattle.spec_parameter_sets.specs.PictureParameterSet.{deblocking_control, deblocking_offset, picture_parameter_set, picture_parameter_set_of}
+use Rattle.spec_parameter_sets.specs.PictureParameterSet.{deblocking_control, deblocking_offset, picture_parameter_set}
+use Rattle.spec_parameter_sets.specs.PictureParameterSet.{picture_parameter_set_of}
 use Rattle.spec_parameter_sets.specs.Scaling.{scaling_list_data}
 use Rattle.spec_parameter_sets.proofs.Ranges.{data_can_be}
 use Rattle.spec_header_ranges.proofs.Values.{no_offset, optional_is, parsed_is, within}

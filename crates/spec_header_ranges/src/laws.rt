@@ -29,5 +29,6 @@ pub fn headers_are_in_range()
 /// slice_pic_order_cnt_lsb of a header that is read as the first one of its picture is below its MaxPicOrderCntLsb.
 pub fn first_order_counts_are_in_range()
     ensures { (c : Context) (payload : List ℕ) (h : SliceHeaderFields)
-        → c.segments ≡ [] → slice_header_of c payload ≡ Ok h → h.slice.references.slice_pic_order_cnt_lsb < h.kind.max_lsb }
+        → c.segments ≡ [] → slice_header_of c payload ≡ Ok h
+        → h.slice.references.slice_pic_order_cnt_lsb < h.kind.max_lsb }
 {}

@@ -6,7 +6,8 @@ use Rattle.block_geometry.specs.Rows.{tap_line}
 use Rattle.spec_inter_prediction.specs.Taps.{luma_taps, luma_filter, chroma_taps}
 use Rattle.spec_inter_prediction.specs.Luma.{quarter, luma_first, luma_sample}
 
-pub luma_mirrored : (q : ℕ) (a b c d e f g h : ℤ) → 0 < q → q < 4 → luma_taps (4 - q) a b c d e f g h ≡ luma_taps q h g f e d c b a
+pub luma_mirrored : (q : ℕ) (a b c d e f g h : ℤ) → 0 < q → q < 4
+    → luma_taps (4 - q) a b c d e f g h ≡ luma_taps q h g f e d c b a
 unfolding luma_taps
 luma_mirrored zero a b c d e f g h some few = absurd (omega (arith, some))
 luma_mirrored (suc zero) a b c d e f g h some few = omega (arith, ints)
@@ -68,15 +69,20 @@ pub sample_same : (depth : ℕ) (reference other : ℤ → ℤ → ℕ) (across 
 unfolding luma_sample
 sample_same depth reference other across down x y same =
     ap (λ (z : ℤ). int_shr z 6) (luma_same (quarter down)
-    (λ j. int_shr (luma_filter (quarter across) (λ i. pos (reference (luma_first x across +ℤ pos i) (luma_first y down +ℤ pos j)))) (depth - 8))
-    (λ j. int_shr (luma_filter (quarter across) (λ i. pos (other (luma_first x across +ℤ pos i) (luma_first y down +ℤ pos j)))) (depth - 8))
+    (λ j. int_shr
+    (luma_filter (quarter across) (λ i. pos (reference (luma_first x across +ℤ pos i) (luma_first y down +ℤ pos j))))
+    (depth - 8))
+    (λ j. int_shr
+    (luma_filter (quarter across) (λ i. pos (other (luma_first x across +ℤ pos i) (luma_first y down +ℤ pos j))))
+    (depth - 8))
     (λ j few. ap (λ (z : ℤ). int_shr z (depth - 8)) (luma_same (quarter across)
     (λ i. pos (reference (luma_first x across +ℤ pos i) (luma_first y down +ℤ pos j)))
     (λ i. pos (other (luma_first x across +ℤ pos i) (luma_first y down +ℤ pos j)))
     (λ i less. rw (line_is y j down) (ap (λ (v : ℕ). pos v) (same (luma_first x across +ℤ pos i) j few))))))
 
 pub block_same : (depth : ℕ) (reference other : ℤ → ℤ → ℕ) (across down : ℤ) (y0 h x y : ℕ)
-    → ((column line : ℤ) → (pos y0 +ℤ int_shr down 2 -ℤ pos 3) ≤ℤ line → line ≤ℤ (pos (y0 + h) +ℤ int_shr down 2 +ℤ pos 3) → reference column line ≡ other column line)
+    → ((column line : ℤ) → (pos y0 +ℤ int_shr down 2 -ℤ pos 3) ≤ℤ line
+    → line ≤ℤ (pos (y0 + h) +ℤ int_shr down 2 +ℤ pos 3) → reference column line ≡ other column line)
     → y0 ≤ y → y < y0 + h → luma_sample depth reference across down x y ≡ luma_sample depth other across down x y
 block_same depth reference other across down y0 h x y same low high =
     sample_same depth reference other across down x y (λ column tap few.

@@ -9,7 +9,8 @@ unfoldable pub luma_taps : ℕ → ℤ → ℤ → ℤ → ℤ → ℤ → ℤ �
 luma_taps quarter a b c d e f g h =
     if quarter == 0 then pos 64 *ℤ d
     else (if quarter == 1 then pos 4 *ℤ b -ℤ a -ℤ pos 10 *ℤ c +ℤ pos 58 *ℤ d +ℤ pos 17 *ℤ e -ℤ pos 5 *ℤ f +ℤ g
-    else (if quarter == 2 then pos 4 *ℤ b -ℤ a -ℤ pos 11 *ℤ c +ℤ pos 40 *ℤ d +ℤ pos 40 *ℤ e -ℤ pos 11 *ℤ f +ℤ pos 4 *ℤ g -ℤ h
+    else (if quarter == 2
+    then pos 4 *ℤ b -ℤ a -ℤ pos 11 *ℤ c +ℤ pos 40 *ℤ d +ℤ pos 40 *ℤ e -ℤ pos 11 *ℤ f +ℤ pos 4 *ℤ g -ℤ h
     else b -ℤ pos 5 *ℤ c +ℤ pos 17 *ℤ d +ℤ pos 58 *ℤ e -ℤ pos 10 *ℤ f +ℤ pos 4 *ℤ g -ℤ h))
 
 -- the chroma filter at an eighth of a sample

@@ -9,7 +9,8 @@ ghost use Rattle.spec_inter_prediction.specs.Chroma.{eighth, chroma_first, chrom
 
 /// A filter at a fraction is the one at the fraction that is left to the next sample, mirrored.
 pub fn filters_are_mirrored()
-    ensures luma { (q : ℕ) (a b c d e f g h : ℤ) → 0 < q → q < 4 → luma_taps (4 - q) a b c d e f g h ≡ luma_taps q h g f e d c b a }
+    ensures luma { (q : ℕ) (a b c d e f g h : ℤ) → 0 < q → q < 4
+        → luma_taps (4 - q) a b c d e f g h ≡ luma_taps q h g f e d c b a }
     ensures chroma { (q : ℕ) (a b c d : ℤ) → 0 < q → q < 8 → chroma_taps (8 - q) a b c d ≡ chroma_taps q d c b a }
 {}
 
@@ -23,10 +24,12 @@ pub fn filters_keep_equal_samples()
 /// behind it.
 pub fn luma_samples_depend_on_their_lines()
     ensures sample { (depth : ℕ) (reference other : ℤ → ℤ → ℕ) (across down : ℤ) (x y : ℕ)
-        → ((column : ℤ) (tap : ℕ) → tap < 8 → reference column (tap_line y down tap) ≡ other column (tap_line y down tap))
+        → ((column : ℤ) (tap : ℕ) → tap < 8
+        → reference column (tap_line y down tap) ≡ other column (tap_line y down tap))
         → luma_sample depth reference across down x y ≡ luma_sample depth other across down x y }
     ensures block { (depth : ℕ) (reference other : ℤ → ℤ → ℕ) (across down : ℤ) (y0 h x y : ℕ)
-        → ((column line : ℤ) → (pos y0 +ℤ int_shr down 2 -ℤ pos 3) ≤ℤ line → line ≤ℤ (pos (y0 + h) +ℤ int_shr down 2 +ℤ pos 3) → reference column line ≡ other column line)
+        → ((column line : ℤ) → (pos y0 +ℤ int_shr down 2 -ℤ pos 3) ≤ℤ line
+        → line ≤ℤ (pos (y0 + h) +ℤ int_shr down 2 +ℤ pos 3) → reference column line ≡ other column line)
         → y0 ≤ y → y < y0 + h
         → luma_sample depth reference across down x y ≡ luma_sample depth other across down x y }
 {}

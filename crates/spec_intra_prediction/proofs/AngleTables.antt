@@ -1,5 +1,6 @@
 -- What the tables of angles say, compared with their rule by tests over all of them.
-use Rattle.std.proofs.Common.{◌≡◌, ℕ, ◌+◌, ◌-◌, ◌<◌, ◌≤◌, ℤ, pos, negsuc, ◌≤ℤ◌, ◌<ℤ◌, ◌*◌, neg_ℤ, Bool, true, length, get_or, refl, subst, ◌∙◌, zero-add, arith}
+use Rattle.std.proofs.Common.{◌≡◌, ℕ, ◌+◌, ◌-◌, ◌<◌, ◌≤◌, ℤ, pos, negsuc, ◌≤ℤ◌, ◌<ℤ◌, ◌*◌, neg_ℤ, Bool, true, length}
+use Rattle.std.proofs.Common.{get_or, refl, subst, ◌∙◌, zero-add, arith}
 use Rattle.std.specs.Prelude.{nat_le, nat_eq}
 use Rattle.std.specs.List.{list_all, range_with_len}
 use Rattle.std.specs.Ordering.{int_eq}
@@ -30,13 +31,15 @@ least_all : list_all (λ i. le_z (negsuc 31) (get_or INTRA_PRED_ANGLE i (pos 0))
 least_all = refl
 
 pub angle_least : (i : ℕ) → i < 33 → negsuc 31 ≤ℤ get_or INTRA_PRED_ANGLE i (pos 0)
-angle_least i h = le_z_yes (T_from_true _ (tested (λ i. le_z (negsuc 31) (get_or INTRA_PRED_ANGLE i (pos 0))) 33 least_all i h))
+angle_least i h =
+    le_z_yes (T_from_true _ (tested (λ i. le_z (negsuc 31) (get_or INTRA_PRED_ANGLE i (pos 0))) 33 least_all i h))
 
 greatest_all : list_all (λ i. le_z (get_or INTRA_PRED_ANGLE i (pos 0)) (pos 32)) (range_with_len 0 33) ≡ true
 greatest_all = refl
 
 pub angle_greatest : (i : ℕ) → i < 33 → get_or INTRA_PRED_ANGLE i (pos 0) ≤ℤ pos 32
-angle_greatest i h = le_z_yes (T_from_true _ (tested (λ i. le_z (get_or INTRA_PRED_ANGLE i (pos 0)) (pos 32)) 33 greatest_all i h))
+angle_greatest i h =
+    le_z_yes (T_from_true _ (tested (λ i. le_z (get_or INTRA_PRED_ANGLE i (pos 0)) (pos 32)) 33 greatest_all i h))
 
 inverse_all : list_all (λ i. nat_le (get_or INVERSE_ANGLE i 0) 4096) (range_with_len 0 15) ≡ true
 inverse_all = refl
@@ -58,14 +61,22 @@ negative_between i h neg =
     let high : 23 < i → pos 0 ≤ℤ get_or INTRA_PRED_ANGLE i (pos 0) =
     λ k. let e : 24 + (i - 24) ≡ i = omega arith in
     subst (λ (j : ℕ). pos 0 ≤ℤ get_or INTRA_PRED_ANGLE j (pos 0)) e
-    (le_z_yes (T_from_true _ (tested (λ i. le_z (pos 0) (get_or INTRA_PRED_ANGLE (24 + i) (pos 0))) 9 high_all (i - 24) (omega arith)))) in
+    (le_z_yes (T_from_true _
+    (tested (λ i. le_z (pos 0) (get_or INTRA_PRED_ANGLE (24 + i) (pos 0))) 9 high_all (i - 24) (omega arith)))) in
     apart i (get_or INTRA_PRED_ANGLE i (pos 0)) neg low high
 
-product_all : list_all (λ i. nat_le (unsigned_abs (get_or INTRA_PRED_ANGLE (9 + i) (pos 0)) * get_or INVERSE_ANGLE i 0) 8208) (range_with_len 0 15) ≡ true
+product_all : list_all
+    (λ i. nat_le (unsigned_abs (get_or INTRA_PRED_ANGLE (9 + i) (pos 0)) * get_or INVERSE_ANGLE i 0) 8208)
+    (range_with_len 0 15)
+    ≡ true
 product_all = refl
 
-pub product_greatest : (i : ℕ) → i < 15 → unsigned_abs (get_or INTRA_PRED_ANGLE (9 + i) (pos 0)) * get_or INVERSE_ANGLE i 0 ≤ 8208
-product_greatest i h = leb-true _ _ (tested (λ i. nat_le (unsigned_abs (get_or INTRA_PRED_ANGLE (9 + i) (pos 0)) * get_or INVERSE_ANGLE i 0) 8208) 15 product_all i h)
+pub product_greatest : (i : ℕ) → i < 15
+    → unsigned_abs (get_or INTRA_PRED_ANGLE (9 + i) (pos 0)) * get_or INVERSE_ANGLE i 0 ≤ 8208
+product_greatest i h =
+    leb-true _ _
+    (tested (λ i. nat_le (unsigned_abs (get_or INTRA_PRED_ANGLE (9 + i) (pos 0)) * get_or INVERSE_ANGLE i 0) 8208)
+    15 product_all i h)
 
 below_test : ℕ → Bool
 below_test d = int_eq (angle (10 - d)) (pos (angle_step d))

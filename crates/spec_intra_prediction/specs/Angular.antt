@@ -1,7 +1,8 @@
 -- Prediction along a direction (8.4.4.2.6). It is said once, for the modes 18 to 34: `main` is the corner and what lies
 -- above and to the right, `side` the corner and what lies below. The modes 2 to 17 exchange the two, and columns with
 -- lines.
-use Rattle.std.specs.Prelude.{ℕ, suc, ◌+◌, ◌-◌, ◌*◌, ◌/◌, ◌%◌, ◌^◌, ◌==◌, ℤ, pos, negsuc, ◌+ℤ◌, ◌-ℤ◌, Bool, ◌&&◌, ◌||◌, nat_lt, List, slice_index_or, if◌then◌else◌}
+use Rattle.std.specs.Prelude.{ℕ, suc, ◌+◌, ◌-◌, ◌*◌, ◌/◌, ◌%◌, ◌^◌, ◌==◌, ℤ, pos, negsuc, ◌+ℤ◌, ◌-ℤ◌, Bool, ◌&&◌, ◌||◌}
+use Rattle.std.specs.Prelude.{nat_lt, List, slice_index_or, if◌then◌else◌}
 use Rattle.std.specs.Int.{int_shr, int_min, int_max}
 use Rattle.std.specs.Int.RustNames.{unsigned_abs}
 use Rattle.spec_intra_prediction.specs.declared.angles.TheConstants.{INTRA_PRED_ANGLE, INVERSE_ANGLE}
@@ -33,7 +34,8 @@ between part first second =
 
 abbrev pub met_sample : ℕ → ℕ → List ℕ → List ℕ → ℕ → ℕ → ℕ
 met_sample n inverse main side place x =
-    between (place % 32) (reference n inverse main side (place / 32 + x + 1)) (reference n inverse main side (place / 32 + x + 2))
+    between (place % 32) (reference n inverse main side (place / 32 + x + 1))
+    (reference n inverse main side (place / 32 + x + 2))
 
 -- Clip1 of a sample beside the block, moved by half of what the side changes
 abbrev pub stepped : ℕ → ℕ → ℕ → ℕ → ℕ

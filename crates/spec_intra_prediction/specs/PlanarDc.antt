@@ -6,7 +6,8 @@ use Rattle.spec_intra_prediction.specs.Neighbours.{left_at, above_at}
 unfoldable pub planar : ℕ → List ℕ → ℕ → ℕ → ℕ
 planar log2 p x y =
     let n : ℕ = 2 ^ log2 in
-    ((n - 1 - x) * left_at n p y + (x + 1) * above_at n p n + (n - 1 - y) * above_at n p x + (y + 1) * left_at n p n + n)
+    ((n - 1 - x) * left_at n p y + (x + 1) * above_at n p n + (n - 1 - y) * above_at n p x + (y + 1) * left_at n p n
+    + n)
     / 2 ^ (log2 + 1)
 
 -- the sum of f k over the k below n

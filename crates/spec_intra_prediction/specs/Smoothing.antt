@@ -1,5 +1,6 @@
 -- The filtering of neighbouring samples (8.4.4.2.3).
-use Rattle.std.specs.Prelude.{ℕ, ◌+◌, ◌-◌, ◌*◌, ◌/◌, ◌^◌, ◌==◌, Bool, not, ◌&&◌, nat_le, nat_lt, List, map, length, min, if◌then◌else◌}
+use Rattle.std.specs.Prelude.{ℕ, ◌+◌, ◌-◌, ◌*◌, ◌/◌, ◌^◌, ◌==◌, Bool, not, ◌&&◌, nat_le, nat_lt, List, map, length, min}
+use Rattle.std.specs.Prelude.{if◌then◌else◌}
 use Rattle.std.specs.Int.{abs_diff}
 use Rattle.std.specs.List.{range_with_len}
 use Rattle.spec_intra_prediction.specs.Neighbours.{at}
@@ -21,7 +22,8 @@ is_filtered c log2 mode =
 -- 1, 2, 1 over what stands beside one another; the two ends stay
 abbrev pub smoothed_at : List ℕ → ℕ → ℕ
 smoothed_at p k =
-    if k == 0 then at p k else (if k + 1 == length p then at p k else (at p (k - 1) + 2 * at p k + at p (k + 1) + 2) / 4)
+    if k == 0 then at p k
+    else (if k + 1 == length p then at p k else (at p (k - 1) + 2 * at p k + at p (k + 1) + 2) / 4)
 
 unfoldable pub smoothed : List ℕ → List ℕ
 smoothed p = map (smoothed_at p) (range_with_len 0 (length p))
@@ -33,7 +35,8 @@ is_flat depth first middle last = nat_lt (abs_diff (first + last) (2 * middle)) 
 -- biIntFlag: blocks of 32 columns, both of whose sides are flat from the corner over the middle to the end
 unfoldable pub is_strong : ℕ → Bool → ℕ → List ℕ → Bool
 is_strong log2 strong depth p =
-    (strong && log2 == 5) && (is_flat depth (at p 64) (at p 96) (at p 128) && is_flat depth (at p 64) (at p 32) (at p 0))
+    (strong && log2 == 5)
+    && (is_flat depth (at p 64) (at p 96) (at p 128) && is_flat depth (at p 64) (at p 32) (at p 0))
 
 -- each side drawn straight from the corner, at place 64, to its end
 abbrev pub straight_at : List ℕ → ℕ → ℕ

@@ -1,5 +1,6 @@
 -- Filters keep samples in the range of their bit depth.
-use Rattle.std.proofs.Common.{ℕ, ◌+◌, ◌-◌, ◌*◌, ◌/◌, ◌%◌, ◌^◌, ◌<◌, ◌≤◌, Bool, true, false, ◌&&◌, cond, nat_lt, ℤ, pos, negsuc, ◌≤ℤ◌, arith, rules, if◌then◌else◌}
+use Rattle.std.proofs.Common.{ℕ, ◌+◌, ◌-◌, ◌*◌, ◌/◌, ◌%◌, ◌^◌, ◌<◌, ◌≤◌, Bool, true, false, ◌&&◌, cond, nat_lt, ℤ, pos}
+use Rattle.std.proofs.Common.{negsuc, ◌≤ℤ◌, arith, rules, if◌then◌else◌}
 use Rattle.std.specs.Int.{int_max, int_min}
 use Rattle.std.specs.Int.RustNames.{unsigned_abs}
 use Rattle.std.proofs.lemmas.Int.{ints, int_max_is, int_min_is}
@@ -15,7 +16,8 @@ use Rattle.spec_deblocking.specs.Thresholds.{clipped, tc}
 use Rattle.spec_deblocking.specs.Filters.{filtered, held, moved, nearest, normal, normal_change, second_sample, strong}
 use Rattle.spec_deblocking.specs.Planes.{deblocked, edge_sample, filtered_line, horizontal, vertical}
 use Rattle.spec_sample_adaptive_offset.proofs.Samples.{in_range}
-use Rattle.spec_loop_filters.specs.Filters.{AreInRange, LoopFilters, Samples, deblocked_samples, depth_of, final_samples, height_of, offset_plane, plane_of, width_of}
+use Rattle.spec_loop_filters.specs.Filters.{AreInRange, LoopFilters, Samples, deblocked_samples, depth_of}
+use Rattle.spec_loop_filters.specs.Filters.{final_samples, height_of, offset_plane, plane_of, width_of}
 
 -- every sample of a line is at most so great
 pub record AreSmall (g : ℕ) (line : Line) : Type 0 where
@@ -56,7 +58,8 @@ held_few : (g v s r : ℕ) → v ≤ g → s ≤ g → held v s r ≤ g
 unfolding held
 held_few g v s r h k = grind (arith, nat_tests)
 
-second_few : (b : Bool) (g tc outer middle inner : ℕ) (delta : ℤ) → middle ≤ g → second_sample b g tc outer middle inner delta ≤ g
+second_few : (b : Bool) (g tc outer middle inner : ℕ) (delta : ℤ) → middle ≤ g
+    → second_sample b g tc outer middle inner delta ≤ g
 unfolding second_sample
 second_few b g tc outer middle inner delta h = few_of b g _ middle (moved_few g middle _) h
 
@@ -118,7 +121,10 @@ filtered_small Strong g tc l s = strong_small g tc l s
 filtered_small Nearest g tc l s = nearest_small g tc l s
 
 nth_few : (g : ℕ) (l : Line) (k : ℕ) → AreSmall g l → nth l k ≤ g
-nth_few g l k s = few_of _ g _ _ s.p3 (few_of _ g _ _ s.p2 (few_of _ g _ _ s.p1 (few_of _ g _ _ s.p0 (few_of _ g _ _ s.q0 (few_of _ g _ _ s.q1 (few_of _ g _ _ s.q2 s.q3))))))
+nth_few g l k s =
+    few_of _ g _ _ s.p3
+    (few_of _ g _ _ s.p2
+    (few_of _ g _ _ s.p1 (few_of _ g _ _ s.p0 (few_of _ g _ _ s.q0 (few_of _ g _ _ s.q1 (few_of _ g _ _ s.q2 s.q3))))))
 
 across_small : (g : ℕ) (f : ℕ → ℕ → ℕ) (x y : ℕ) → ((i j : ℕ) → f i j ≤ g) → AreSmall g (across f x y)
 across_small g f x y all = record {
@@ -132,32 +138,45 @@ across_small g f x y all = record {
   q3 = all (x + 7) y;
 }
 
-edge_few : (plane : Plane) (depth : ℕ) (places : ℕ → ℕ → Place) (f : ℕ → ℕ → ℕ) (e y k : ℕ) → ((i j : ℕ) → f i j ≤ 2 ^ depth - 1) → edge_sample plane depth places f e y k ≤ 2 ^ depth - 1
+edge_few : (plane : Plane) (depth : ℕ) (places : ℕ → ℕ → Place) (f : ℕ → ℕ → ℕ) (e y k : ℕ)
+    → ((i j : ℕ) → f i j ≤ 2 ^ depth - 1) → edge_sample plane depth places f e y k ≤ 2 ^ depth - 1
 unfolding edge_sample filtered_line
 edge_few plane depth places f e y k all =
-    few_of (if nat_lt k 4 then (place_before plane places e y).kept else (place_behind plane places e y).kept) (2 ^ depth - 1) _ _
+    few_of (if nat_lt k 4 then (place_before plane places e y).kept else (place_behind plane places e y).kept)
+    (2 ^ depth - 1) _ _
     (nth_few (2 ^ depth - 1) _ k (across_small (2 ^ depth - 1) f (8 * e - 4) y all))
-    (nth_few (2 ^ depth - 1) _ k (filtered_small _ (2 ^ depth - 1) _ _ (across_small (2 ^ depth - 1) f (8 * e - 4) y all)))
+    (nth_few (2 ^ depth - 1) _ k
+    (filtered_small _ (2 ^ depth - 1) _ _ (across_small (2 ^ depth - 1) f (8 * e - 4) y all)))
 
-vertical_few : (plane : Plane) (depth width : ℕ) (places : ℕ → ℕ → Place) (f : ℕ → ℕ → ℕ) (x y : ℕ) → ((i j : ℕ) → f i j ≤ 2 ^ depth - 1) → vertical plane depth width places f x y ≤ 2 ^ depth - 1
+vertical_few : (plane : Plane) (depth width : ℕ) (places : ℕ → ℕ → Place) (f : ℕ → ℕ → ℕ) (x y : ℕ)
+    → ((i j : ℕ) → f i j ≤ 2 ^ depth - 1) → vertical plane depth width places f x y ≤ 2 ^ depth - 1
 unfolding vertical
 vertical_few plane depth width places f x y all =
-    few_of (nat_lt 0 ((x + 4) / 8) && nat_lt (8 * ((x + 4) / 8)) width) (2 ^ depth - 1) _ _ (edge_few plane depth places f ((x + 4) / 8) y ((x + 4) % 8) all) (all x y)
+    few_of (nat_lt 0 ((x + 4) / 8) && nat_lt (8 * ((x + 4) / 8)) width) (2 ^ depth - 1) _ _
+    (edge_few plane depth places f ((x + 4) / 8) y ((x + 4) % 8) all) (all x y)
 
-horizontal_few : (plane : Plane) (depth height : ℕ) (places : ℕ → ℕ → Place) (f : ℕ → ℕ → ℕ) (x y : ℕ) → ((i j : ℕ) → f i j ≤ 2 ^ depth - 1) → horizontal plane depth height places f x y ≤ 2 ^ depth - 1
+horizontal_few : (plane : Plane) (depth height : ℕ) (places : ℕ → ℕ → Place) (f : ℕ → ℕ → ℕ) (x y : ℕ)
+    → ((i j : ℕ) → f i j ≤ 2 ^ depth - 1) → horizontal plane depth height places f x y ≤ 2 ^ depth - 1
 unfolding horizontal
-horizontal_few plane depth height places f x y all = vertical_few plane depth height (turned places) (λ column line. f line column) y x (λ i j. all j i)
+horizontal_few plane depth height places f x y all =
+    vertical_few plane depth height (turned places) (λ column line. f line column) y x (λ i j. all j i)
 
 below_power : (n v : ℕ) → v ≤ 2 ^ n - 1 → v < 2 ^ n
 below_power n v h = let some : 0 < 2 ^ n = search rules in omega (arith, some)
 
-pub deblocked_small : (filters : LoopFilters) (samples : Samples) → AreInRange filters.format samples → AreInRange filters.format (deblocked_samples filters samples)
+pub deblocked_small : (filters : LoopFilters) (samples : Samples) → AreInRange filters.format samples
+    → AreInRange filters.format (deblocked_samples filters samples)
 unfolding deblocked_samples deblocked
 deblocked_small filters samples all c x y =
     let format = filters.format in
-    below_power (depth_of format c) _ (horizontal_few (plane_of format c) (depth_of format c) (height_of format c) filters.places _ x y
-    (λ i j. vertical_few (plane_of format c) (depth_of format c) (width_of format c) filters.places (samples c) i j (λ k l. let lt = all c k l in omega (arith, lt))))
+    below_power (depth_of format c) _
+    (horizontal_few (plane_of format c) (depth_of format c) (height_of format c) filters.places _ x y
+    (λ i j. vertical_few (plane_of format c) (depth_of format c) (width_of format c) filters.places (samples c) i j
+    (λ k l. let lt = all c k l in omega (arith, lt))))
 
-pub final_small : (filters : LoopFilters) (samples : Samples) → AreInRange filters.format samples → AreInRange filters.format (final_samples filters samples)
+pub final_small : (filters : LoopFilters) (samples : Samples) → AreInRange filters.format samples
+    → AreInRange filters.format (final_samples filters samples)
 unfolding final_samples
-final_small filters samples all c x y = in_range (offset_plane filters c) (deblocked_samples filters samples c) x y (deblocked_small filters samples all c x y)
+final_small filters samples all c x y =
+    in_range (offset_plane filters c) (deblocked_samples filters samples c) x y
+    (deblocked_small filters samples all c x y)

@@ -40,12 +40,14 @@ depth_of format c = if c == 0 then format.luma_depth else format.chroma_depth
 
 -- what the samples of a component are; cQpPicOffset is that of Cb or of Cr
 abbrev pub plane_of : FilterFormat → ℕ → Plane
-plane_of format c = if c == 0 then Luma else (if c == 1 then Chroma format.pps_cb_qp_offset else Chroma format.pps_cr_qp_offset)
+plane_of format c =
+    if c == 0 then Luma else (if c == 1 then Chroma format.pps_cb_qp_offset else Chroma format.pps_cr_qp_offset)
 
 -- the samples of a component after deblocking
 unfoldable pub deblocked_samples : LoopFilters → Samples → ℕ → ℕ → ℕ → ℕ
 deblocked_samples filters samples c =
-    deblocked (plane_of filters.format c) (depth_of filters.format c) (width_of filters.format c) (height_of filters.format c) filters.places (samples c)
+    deblocked (plane_of filters.format c) (depth_of filters.format c) (width_of filters.format c)
+    (height_of filters.format c) filters.places (samples c)
 
 -- what the offsets of a component depend on; a sample is kept where its place is
 abbrev pub offset_plane : LoopFilters → ℕ → OffsetPlane

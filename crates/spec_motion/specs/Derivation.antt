@@ -27,7 +27,10 @@ sum_of predictor difference = record { x = wrapped predictor.x difference.x; y =
 unfoldable pub coded_vector : SliceMotion → Beneath → Known → Rectangle → ℕ → Option VectorSyntax → Option Vector
 coded_vector slice beneath known block list None = None
 coded_vector slice beneath known block list (Some v) =
-    Some (record { mv = sum_of (predicted_mv slice beneath known block list v.ref_idx v.mvp) v.mvd; ref_idx = v.ref_idx })
+    Some (record {
+      mv = sum_of (predicted_mv slice beneath known block list v.ref_idx v.mvp) v.mvd;
+      ref_idx = v.ref_idx;
+    })
 
 abbrev pub motion_by : SliceMotion → Beneath → Known → PredictionUnit → MotionSyntax → Motion
 motion_by slice beneath known unit (Merge index) = merged slice beneath known unit index

@@ -1,5 +1,7 @@
 -- Merging (8.5.3.2.1 to 8.5.3.2.5): a list of candidates, of which merge_idx names one.
-use Rattle.std.specs.Prelude.{ℕ, ◌+◌, ◌-◌, ◌*◌, ◌/◌, ◌^◌, ◌==◌, Bool, true, false, not, ◌&&◌, nat_lt, min, Option, Some, None, List, [], ◌∷◌, ◌++◌, length, take, map, filter_map, option_to_list, slice_index_or, if◌then◌else◌}
+use Rattle.std.specs.Prelude.{ℕ, ◌+◌, ◌-◌, ◌*◌, ◌/◌, ◌^◌, ◌==◌, Bool, true, false, not, ◌&&◌, nat_lt, min, Option, Some}
+use Rattle.std.specs.Prelude.{None, List, [], ◌∷◌, ◌++◌, length, take, map, filter_map, option_to_list, slice_index_or}
+use Rattle.std.specs.Prelude.{if◌then◌else◌}
 use Rattle.std.specs.List.{range_with_len}
 use Rattle.ctu_records.specs.declared.prediction.Mv.{Mv}
 use Rattle.ctu_records.specs.declared.prediction.PartMode.{PartMode}
@@ -115,7 +117,8 @@ found_candidates slice beneath known unit =
 -- whether two vectors point to the same picture with the same displacement
 abbrev pub is_doubled : SliceMotion → Vector → Vector → Bool
 is_doubled slice first second =
-    (reference_in slice 0 first.ref_idx).picture == (reference_in slice 1 second.ref_idx).picture && same_mv first.mv second.mv
+    (reference_in slice 0 first.ref_idx).picture == (reference_in slice 1 second.ref_idx).picture
+    && same_mv first.mv second.mv
 
 -- the vector of one candidate in list 0 and that of another in list 1, where both are there and differ (8.5.3.2.3)
 abbrev pub combination_of : SliceMotion → Option Vector → Option Vector → Option Motion
@@ -175,4 +178,5 @@ restricted block motion = if block.width + block.height == 3 then first_alone mo
 -- the motion of a unit that merges (8.5.3.2.1)
 unfoldable pub merged : SliceMotion → Beneath → Known → PredictionUnit → ℕ → Motion
 merged slice beneath known unit index =
-    restricted (part_block unit.unit unit.part_mode unit.part) (slice_index_or (merge_candidates slice beneath known unit) index no_motion)
+    restricted (part_block unit.unit unit.part_mode unit.part)
+    (slice_index_or (merge_candidates slice beneath known unit) index no_motion)

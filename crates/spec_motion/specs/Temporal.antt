@@ -1,5 +1,6 @@
 -- Temporal vector prediction (8.5.3.2.7, 8.5.3.2.8).
-use Rattle.std.specs.Prelude.{ℕ, ◌+◌, ◌/◌, ◌==◌, Bool, not, ◌&&◌, ◌||◌, nat_lt, int_le, ℤ, ◌-ℤ◌, Option, Some, None, option_and_then, take, if◌then◌else◌}
+use Rattle.std.specs.Prelude.{ℕ, ◌+◌, ◌/◌, ◌==◌, Bool, not, ◌&&◌, ◌||◌, nat_lt, int_le, ℤ, ◌-ℤ◌, Option, Some, None}
+use Rattle.std.specs.Prelude.{option_and_then, take, if◌then◌else◌}
 use Rattle.std.specs.List.{list_all}
 use Rattle.ctu_records.specs.declared.prediction.Mv.{Mv}
 use Rattle.ctu_records.specs.declared.prediction.Rectangle.{Rectangle}
@@ -35,19 +36,22 @@ column_vector slice list (Some first) (Some second) = if takes_first slice list 
 unfoldable pub brought : SliceMotion → Reference → CollocatedVector → Option Mv
 brought slice target vector =
     if agree target.long_term vector.long_term
-    then Some (if target.long_term then vector.mv else scaled (slice.collocated_order -ℤ vector.order) (slice.order -ℤ target.order) vector.mv)
+    then Some (if target.long_term then vector.mv
+    else scaled (slice.collocated_order -ℤ vector.order) (slice.order -ℤ target.order) vector.mv)
     else None
 
 -- mvLXCol of a block of the collocated picture
 abbrev pub collocated_mv : SliceMotion → ℕ → Reference → Option Collocated → Option Mv
 collocated_mv slice list target None = None
-collocated_mv slice list target (Some block) = option_and_then (brought slice target) (column_vector slice list block.list_0 block.list_1)
+collocated_mv slice list target (Some block) =
+    option_and_then (brought slice target) (column_vector slice list block.list_0 block.list_1)
 
 -- what the collocated picture has at the bottom right of a block, where that place is inside the picture and in the row
 -- of coding tree blocks; the place is brought to its block of 4x4 places behind that
 unfoldable pub bottom_right : SliceMotion → Beneath → Rectangle → Option Collocated
 bottom_right slice beneath block =
-    if (nat_lt (block.x + block.width) slice.right && nat_lt (block.y + block.height) slice.lower) && nat_lt (block.y + block.height) slice.side
+    if (nat_lt (block.x + block.width) slice.right && nat_lt (block.y + block.height) slice.lower)
+    && nat_lt (block.y + block.height) slice.side
     then beneath ((block.x + block.width) / 4) ((block.y + block.height) / 4)
     else None
 

@@ -2,7 +2,8 @@
 use Rattle.std.specs.Prelude.{List, ⊤}
 use Rattle.std.specs.List.{fold}
 use Rattle.ctu_records.specs.declared.item.Item.{Item}
-use Rattle.ctu_records.specs.declared.item.Item.TheVariants.{Unit, Luma, Chroma, Prediction, Pcm, Sample, Transform, Delta, Block, Level}
+use Rattle.ctu_records.specs.declared.item.Item.TheVariants.{Unit, Luma, Chroma, Prediction, Pcm, Sample, Transform}
+use Rattle.ctu_records.specs.declared.item.Item.TheVariants.{Delta, Block, Level}
 use Rattle.spec_motion.specs.declared.slice_motion.SliceMotion.{SliceMotion}
 use Rattle.spec_motion.specs.Derivation.{IsPlaced, motion_laid}
 use Rattle.spec_motion.specs.Vectors.{Beneath, Known}

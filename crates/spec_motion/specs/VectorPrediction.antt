@@ -1,13 +1,15 @@
 -- Advanced motion vector prediction (8.5.3.2.6, 8.5.3.2.7): a list of two predictors of a vector, of which mvp_lX_flag
 -- names one. At each place list X is looked at before the other.
-use Rattle.std.specs.Prelude.{ℕ, ◌+◌, ◌==◌, Bool, true, false, ◌||◌, ◌-ℤ◌, Option, Some, None, List, [], ◌∷◌, ◌++◌, map, take, option_and_then, option_to_list, slice_index_or, if◌then◌else◌}
+use Rattle.std.specs.Prelude.{ℕ, ◌+◌, ◌==◌, Bool, true, false, ◌||◌, ◌-ℤ◌, Option, Some, None, List, [], ◌∷◌, ◌++◌, map}
+use Rattle.std.specs.Prelude.{take, option_and_then, option_to_list, slice_index_or, if◌then◌else◌}
 use Rattle.ctu_records.specs.declared.prediction.Mv.{Mv}
 use Rattle.ctu_records.specs.declared.prediction.Rectangle.{Rectangle}
 use Rattle.spec_motion.specs.declared.slice_motion.SliceMotion.{SliceMotion}
 use Rattle.spec_motion.specs.declared.vectors.Motion.{Motion}
 use Rattle.spec_motion.specs.declared.vectors.Reference.{Reference}
 use Rattle.spec_motion.specs.declared.vectors.Vector.{Vector}
-use Rattle.spec_motion.specs.Vectors.{Beneath, Known, agree, in_list, in_other, or_else, reference_in, reference_in_other, same_mv, zero_mv}
+use Rattle.spec_motion.specs.Vectors.{Beneath, Known, agree, in_list, in_other, or_else, reference_in}
+use Rattle.spec_motion.specs.Vectors.{reference_in_other, same_mv, zero_mv}
 use Rattle.spec_motion.specs.Scaling.{scaled}
 use Rattle.spec_motion.specs.Temporal.{temporal_mv}
 
@@ -19,8 +21,10 @@ if_same_picture target reference mv = if reference.picture == target.picture the
 abbrev pub of_same_picture : SliceMotion → ℕ → Reference → Motion → Option Mv
 of_same_picture slice list target motion =
     or_else
-    (option_and_then (λ (v : Vector). if_same_picture target (reference_in slice list v.ref_idx) v.mv) (in_list list motion))
-    (option_and_then (λ (v : Vector). if_same_picture target (reference_in_other slice list v.ref_idx) v.mv) (in_other list motion))
+    (option_and_then (λ (v : Vector). if_same_picture target (reference_in slice list v.ref_idx) v.mv)
+    (in_list list motion))
+    (option_and_then (λ (v : Vector). if_same_picture target (reference_in_other slice list v.ref_idx) v.mv)
+    (in_other list motion))
 
 unfoldable pub pointing : SliceMotion → ℕ → Reference → Option Motion → Option Mv
 pointing slice list target place = option_and_then (of_same_picture slice list target) place
@@ -29,15 +33,18 @@ pointing slice list target place = option_and_then (of_same_picture slice list t
 unfoldable pub if_same_mark : SliceMotion → Reference → Reference → Mv → Option Mv
 if_same_mark slice target reference mv =
     if agree target.long_term reference.long_term
-    then Some (if target.long_term then mv else scaled (slice.order -ℤ reference.order) (slice.order -ℤ target.order) mv)
+    then Some (if target.long_term then mv
+    else scaled (slice.order -ℤ reference.order) (slice.order -ℤ target.order) mv)
     else None
 
 -- the vector of a place whose reference has the same mark, scaled
 abbrev pub of_same_mark : SliceMotion → ℕ → Reference → Motion → Option Mv
 of_same_mark slice list target motion =
     or_else
-    (option_and_then (λ (v : Vector). if_same_mark slice target (reference_in slice list v.ref_idx) v.mv) (in_list list motion))
-    (option_and_then (λ (v : Vector). if_same_mark slice target (reference_in_other slice list v.ref_idx) v.mv) (in_other list motion))
+    (option_and_then (λ (v : Vector). if_same_mark slice target (reference_in slice list v.ref_idx) v.mv)
+    (in_list list motion))
+    (option_and_then (λ (v : Vector). if_same_mark slice target (reference_in_other slice list v.ref_idx) v.mv)
+    (in_other list motion))
 
 unfoldable pub reaching : SliceMotion → ℕ → Reference → Option Motion → Option Mv
 reaching slice list target place = option_and_then (of_same_mark slice list target) place
@@ -65,7 +72,9 @@ unfoldable pub spatial_mvs : SliceMotion → ℕ → Reference → List (Option 
 spatial_mvs slice list target left above is_left =
     let pointing_b : Option Mv = first_of (map (pointing slice list target) above) in
     if is_left
-    then distinct (or_else (first_of (map (pointing slice list target) left)) (first_of (map (reaching slice list target) left))) pointing_b
+    then distinct
+    (or_else (first_of (map (pointing slice list target) left)) (first_of (map (reaching slice list target) left)))
+    pointing_b
     else distinct pointing_b (first_of (map (reaching slice list target) above))
 
 -- those of a block, by its places

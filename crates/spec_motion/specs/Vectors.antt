@@ -1,5 +1,6 @@
 -- Motion by place, the pictures that it points to, and when two motions are the same.
-use Rattle.std.specs.Prelude.{ℕ, ◌==◌, Bool, true, false, not, ◌&&◌, Option, Some, None, pos, slice_index_or, if◌then◌else◌}
+use Rattle.std.specs.Prelude.{ℕ, ◌==◌, Bool, true, false, not, ◌&&◌, Option, Some, None, pos, slice_index_or}
+use Rattle.std.specs.Prelude.{if◌then◌else◌}
 use Rattle.std.specs.Ordering.{int_eq}
 use Rattle.ctu_records.specs.declared.prediction.Mv.{Mv}
 use Rattle.spec_motion.specs.declared.collocation.Collocated.{Collocated}
@@ -43,7 +44,8 @@ unfoldable pub reference_in : SliceMotion → ℕ → ℕ → Reference
 reference_in slice list i = slice_index_or (if list == 0 then slice.references_0 else slice.references_1) i no_reference
 
 unfoldable pub reference_in_other : SliceMotion → ℕ → ℕ → Reference
-reference_in_other slice list i = slice_index_or (if list == 0 then slice.references_1 else slice.references_0) i no_reference
+reference_in_other slice list i =
+    slice_index_or (if list == 0 then slice.references_1 else slice.references_0) i no_reference
 
 -- whether vectors are the same
 abbrev pub same_mv : Mv → Mv → Bool

@@ -12,12 +12,14 @@ ghost use Rattle.spec_motion.specs.Vectors.{Beneath, Known};
 
 /// Each merge_idx below MaxNumMergeCand names a candidate.
 pub fn merge_lists_are_full()
-    ensures { (slice : SliceMotion) (beneath : Beneath) (known : Known) (unit : PredictionUnit) → slice.max_candidates ≤ length (merge_candidates slice beneath known unit) }
+    ensures { (slice : SliceMotion) (beneath : Beneath) (known : Known) (unit : PredictionUnit)
+        → slice.max_candidates ≤ length (merge_candidates slice beneath known unit) }
 {}
 
 /// A list of predictors has two.
 pub fn predictors_are_two()
-    ensures { (slice : SliceMotion) (beneath : Beneath) (known : Known) (block : Rectangle) (list ref_idx : ℕ) → length (mv_predictors slice beneath known block list ref_idx) ≡ 2 }
+    ensures { (slice : SliceMotion) (beneath : Beneath) (known : Known) (block : Rectangle) (list ref_idx : ℕ)
+        → length (mv_predictors slice beneath known block list ref_idx) ≡ 2 }
 {}
 
 /// A vector over two pictures, brought to one: 8 becomes 4, -8 becomes -4, and 7 becomes 3.

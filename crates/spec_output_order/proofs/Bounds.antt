@@ -1,12 +1,15 @@
 -- The buffer behind each step of output: it has room, or no picture of it waits.
-use Rattle.std.proofs.Common.{◌≡◌, ◌∙◌, ℕ, ◌+◌, ◌<◌, ◌≤◌, inl, inr, Bool, true, false, cond, List, [], ◌∷◌, length, Option, Some, None, if◌then◌else◌, nat_lt, arith, refl, sym, subst}
+use Rattle.std.proofs.Common.{◌≡◌, ◌∙◌, ℕ, ◌+◌, ◌<◌, ◌≤◌, inl, inr, Bool, true, false, cond, List, [], ◌∷◌, length}
+use Rattle.std.proofs.Common.{Option, Some, None, if◌then◌else◌, nat_lt, arith, refl, sym, subst}
 use Rattle.std.specs.List.{All, count_by, filter}
 use Rattle.std.proofs.lemmas.Bool.{cases_Bool, ltb-false, or_parts, true≢false}
 use Rattle.header_types.specs.declared.reference_pictures.DpbPicture.{DpbPicture}
 use Rattle.header_types.specs.declared.reference_pictures.Mark.{Mark}
 use Rattle.spec_reference_pictures.specs.ReferencePictureSet.{is_reference, no_picture}
 use Rattle.spec_output_order.specs.declared.current_picture.CurrentPicture.{CurrentPicture}
-use Rattle.spec_output_order.specs.OutputOrder.{NoneNeededForOutput, all_marked, bumped, discarded, ended, entered, is_full, is_kept, is_needed_for_output, last_outputs, needs_bumping, none_out, not_needed_at, outputs_of, started}
+use Rattle.spec_output_order.specs.OutputOrder.{NoneNeededForOutput, all_marked, bumped, discarded, ended, entered}
+use Rattle.spec_output_order.specs.OutputOrder.{is_full, is_kept, is_needed_for_output, last_outputs, needs_bumping}
+use Rattle.spec_output_order.specs.OutputOrder.{none_out, not_needed_at, outputs_of, started}
 use Rattle.spec_output_order.specs.Waiting.{GoesOutOnce, HasRoom, IsBumping, picture_at, times_in}
 use Rattle.spec_output_order.proofs.AtOnce.{discarded_none}
 use Rattle.spec_output_order.proofs.Bumping.{few_bumped}
@@ -23,24 +26,30 @@ run_room reorder size pictures (k ∷ out) left run = run_room reorder size (not
 none_waits_in : (size : Option ℕ) (left : List DpbPicture) → HasRoom 0 size left → NoneNeededForOutput left
 unfolding needs_bumping
 none_waits_in size left (inl room) =
-    none_by_count left (ltb-false 0 (count_by is_needed_for_output left) (or_parts (nat_lt 0 (count_by is_needed_for_output left)) (is_full size left) room).0)
+    none_by_count left
+    (ltb-false 0 (count_by is_needed_for_output left)
+    (or_parts (nat_lt 0 (count_by is_needed_for_output left)) (is_full size left) room).0)
 none_waits_in size left (inr none) = none
 
 bumped_out : (pictures : List DpbPicture) → NoneNeededForOutput (bumped 0 None pictures).left
-bumped_out pictures = none_waits_in None (bumped 0 None pictures).left (run_room 0 None pictures _ _ (bumps 0 None pictures))
+bumped_out pictures =
+    none_waits_in None (bumped 0 None pictures).left (run_room 0 None pictures _ _ (bumps 0 None pictures))
 
 -- ---- before the current picture is decoded
 
-anew_by : (pictures : List DpbPicture) (discards : Bool) → NoneNeededForOutput (if discards then none_out (discarded pictures) else bumped 0 None pictures).left
+anew_by : (pictures : List DpbPicture) (discards : Bool)
+    → NoneNeededForOutput (if discards then none_out (discarded pictures) else bumped 0 None pictures).left
 anew_by pictures true = discarded_none pictures
 anew_by pictures false = bumped_out pictures
 
-pub started_anew : (current : CurrentPicture) (pictures : List DpbPicture) → current.begins_anew ≡ true → NoneNeededForOutput (started current pictures).left
+pub started_anew : (current : CurrentPicture) (pictures : List DpbPicture) → current.begins_anew ≡ true
+    → NoneNeededForOutput (started current pictures).left
 unfolding started
 started_anew current pictures anew = rw anew (anew_by pictures current.no_output_of_prior_pics_flag)
 
 pub started_room : (current : CurrentPicture) (pictures : List DpbPicture) → current.begins_anew ≡ false
-    → HasRoom current.ordering.max_num_reorder_pics (Some (current.ordering.max_dec_pic_buffering_minus1 + 1)) (started current pictures).left
+    → HasRoom current.ordering.max_num_reorder_pics (Some (current.ordering.max_dec_pic_buffering_minus1 + 1))
+    (started current pictures).left
 unfolding started
 started_room current pictures goes_on =
     let reorder = current.ordering.max_num_reorder_pics in
@@ -50,7 +59,8 @@ started_room current pictures goes_on =
 -- ---- behind the current picture
 
 -- all that are needed for output stay
-kept_needed : (pictures : List DpbPicture) → count_by is_needed_for_output (filter is_kept pictures) ≡ count_by is_needed_for_output pictures
+kept_needed : (pictures : List DpbPicture)
+    → count_by is_needed_for_output (filter is_kept pictures) ≡ count_by is_needed_for_output pictures
 kept_needed [] = refl
 kept_needed (p ∷ pictures) =
     let all = count-cons is_needed_for_output p pictures in
@@ -80,7 +90,8 @@ last_counts : (dpb : List DpbPicture) (place : ℕ) → times_in place (last_out
 unfolding last_outputs
 last_counts dpb place =
     let counts = run_counts 0 None dpb _ _ (bumps 0 None dpb) place in
-    let none : need (bumped 0 None dpb).left place ≡ 0 = elim (cases_Bool (picture_at (bumped 0 None dpb).left place).needed_for_output) [
+    let none : need (bumped 0 None dpb).left place ≡ 0 =
+    elim (cases_Bool (picture_at (bumped 0 None dpb).left place).needed_for_output) [
       | inl needed ↦
           let w = waits_by (bumped 0 None dpb).left place needed in
           absurd (true≢false (sym needed ∙ bumped_out dpb place no_picture w.inside))

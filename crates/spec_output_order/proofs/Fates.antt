@@ -1,5 +1,7 @@
 -- What becomes of each picture that waits: it goes out once, waits on, or was discarded.
-use Rattle.std.proofs.Common.{◌≡◌, ◌≢◌, ◌∙◌, ℕ, zero, suc, ◌+◌, ◌-◌, ◌<◌, ◌≤◌, ◌⊎◌, inl, inr, Bool, true, false, ◌==◌, cond, List, [], ◌∷◌, ◌++◌, length, get_or, Option, Some, None, if◌then◌else◌, arith, refl, sym, ap, subst, length-append, get_or-set_other, get_or-set_same, length-set}
+use Rattle.std.proofs.Common.{◌≡◌, ◌≢◌, ◌∙◌, ℕ, zero, suc, ◌+◌, ◌-◌, ◌<◌, ◌≤◌, ◌⊎◌, inl, inr, Bool, true, false, ◌==◌}
+use Rattle.std.proofs.Common.{cond, List, [], ◌∷◌, ◌++◌, length, get_or, Option, Some, None, if◌then◌else◌, arith, refl}
+use Rattle.std.proofs.Common.{sym, ap, subst, length-append, get_or-set_other, get_or-set_same, length-set}
 use Rattle.std.specs.List.{All, filter}
 use Rattle.std.proofs.lemmas.Bool.{cases_Bool, cases_eq, cases_lt, eq-eqb, ne_eqb, or_left, true≢false}
 use Rattle.std.proofs.lemmas.List.{get_or-append_right, get_or_append_left, length-map}
@@ -10,8 +12,10 @@ use Rattle.header_types.specs.declared.reference_pictures.Mark.{Mark}
 use Rattle.spec_reference_pictures.specs.ReferencePictureSet.{is_reference, no_picture}
 use Rattle.plan_types.specs.declared.outputs.Outputs.{Outputs}
 use Rattle.spec_output_order.specs.declared.current_picture.CurrentPicture.{CurrentPicture}
-use Rattle.spec_output_order.specs.OutputOrder.{Bumped, all_marked, bumped, discarded, ended, entered, is_kept, kept_from, none_out, not_needed, not_needed_at, outputs_of, started}
-use Rattle.spec_output_order.specs.Waiting.{IsBumping, IsDiscarded, IsInRange, IsQuietAt, IsStill, StaysWaiting, Waits, WaitsAndThen, all_out, picture_at, times_in}
+use Rattle.spec_output_order.specs.OutputOrder.{Bumped, all_marked, bumped, discarded, ended, entered, is_kept}
+use Rattle.spec_output_order.specs.OutputOrder.{kept_from, none_out, not_needed, not_needed_at, outputs_of, started}
+use Rattle.spec_output_order.specs.Waiting.{IsBumping, IsDiscarded, IsInRange, IsQuietAt, IsStill, StaysWaiting, Waits}
+use Rattle.spec_output_order.specs.Waiting.{WaitsAndThen, all_out, picture_at, times_in}
 use Rattle.spec_output_order.proofs.AtOnce.{marked_length}
 use Rattle.spec_output_order.proofs.Counts.{count-cons}
 use Rattle.spec_output_order.proofs.FirstForOutput.{bumps}
@@ -31,7 +35,8 @@ outside (p ∷ pictures) (suc place) l = outside pictures place (omega arith)
 need_outside : (pictures : List DpbPicture) (place : ℕ) → length pictures ≤ place → need pictures place ≡ 0
 need_outside pictures place l = rw (outside pictures place l) refl
 
-pub waits_by : (pictures : List DpbPicture) (place : ℕ) → (picture_at pictures place).needed_for_output ≡ true → Waits pictures place
+pub waits_by : (pictures : List DpbPicture) (place : ℕ) → (picture_at pictures place).needed_for_output ≡ true
+    → Waits pictures place
 waits_by pictures place needed = elim (cases_lt place (length pictures)) [
   | inl l ↦ record { inside = l; needed = needed }
   | inr l ↦ absurd (true≢false (sym needed ∙ ap (λ (p : DpbPicture). p.needed_for_output) (outside pictures place l)))
@@ -44,7 +49,8 @@ need_gone pictures k l =
     let same = get_or-set_same pictures k (not_needed (picture_at pictures k)) no_picture l in
     ap (λ (p : DpbPicture). cond p.needed_for_output 1 0) same
 
-need_other : (pictures : List DpbPicture) (k place : ℕ) → place ≢ k → need (not_needed_at pictures k) place ≡ need pictures place
+need_other : (pictures : List DpbPicture) (k place : ℕ) → place ≢ k
+    → need (not_needed_at pictures k) place ≡ need pictures place
 need_other pictures k place other =
     let same = get_or-set_other pictures k place (not_needed (picture_at pictures k)) no_picture other in
     ap (λ (p : DpbPicture). cond p.needed_for_output 1 0) same
@@ -65,7 +71,8 @@ times_other k place out other =
 
 -- what goes out and what is left to wait is what waited
 pub run_counts : (reorder : ℕ) (size : Option ℕ) (pictures : List DpbPicture) (out : List ℕ) (left : List DpbPicture)
-    → IsBumping reorder size pictures out left → (place : ℕ) → times_in place out + need left place ≡ need pictures place
+    → IsBumping reorder size pictures out left
+    → (place : ℕ) → times_in place out + need left place ≡ need pictures place
 run_counts reorder size pictures [] left run place =
     let same : need left place ≡ need pictures place = ap (λ (ps : List DpbPicture). need ps place) run.0 in
     omega (arith, same)
@@ -88,7 +95,8 @@ pub run_length : (reorder : ℕ) (size : Option ℕ) (pictures : List DpbPicture
     → IsBumping reorder size pictures out left → length left ≡ length pictures
 run_length reorder size pictures [] left run = ap (λ (ps : List DpbPicture). length ps) run.0
 run_length reorder size pictures (k ∷ out) left run =
-    run_length reorder size (not_needed_at pictures k) out left run.2 ∙ length-set pictures k (not_needed (picture_at pictures k))
+    run_length reorder size (not_needed_at pictures k) out left run.2
+    ∙ length-set pictures k (not_needed (picture_at pictures k))
 
 pub run_inside : (reorder : ℕ) (size : Option ℕ) (pictures : List DpbPicture) (out : List ℕ) (left : List DpbPicture)
     → IsBumping reorder size pictures out left → (n : ℕ) → length pictures ≡ n → All (λ (k : ℕ). k < n) out
@@ -96,10 +104,12 @@ run_inside reorder size pictures [] left run n is = All-nil (λ (k : ℕ). k < n
 run_inside reorder size pictures (k ∷ out) left run n is =
     let inside = run.1.waits.inside in
     let same = length-set pictures k (not_needed (picture_at pictures k)) in
-    All-cons (λ (i : ℕ). i < n) k out (omega (arith, inside, is)) (run_inside reorder size (not_needed_at pictures k) out left run.2 n (omega (arith, same, is)))
+    All-cons (λ (i : ℕ). i < n) k out (omega (arith, inside, is))
+    (run_inside reorder size (not_needed_at pictures k) out left run.2 n (omega (arith, same, is)))
 
 -- a picture is what it was, needed for output or not
-still_at : (pictures : List DpbPicture) (k place : ℕ) → IsStill (picture_at (not_needed_at pictures k) place) (picture_at pictures place)
+still_at : (pictures : List DpbPicture) (k place : ℕ)
+    → IsStill (picture_at (not_needed_at pictures k) place) (picture_at pictures place)
 still_at [] k place = record { poc = refl; mark = refl }
 still_at (p ∷ pictures) zero zero = record { poc = refl; mark = refl }
 still_at (p ∷ pictures) zero (suc place) = record { poc = refl; mark = refl }
@@ -107,7 +117,8 @@ still_at (p ∷ pictures) (suc k) zero = record { poc = refl; mark = refl }
 still_at (p ∷ pictures) (suc k) (suc place) = still_at pictures k place
 
 pub run_still : (reorder : ℕ) (size : Option ℕ) (pictures : List DpbPicture) (out : List ℕ) (left : List DpbPicture)
-    → IsBumping reorder size pictures out left → (place : ℕ) → IsStill (picture_at left place) (picture_at pictures place)
+    → IsBumping reorder size pictures out left
+    → (place : ℕ) → IsStill (picture_at left place) (picture_at pictures place)
 run_still reorder size pictures [] left run place = record {
   poc = ap (λ (ps : List DpbPicture). (picture_at ps place).poc) run.0;
   mark = ap (λ (ps : List DpbPicture). (picture_at ps place).mark) run.0;
@@ -119,7 +130,8 @@ run_still reorder size pictures (k ∷ out) left run place =
 
 -- ---- the buffer as it is marked, as it is discarded, and with the current picture
 
-pub marked_need : (pictures : List DpbPicture) (marks : List Mark) (place : ℕ) → need (all_marked pictures marks) place ≡ need pictures place
+pub marked_need : (pictures : List DpbPicture) (marks : List Mark) (place : ℕ)
+    → need (all_marked pictures marks) place ≡ need pictures place
 marked_need [] marks place = refl
 marked_need (p ∷ pictures) [] zero = refl
 marked_need (p ∷ pictures) (m ∷ marks) zero = refl
@@ -131,12 +143,14 @@ discarded_need [] place = refl
 discarded_need (p ∷ pictures) zero = refl
 discarded_need (p ∷ pictures) (suc place) = discarded_need pictures place
 
-discarded_still : (pictures : List DpbPicture) (place : ℕ) → IsStill (picture_at (discarded pictures) place) (picture_at pictures place)
+discarded_still : (pictures : List DpbPicture) (place : ℕ)
+    → IsStill (picture_at (discarded pictures) place) (picture_at pictures place)
 discarded_still [] place = record { poc = refl; mark = refl }
 discarded_still (p ∷ pictures) zero = record { poc = refl; mark = refl }
 discarded_still (p ∷ pictures) (suc place) = discarded_still pictures place
 
-entered_length : (current : CurrentPicture) (pictures : List DpbPicture) → length (entered current pictures) ≡ length pictures + 1
+entered_length : (current : CurrentPicture) (pictures : List DpbPicture)
+    → length (entered current pictures) ≡ length pictures + 1
 entered_length current pictures = length-append pictures _
 
 -- the current picture's entry changes none of those before it, and is the same behind as many
@@ -149,7 +163,8 @@ entered_behind : (current : CurrentPicture) (pictures : List DpbPicture) (n plac
 entered_behind current pictures n place is l = get_or-append_right pictures (entered current []) n place no_picture is l
 
 entered_counts : (current : CurrentPicture) (now before : List DpbPicture) (place t : ℕ) → length now ≡ length before
-    → t + need now place ≡ need before place → t + need (entered current now) place ≡ need (entered current before) place
+    → t + need now place ≡ need before place
+    → t + need (entered current now) place ≡ need (entered current before) place
 entered_counts current now before place t same e = elim (cases_lt place (length before)) [
   | inl l ↦
       let a = entered_before current now place (omega (arith, same, l)) in
@@ -170,9 +185,11 @@ pub record IsStarted (current : CurrentPicture) (pictures : List DpbPicture) (s 
   inside : All (λ (k : ℕ). k < length pictures) s.out
   still : (place : ℕ) → IsStill (picture_at s.left place) (picture_at pictures place)
   counts : (place : ℕ) → (times_in place s.out + need s.left place ≡ need pictures place)
-      ⊎ ((s.out ≡ []) × (need s.left place ≡ 0) × (current.begins_anew ≡ true) × (current.no_output_of_prior_pics_flag ≡ true))
+      ⊎ ((s.out ≡ []) × (need s.left place ≡ 0) × (current.begins_anew ≡ true)
+      × (current.no_output_of_prior_pics_flag ≡ true))
 
-started_bumped : (current : CurrentPicture) (pictures : List DpbPicture) (reorder : ℕ) (size : Option ℕ) → IsStarted current pictures (bumped reorder size pictures)
+started_bumped : (current : CurrentPicture) (pictures : List DpbPicture) (reorder : ℕ) (size : Option ℕ)
+    → IsStarted current pictures (bumped reorder size pictures)
 started_bumped current pictures reorder size =
     let run = bumps reorder size pictures in
     record {
@@ -182,7 +199,8 @@ started_bumped current pictures reorder size =
       counts = λ place. inl (run_counts reorder size pictures _ _ run place);
     }
 
-started_by : (current : CurrentPicture) (pictures : List DpbPicture) (reorder : ℕ) (size : Option ℕ) (anew discards : Bool)
+started_by : (current : CurrentPicture) (pictures : List DpbPicture) (reorder : ℕ) (size : Option ℕ)
+    (anew discards : Bool)
     → current.begins_anew ≡ anew → current.no_output_of_prior_pics_flag ≡ discards
     → IsStarted current pictures (if anew
     then (if discards then none_out (discarded pictures) else bumped 0 None pictures)
@@ -196,10 +214,12 @@ started_by current pictures reorder size true true a d = record {
 started_by current pictures reorder size true false a d = started_bumped current pictures 0 None
 started_by current pictures reorder size false discards a d = started_bumped current pictures reorder size
 
-pub is_started : (current : CurrentPicture) (pictures : List DpbPicture) → IsStarted current pictures (started current pictures)
+pub is_started : (current : CurrentPicture) (pictures : List DpbPicture)
+    → IsStarted current pictures (started current pictures)
 unfolding started
 is_started current pictures =
-    started_by current pictures current.ordering.max_num_reorder_pics (Some (current.ordering.max_dec_pic_buffering_minus1 + 1))
+    started_by current pictures current.ordering.max_num_reorder_pics
+    (Some (current.ordering.max_dec_pic_buffering_minus1 + 1))
     current.begins_anew current.no_output_of_prior_pics_flag refl refl
 
 -- ---- the pictures that stay
@@ -210,7 +230,8 @@ record IsKept (left : List DpbPicture) (base place at : ℕ) : Type 0 where
   is : get_or (kept_from base left) at 0 ≡ base + place
   same : picture_at (filter is_kept left) at ≡ picture_at left place
 
-kept_later : (p : DpbPicture) (left : List DpbPicture) (base place at : ℕ) (kept : Bool) → is_kept p ≡ kept → IsKept left (suc base) place at
+kept_later : (p : DpbPicture) (left : List DpbPicture) (base place at : ℕ) (kept : Bool) → is_kept p ≡ kept
+    → IsKept left (suc base) place at
     → (later : ℕ) × IsKept (p ∷ left) base (suc place) later
 kept_later p left base place at true e is = (
   suc at,
@@ -248,7 +269,8 @@ pub record ComesFrom (left : List DpbPicture) (base at : ℕ) : Type 0 where
   pub is : get_or (kept_from base left) at 0 ≡ base + place
   same : picture_at (filter is_kept left) at ≡ picture_at left place
 
-comes_behind : (p : DpbPicture) (left : List DpbPicture) (base at : ℕ) → is_kept p ≡ true → ComesFrom left (suc base) at → ComesFrom (p ∷ left) base (suc at)
+comes_behind : (p : DpbPicture) (left : List DpbPicture) (base at : ℕ) → is_kept p ≡ true → ComesFrom left (suc base) at
+    → ComesFrom (p ∷ left) base (suc at)
 comes_behind p left base at e from = record {
   place = suc from.place;
   inside = let i = from.inside in omega (arith, i);
@@ -256,7 +278,8 @@ comes_behind p left base at e from = record {
   same = rw e from.same;
 }
 
-comes_over : (p : DpbPicture) (left : List DpbPicture) (base at : ℕ) → is_kept p ≡ false → ComesFrom left (suc base) at → ComesFrom (p ∷ left) base at
+comes_over : (p : DpbPicture) (left : List DpbPicture) (base at : ℕ) → is_kept p ≡ false → ComesFrom left (suc base) at
+    → ComesFrom (p ∷ left) base at
 comes_over p left base at e from = record {
   place = suc from.place;
   inside = let i = from.inside in omega (arith, i);
@@ -267,7 +290,8 @@ comes_over p left base at e from = record {
 comes_by : (p : DpbPicture) (left : List DpbPicture) (base : ℕ) (kept : Bool) → is_kept p ≡ kept
     → ((at : ℕ) → at < length (kept_from (suc base) left) → ComesFrom left (suc base) at)
     → (at : ℕ) → at < length (kept_from base (p ∷ left)) → ComesFrom (p ∷ left) base at
-comes_by p left base true e rest zero l = record { place = 0; inside = omega arith; is = rw e (omega arith); same = rw e refl }
+comes_by p left base true e rest zero l =
+    record { place = 0; inside = omega arith; is = rw e (omega arith); same = rw e refl }
 comes_by p left base true e rest (suc at) l =
     let inside = rw e at l in
     comes_behind p left base at e (rest at (omega (arith, inside)))
@@ -291,7 +315,8 @@ as_many (p ∷ left) base =
 -- ---- what becomes of each picture
 
 pub ended_bumps : (current : CurrentPicture) (pictures : List DpbPicture)
-    → IsBumping current.ordering.max_num_reorder_pics None (entered current pictures) (ended current pictures).out (ended current pictures).left
+    → IsBumping current.ordering.max_num_reorder_pics None (entered current pictures) (ended current pictures).out
+    (ended current pictures).left
 unfolding ended
 ended_bumps current pictures = bumps current.ordering.max_num_reorder_pics None (entered current pictures)
 
@@ -299,11 +324,16 @@ times_both : (place : ℕ) (xs ys : List ℕ) → times_in place (xs ++ ys) ≡ 
 times_both place xs ys = sum_by-append (λ k. cond (k == place) 1 0) xs ys
 
 -- what goes out and what is left to wait is what waited, but for what was discarded
-counts_by : (current : CurrentPicture) (dpb : List DpbPicture) (marks : List Mark) (place : ℕ) (s : Bumped) → IsStarted current (all_marked dpb marks) s
-    → (times_in place (s.out ++ (ended current s.left).out) + need (ended current s.left).left place ≡ need (entered current dpb) place)
-    ⊎ ((times_in place (s.out ++ (ended current s.left).out) + need (ended current s.left).left place ≡ 0) × IsDiscarded current (length dpb) place)
+counts_by : (current : CurrentPicture) (dpb : List DpbPicture) (marks : List Mark) (place : ℕ) (s : Bumped)
+    → IsStarted current (all_marked dpb marks) s
+    → (times_in place (s.out ++ (ended current s.left).out) + need (ended current s.left).left place
+    ≡ need (entered current dpb) place)
+    ⊎ ((times_in place (s.out ++ (ended current s.left).out) + need (ended current s.left).left place ≡ 0)
+    × IsDiscarded current (length dpb) place)
 counts_by current dpb marks place s is =
-    let ended_counts = run_counts current.ordering.max_num_reorder_pics None (entered current s.left) _ _ (ended_bumps current s.left) place in
+    let ended_counts =
+    run_counts current.ordering.max_num_reorder_pics None (entered current s.left) _ _
+    (ended_bumps current s.left) place in
     let both = times_both place s.out (ended current s.left).out in
     let long = marked_length dpb marks in
     let same = is.same in
@@ -316,7 +346,8 @@ counts_by current dpb marks place s is =
         | inl l ↦
             let none : times_in place s.out ≡ 0 = rw e.0 refl in
             let before = entered_before current s.left place (omega (arith, same, long, l)) in
-            let here : need (entered current s.left) place ≡ 0 = ap (λ (p : DpbPicture). cond p.needed_for_output 1 0) before ∙ e.1 in
+            let here : need (entered current s.left) place ≡ 0 =
+            ap (λ (p : DpbPicture). cond p.needed_for_output 1 0) before ∙ e.1 in
             inr (omega (arith, ended_counts, both, none, here), record { inside = l; anew = e.2; prior = e.3 })
         | inr l ↦
             let none : times_in place s.out ≡ 0 = rw e.0 refl in
@@ -333,7 +364,8 @@ Fate current dpb o left place =
     (times_in place (all_out o) + need left place ≡ need (entered current dpb) place)
     ⊎ ((times_in place (all_out o) + need left place ≡ 0) × IsDiscarded current (length dpb) place)
 
-pub need_none : (left : List DpbPicture) (place : ℕ) → (picture_at left place).needed_for_output ≡ false → need left place ≡ 0
+pub need_none : (left : List DpbPicture) (place : ℕ) → (picture_at left place).needed_for_output ≡ false
+    → need left place ≡ 0
 need_none left place no_need = rw no_need refl
 
 abbrev left_by : List ℕ → Bumped → Outputs
@@ -349,7 +381,8 @@ stays before b place w =
       waits = waits_by (filter is_kept b.left) k.0 (ap (λ (p : DpbPicture). p.needed_for_output) k.1.same ∙ w.needed);
     }
 
-stays_no_more : (before : List ℕ) (b : Bumped) (place : ℕ) → need b.left place ≡ 0 → ¬ StaysWaiting (left_by before b) place
+stays_no_more : (before : List ℕ) (b : Bumped) (place : ℕ) → need b.left place ≡ 0
+    → ¬ StaysWaiting (left_by before b) place
 stays_no_more before b place none = λ st.
     let from = comes_from b.left 0 st.at st.inside in
     let is = from.is in
@@ -357,7 +390,9 @@ stays_no_more before b place none = λ st.
     let same : from.place ≡ place = omega (arith, is, at) in
     let needed : (picture_at b.left from.place).needed_for_output ≡ true =
     sym (ap (λ (p : DpbPicture). p.needed_for_output) from.same) ∙ st.waits.needed in
-    let one = need_one b.left place (waits_by b.left place (subst (λ (k : ℕ). (picture_at b.left k).needed_for_output ≡ true) same needed)) in
+    let one =
+    need_one b.left place
+    (waits_by b.left place (subst (λ (k : ℕ). (picture_at b.left k).needed_for_output ≡ true) same needed)) in
     omega (arith, one, none)
 
 fate_by : (current : CurrentPicture) (dpb : List DpbPicture) (before : List ℕ) (b : Bumped) (place : ℕ)
@@ -377,7 +412,8 @@ fate_by current dpb before b place (inl e) w =
 fate_by current dpb before b place (inr e) w = let none = e.0 in inr (omega (arith, none), inr e.1)
 
 none_by : (current : CurrentPicture) (dpb : List DpbPicture) (before : List ℕ) (b : Bumped) (place : ℕ)
-    → Fate current dpb (left_by before b) b.left place → ¬ Waits (entered current dpb) place → IsQuietAt (left_by before b) place
+    → Fate current dpb (left_by before b) b.left place → ¬ Waits (entered current dpb) place
+    → IsQuietAt (left_by before b) place
 none_by current dpb before b place (inl e) quiet =
     elim (cases_Bool (picture_at (entered current dpb) place).needed_for_output) [
       | inl needed ↦ absurd (quiet (waits_by (entered current dpb) place needed))
@@ -389,49 +425,64 @@ none_by current dpb before b place (inr e) quiet =
     let none = e.0 in
     (omega (arith, none), stays_no_more before b place (omega (arith, none)))
 
-pub waiting_fate : (current : CurrentPicture) (dpb : List DpbPicture) (marks : List Mark) (place : ℕ) → Waits (entered current dpb) place
+pub waiting_fate : (current : CurrentPicture) (dpb : List DpbPicture) (marks : List Mark) (place : ℕ)
+    → Waits (entered current dpb) place
     → WaitsAndThen current (length dpb) (outputs_of current dpb marks) place
 unfolding outputs_of
 waiting_fate current dpb marks place w =
     let s = started current (all_marked dpb marks) in
-    fate_by current dpb s.out (ended current s.left) place (counts_by current dpb marks place s (is_started current (all_marked dpb marks))) w
+    fate_by current dpb s.out (ended current s.left) place
+    (counts_by current dpb marks place s (is_started current (all_marked dpb marks))) w
 
-pub other_fate : (current : CurrentPicture) (dpb : List DpbPicture) (marks : List Mark) (place : ℕ) → ¬ Waits (entered current dpb) place
+pub other_fate : (current : CurrentPicture) (dpb : List DpbPicture) (marks : List Mark) (place : ℕ)
+    → ¬ Waits (entered current dpb) place
     → IsQuietAt (outputs_of current dpb marks) place
 unfolding outputs_of
 other_fate current dpb marks place quiet =
     let s = started current (all_marked dpb marks) in
-    none_by current dpb s.out (ended current s.left) place (counts_by current dpb marks place s (is_started current (all_marked dpb marks))) quiet
+    none_by current dpb s.out (ended current s.left) place
+    (counts_by current dpb marks place s (is_started current (all_marked dpb marks))) quiet
 
-discarded_start : (current : CurrentPicture) (pictures : List DpbPicture) → current.begins_anew ≡ true → current.no_output_of_prior_pics_flag ≡ true
+discarded_start : (current : CurrentPicture) (pictures : List DpbPicture) → current.begins_anew ≡ true
+    → current.no_output_of_prior_pics_flag ≡ true
     → started current pictures ≡ none_out (discarded pictures)
 unfolding started
 discarded_start current pictures anew prior = rw (anew, prior) refl
 
-discarded_by : (current : CurrentPicture) (pictures : List DpbPicture) (place : ℕ) (s : Bumped) → s ≡ none_out (discarded pictures) → place < length pictures
+discarded_by : (current : CurrentPicture) (pictures : List DpbPicture) (place : ℕ) (s : Bumped)
+    → s ≡ none_out (discarded pictures) → place < length pictures
     → IsQuietAt (left_by s.out (ended current s.left)) place
 discarded_by current pictures place s is l =
-    let counts = run_counts current.ordering.max_num_reorder_pics None (entered current s.left) _ _ (ended_bumps current s.left) place in
+    let counts =
+    run_counts current.ordering.max_num_reorder_pics None (entered current s.left) _ _
+    (ended_bumps current s.left) place in
     let both = times_both place s.out (ended current s.left).out in
     let none : times_in place s.out ≡ 0 = ap (λ (b : Bumped). times_in place b.out) is in
-    let long : length s.left ≡ length pictures = ap (λ (b : Bumped). length b.left) is ∙ length-map pictures not_needed in
+    let long : length s.left ≡ length pictures =
+    ap (λ (b : Bumped). length b.left) is ∙ length-map pictures not_needed in
     let before = entered_before current s.left place (omega (arith, long, l)) in
     let here : need (entered current s.left) place ≡ 0 =
-    ap (λ (p : DpbPicture). cond p.needed_for_output 1 0) before ∙ (ap (λ (b : Bumped). need b.left place) is ∙ discarded_need pictures place) in
-    (omega (arith, counts, both, none, here), stays_no_more s.out (ended current s.left) place (omega (arith, counts, here)))
+    ap (λ (p : DpbPicture). cond p.needed_for_output 1 0) before
+    ∙ (ap (λ (b : Bumped). need b.left place) is ∙ discarded_need pictures place) in (
+      omega (arith, counts, both, none, here),
+      stays_no_more s.out (ended current s.left) place (omega (arith, counts, here)),
+    )
 
-pub discarded_fate : (current : CurrentPicture) (dpb : List DpbPicture) (marks : List Mark) (place : ℕ) → IsDiscarded current (length dpb) place
+pub discarded_fate : (current : CurrentPicture) (dpb : List DpbPicture) (marks : List Mark) (place : ℕ)
+    → IsDiscarded current (length dpb) place
     → IsQuietAt (outputs_of current dpb marks) place
 unfolding outputs_of
 discarded_fate current dpb marks place is =
     let inside = is.inside in
     let long = marked_length dpb marks in
     let start = discarded_start current (all_marked dpb marks) is.anew is.prior in
-    discarded_by current (all_marked dpb marks) place (started current (all_marked dpb marks)) start (omega (arith, inside, long))
+    discarded_by current (all_marked dpb marks) place (started current (all_marked dpb marks)) start
+    (omega (arith, inside, long))
 
 -- ---- places
 
-pub in_range : (current : CurrentPicture) (dpb : List DpbPicture) (marks : List Mark) → IsInRange (length dpb) (outputs_of current dpb marks)
+pub in_range : (current : CurrentPicture) (dpb : List DpbPicture) (marks : List Mark)
+    → IsInRange (length dpb) (outputs_of current dpb marks)
 unfolding outputs_of
 in_range current dpb marks =
     let s = started current (all_marked dpb marks) in
@@ -441,10 +492,14 @@ in_range current dpb marks =
     let same = is.same in
     let more = entered_length current s.left in
     let left = run_length current.ordering.max_num_reorder_pics None (entered current s.left) _ _ run in
-    let behind = run_inside current.ordering.max_num_reorder_pics None (entered current s.left) _ _ run (length dpb + 1) (omega (arith, more, same, long)) in
+    let behind =
+    run_inside current.ordering.max_num_reorder_pics None (entered current s.left) _ _ run (length dpb + 1)
+    (omega (arith, more, same, long)) in
     record {
       before = subst (λ (n : ℕ). All (λ (k : ℕ). k < n) s.out) long is.inside;
-      behind = All-weaker (λ (k : ℕ). k < length dpb + 1) (λ (k : ℕ). k ≤ length dpb) (λ k l. omega (arith, l)) (ended current s.left).out behind;
+      behind =
+          All-weaker (λ (k : ℕ). k < length dpb + 1) (λ (k : ℕ). k ≤ length dpb) (λ k l. omega (arith, l))
+          (ended current s.left).out behind;
       kept = All-from_get_or (λ (k : ℕ). k ≤ length dpb) (kept_from 0 (ended current s.left).left) 0 (λ at l.
           let from = comes_from (ended current s.left).left 0 at l in
           let inside = from.inside in
@@ -475,8 +530,10 @@ entered_still current now before same still place = elim (cases_lt place (length
       still_same _ _ (a ∙ sym b)
 ]
 
-pub stays_as_marked : (current : CurrentPicture) (dpb : List DpbPicture) (marks : List Mark) (at : ℕ) → at < length (outputs_of current dpb marks).kept
-    → IsStill (picture_at (outputs_of current dpb marks).dpb at) (picture_at (entered current (all_marked dpb marks)) (get_or (outputs_of current dpb marks).kept at 0))
+pub stays_as_marked : (current : CurrentPicture) (dpb : List DpbPicture) (marks : List Mark) (at : ℕ)
+    → at < length (outputs_of current dpb marks).kept
+    → IsStill (picture_at (outputs_of current dpb marks).dpb at)
+    (picture_at (entered current (all_marked dpb marks)) (get_or (outputs_of current dpb marks).kept at 0))
 unfolding outputs_of
 stays_as_marked current dpb marks at l =
     let s = started current (all_marked dpb marks) in
@@ -485,7 +542,11 @@ stays_as_marked current dpb marks at l =
     let from = comes_from left 0 at l in
     let at_place = from.is in
     let place : from.place ≡ get_or (kept_from 0 left) at 0 = omega (arith, at_place) in
-    let run = run_still current.ordering.max_num_reorder_pics None (entered current s.left) _ _ (ended_bumps current s.left) from.place in
+    let run =
+    run_still current.ordering.max_num_reorder_pics None (entered current s.left) _ _
+    (ended_bumps current s.left) from.place in
     let marked = entered_still current s.left (all_marked dpb marks) is.same is.still from.place in
-    subst (λ (k : ℕ). IsStill (picture_at (filter is_kept left) at) (picture_at (entered current (all_marked dpb marks)) k)) place
+    subst
+    (λ (k : ℕ). IsStill (picture_at (filter is_kept left) at) (picture_at (entered current (all_marked dpb marks)) k))
+    place
     (still_both _ _ _ (still_same _ _ from.same) (still_both _ _ _ run marked))

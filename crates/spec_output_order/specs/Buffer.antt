@@ -1,5 +1,6 @@
 -- The decoded picture buffer by itself: a picture starts and is placed, and at the end of the input all go out (C.5.2).
-use Rattle.std.specs.Prelude.{◌≡◌, ℕ, ◌+◌, ◌≤◌, Bool, List, [], ◌∷◌, ◌++◌, map, length, slice_index_or, Option, None, Some, Result, Ok, Err, if◌then◌else◌}
+use Rattle.std.specs.Prelude.{◌≡◌, ℕ, ◌+◌, ◌≤◌, Bool, List, [], ◌∷◌, ◌++◌, map, length, slice_index_or, Option, None}
+use Rattle.std.specs.Prelude.{Some, Result, Ok, Err, if◌then◌else◌}
 use Rattle.std.specs.List.{filter}
 use Rattle.hv_base.specs.declared.fault.FaultKind.{FaultKind}
 use Rattle.hv_base.specs.declared.fault.FaultKind.TheVariants as rule
@@ -8,7 +9,8 @@ use Rattle.hv_base.specs.declared.refusal.Refusal.TheVariants as refusal
 use Rattle.header_types.specs.declared.reference_pictures.DpbPicture.{DpbPicture}
 use Rattle.header_types.specs.declared.reference_pictures.Mark.{Mark}
 use Rattle.spec_output_order.specs.declared.current_picture.CurrentPicture.{CurrentPicture}
-use Rattle.spec_output_order.specs.OutputOrder.{Bumped, all_marked, bumped, is_full_of_references, is_kept, kept_from, last_outputs, newest, outputs_by, started}
+use Rattle.spec_output_order.specs.OutputOrder.{Bumped, all_marked, bumped, is_full_of_references, is_kept, kept_from}
+use Rattle.spec_output_order.specs.OutputOrder.{last_outputs, newest, outputs_by, started}
 use Rattle.plan_types.specs.declared.outputs.Outputs.{Outputs}
 
 -- its pictures in decoding order and, where a picture was started and isn't placed yet, how many may be reordered then
@@ -31,7 +33,8 @@ start_outputs current pictures marks = before_only (started current (all_marked 
 -- or the rule that it breaks
 abbrev pub start_of : CurrentPicture → List DpbPicture → List Mark → Result Outputs FaultKind
 start_of current pictures marks =
-    if is_full_of_references current.begins_anew current.ordering marks then Err rule.DpbFull else Ok (start_outputs current pictures marks)
+    if is_full_of_references current.begins_anew current.ordering marks then Err rule.DpbFull
+    else Ok (start_outputs current pictures marks)
 
 -- a picture is placed behind those that its start left: what goes out then, and what stays (C.5.2.3)
 unfoldable pub place_outputs : ℕ → DpbPicture → List DpbPicture → Outputs
@@ -65,4 +68,5 @@ start_then_place size s p = record {
 abbrev pub started_and_placed : CurrentPicture → List DpbPicture → List Mark → Outputs
 started_and_placed current pictures marks =
     let s : Outputs = start_outputs current pictures marks in
-    start_then_place (length pictures) s (place_outputs current.ordering.max_num_reorder_pics (newest current.poc current.pic_output_flag) s.dpb)
+    start_then_place (length pictures) s
+    (place_outputs current.ordering.max_num_reorder_pics (newest current.poc current.pic_output_flag) s.dpb)

@@ -9,7 +9,8 @@ use Rattle.spec_output_order.specs.declared.current_picture.CurrentPicture.{Curr
 
 -- NoOutputOfPriorPicsFlag: that of the header, but 1 in a clean random access picture (C.5.2.2)
 abbrev pub no_output_of_prior_pics_flag : SliceHeaderFields → Bool
-no_output_of_prior_pics_flag header = (header.kind.nal_type == CRA_NUT) || unwrap_or header.segment.no_output_of_prior_pics_flag false
+no_output_of_prior_pics_flag header =
+    (header.kind.nal_type == CRA_NUT) || unwrap_or header.segment.no_output_of_prior_pics_flag false
 
 -- what of a picture decides its outputs. PicOutputFlag is pic_output_flag, since skipped leading pictures are dropped
 abbrev pub current_picture : SliceHeaderFields → SpsFields → ℤ → CurrentPicture

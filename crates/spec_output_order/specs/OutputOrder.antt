@@ -1,5 +1,7 @@
 -- What goes out of the decoded picture buffer, in which order, and what stays there (C.5.2.2 to C.5.2.4).
-use Rattle.std.specs.Prelude.{◌≡◌, ℕ, ℤ, zero, suc, ◌+◌, Bool, false, not, All, ◌&&◌, ◌||◌, List, [], ◌∷◌, ◌++◌, map, length, slice_index_or, slice_set, Option, Some, None, nat_lt, nat_le, int_le, if◌then◌else◌}
+use Rattle.std.specs.Prelude.{◌≡◌, ℕ, ℤ, zero, suc, ◌+◌, Bool, false, not, All, ◌&&◌, ◌||◌, List, [], ◌∷◌, ◌++◌, map}
+use Rattle.std.specs.Prelude.{length, slice_index_or, slice_set, Option, Some, None, nat_lt, nat_le, int_le}
+use Rattle.std.specs.Prelude.{if◌then◌else◌}
 use Rattle.std.specs.List.{count_by, filter}
 use Rattle.header_types.specs.declared.reference_pictures.DpbPicture.{DpbPicture}
 use Rattle.header_types.specs.declared.reference_pictures.Mark.{Mark}
@@ -40,7 +42,8 @@ all_marked (p ∷ pictures) (m ∷ marks) = marked p m ∷ all_marked pictures m
 abbrev pub sooner : DpbPicture → Option NextOutput → Option NextOutput
 sooner p None = if p.needed_for_output then Some (record { place = 0; poc = p.poc }) else None
 sooner p (Some n) =
-    if p.needed_for_output && int_le p.poc n.poc then Some (record { place = 0; poc = p.poc }) else Some (record { place = suc n.place; poc = n.poc })
+    if p.needed_for_output && int_le p.poc n.poc then Some (record { place = 0; poc = p.poc })
+    else Some (record { place = suc n.place; poc = n.poc })
 
 -- of the pictures that are needed for output the one that goes out next
 abbrev pub next_output : List DpbPicture → Option NextOutput
@@ -82,7 +85,9 @@ next_from pictures (Some n) rest = one_out n.place (rest (not_needed_at pictures
 abbrev pub bumped_at_most : ℕ → Option ℕ → ℕ → List DpbPicture → Bumped
 bumped_at_most reorder size zero pictures = none_out pictures
 bumped_at_most reorder size (suc n) pictures =
-    if needs_bumping reorder size pictures then next_from pictures (next_output pictures) (bumped_at_most reorder size n) else none_out pictures
+    if needs_bumping reorder size pictures
+    then next_from pictures (next_output pictures) (bumped_at_most reorder size n)
+    else none_out pictures
 
 -- no picture goes out more than once
 unfoldable pub bumped : ℕ → Option ℕ → List DpbPicture → Bumped
@@ -116,7 +121,8 @@ ended current pictures = bumped current.ordering.max_num_reorder_pics None (ente
 -- the places of the pictures that stay in the buffer, where the first has this one
 abbrev pub kept_from : ℕ → List DpbPicture → List ℕ
 kept_from place [] = []
-kept_from place (p ∷ pictures) = if is_kept p then place ∷ kept_from (suc place) pictures else kept_from (suc place) pictures
+kept_from place (p ∷ pictures) =
+    if is_kept p then place ∷ kept_from (suc place) pictures else kept_from (suc place) pictures
 
 abbrev pub outputs_by : List ℕ → Bumped → Outputs
 outputs_by before b = record { before = before; behind = b.out; kept = kept_from 0 b.left; dpb = filter is_kept b.left }

@@ -1,6 +1,7 @@
 -- What goes out in the words of C.5.2: which picture waits for its output, which is first for output, and what becomes
 -- of each picture that waits.
-use Rattle.std.specs.Prelude.{◌≡◌, ℕ, ◌<◌, ◌≤◌, ◌⊎◌, ◌≤ℤ◌, true, false, All, List, [], ◌∷◌, ◌++◌, length, slice_index_or, Option, ◌==◌}
+use Rattle.std.specs.Prelude.{◌≡◌, ℕ, ◌<◌, ◌≤◌, ◌⊎◌, ◌≤ℤ◌, true, false, All, List, [], ◌∷◌, ◌++◌, length}
+use Rattle.std.specs.Prelude.{slice_index_or, Option, ◌==◌}
 use Rattle.std.specs.List.{count_by}
 use Rattle.header_types.specs.declared.reference_pictures.DpbPicture.{DpbPicture}
 use Rattle.spec_reference_pictures.specs.ReferencePictureSet.{no_picture}
@@ -21,7 +22,8 @@ pub record Waits (pictures : List DpbPicture) (place : ℕ) : Type 0 where
 pub record IsFirstForOutput (pictures : List DpbPicture) (place : ℕ) : Type 0 where
   pub waits : Waits pictures place
   pub least : (other : ℕ) → Waits pictures other → (picture_at pictures place).poc ≤ℤ (picture_at pictures other).poc
-  pub first : (other : ℕ) → Waits pictures other → (picture_at pictures other).poc ≡ (picture_at pictures place).poc → place ≤ other
+  pub first : (other : ℕ) → Waits pictures other → (picture_at pictures other).poc ≡ (picture_at pictures place).poc
+      → place ≤ other
 
 -- the buffer isn't over its bounds, or no picture of it waits
 abbrev pub HasRoom : ℕ → Option ℕ → List DpbPicture → Type 0
@@ -32,7 +34,9 @@ HasRoom reorder size pictures = (needs_bumping reorder size pictures ≡ false) 
 abbrev pub IsBumping : ℕ → Option ℕ → List DpbPicture → List ℕ → List DpbPicture → Type 0
 IsBumping reorder size pictures [] left = (left ≡ pictures) × HasRoom reorder size pictures
 IsBumping reorder size pictures (place ∷ out) left =
-    (needs_bumping reorder size pictures ≡ true) × IsFirstForOutput pictures place × IsBumping reorder size (not_needed_at pictures place) out left
+    (needs_bumping reorder size pictures ≡ true)
+    × IsFirstForOutput pictures place
+    × IsBumping reorder size (not_needed_at pictures place) out left
 
 -- how often a place is one of these
 abbrev pub times_in : ℕ → List ℕ → ℕ

@@ -1,5 +1,6 @@
 -- scaling_list_data (7.3.4, 7.4.5).
-use Rattle.std.specs.Prelude.{ℕ, zero, suc, ◌-◌, ◌*◌, ◌%◌, ℤ, pos, ◌+ℤ◌, unsigned_abs, List, [], ◌∷◌, ◌++◌, length, map, replicate, slice_index_or, nat_lt, ◌==◌, if◌then◌else◌}
+use Rattle.std.specs.Prelude.{ℕ, zero, suc, ◌-◌, ◌*◌, ◌%◌, ℤ, pos, ◌+ℤ◌, unsigned_abs, List, [], ◌∷◌, ◌++◌, length, map}
+use Rattle.std.specs.Prelude.{replicate, slice_index_or, nat_lt, ◌==◌, if◌then◌else◌}
 use Rattle.std.specs.List.{range_with_len}
 use Rattle.header_types.specs.declared.scaling.ScalingList.{ScalingList}
 use Rattle.header_types.specs.declared.scaling.ScalingLists.{ScalingLists}
@@ -41,7 +42,8 @@ predicted_list size former = do
   scaling_list_pred_matrix_id_delta ← ue_to (length former)
   give (if scaling_list_pred_matrix_id_delta == 0
       then default_list size (length former)
-      else slice_index_or former (length former - scaling_list_pred_matrix_id_delta) (default_list size (length former)))
+      else slice_index_or former (length former - scaling_list_pred_matrix_id_delta)
+      (default_list size (length former)))
 
 -- nextCoef behind scaling_list_delta_coef
 unfoldable pub next_coef : ℕ → ℤ → ℕ

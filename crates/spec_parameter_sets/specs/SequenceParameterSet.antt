@@ -1,5 +1,6 @@
 -- seq_parameter_set_rbsp up to vui_parameters_present_flag (7.3.2.2, 7.4.3.2).
-use Rattle.std.specs.Prelude.{ℕ, zero, suc, ◌+◌, ◌-◌, ◌*◌, ◌%◌, ◌^◌, min, Bool, true, false, ◌&&◌, ◌==◌, List, [], ◌∷◌, ◌++◌, length, Option, None, Result, nat_lt, nat_le, if◌then◌else◌}
+use Rattle.std.specs.Prelude.{ℕ, zero, suc, ◌+◌, ◌-◌, ◌*◌, ◌%◌, ◌^◌, min, Bool, true, false, ◌&&◌, ◌==◌, List, [], ◌∷◌}
+use Rattle.std.specs.Prelude.{◌++◌, length, Option, None, Result, nat_lt, nat_le, if◌then◌else◌}
 use Rattle.hv_base.specs.declared.breach.Breach.{Breach}
 use Rattle.hv_base.specs.declared.breach.Breach.TheVariants as breach
 use Rattle.hv_base.specs.declared.fault.FaultKind.TheVariants as fault
@@ -17,7 +18,8 @@ use Rattle.header_types.specs.declared.sps.SubLayerOrdering.{SubLayerOrdering}
 use Rattle.header_types.specs.SequenceParameterSets.{min_cb_log2, ctb_log2, highest_ordering}
 use Rattle.spec_bits.specs.Bits.{bits}
 use Rattle.spec_formats.specs.Format.{wanted}
-use Rattle.spec_formats.specs.Fields.{Header, read, value_of, ◌>>=◌, give, ranged, u, flag, ue, ue_to, optional, repeated}
+use Rattle.spec_formats.specs.Fields.{Header, read, value_of, ◌>>=◌, give, ranged, u, flag, ue, ue_to, optional}
+use Rattle.spec_formats.specs.Fields.{repeated}
 use Rattle.spec_parameter_sets.specs.ProfileTierLevel.{profile_tier_level}
 use Rattle.spec_parameter_sets.specs.Scaling.{scaling_list_data}
 use Rattle.spec_reference_pictures.specs.ShortTermSets.{st_ref_pic_set}
@@ -97,7 +99,9 @@ block_sizes width height = do
   coding_minus3 ← ue_to 3
   whole_blocks ← ranged ((width % 2 ^ (coding_minus3 + 3) == 0) && (height % 2 ^ (coding_minus3 + 3) == 0))
   coding_diff ← ue
-  main ← wanted (nat_le 4 (coding_minus3 + 3 + coding_diff) && nat_le (coding_minus3 + 3 + coding_diff) 6) (breach.Fault fault.Profile)
+  main ←
+      wanted (nat_le 4 (coding_minus3 + 3 + coding_diff) && nat_le (coding_minus3 + 3 + coding_diff) 6)
+      (breach.Fault fault.Profile)
   transform_minus2 ← ue
   smaller ← ranged (nat_lt (transform_minus2 + 2) (coding_minus3 + 3))
   transform_diff ← ue
@@ -137,7 +141,9 @@ pcm_format blocks = do
   pcm_sample_bit_depth_luma_minus1 ← pcm_bit_depth
   pcm_sample_bit_depth_chroma_minus1 ← pcm_bit_depth
   log2_min_pcm_minus3 ← ue
-  least ← ranged (nat_le (min (min_cb_log2 blocks) 5) (log2_min_pcm_minus3 + 3) && nat_le (log2_min_pcm_minus3 + 3) (min (ctb_log2 blocks) 5))
+  least ←
+      ranged (nat_le (min (min_cb_log2 blocks) 5) (log2_min_pcm_minus3 + 3)
+      && nat_le (log2_min_pcm_minus3 + 3) (min (ctb_log2 blocks) 5))
   log2_diff_pcm ← ue
   greatest ← ranged (nat_le (log2_min_pcm_minus3 + 3 + log2_diff_pcm) (min (ctb_log2 blocks) 5))
   pcm_loop_filter_disabled_flag ← flag
@@ -196,7 +202,9 @@ sequence_parameter_set = do
   format ← picture_format
   log2_max_pic_order_cnt_lsb_minus4 ← ue_to 12
   sps_sub_layer_ordering_info_present_flag ← flag
-  orderings ← repeated (ordered_sub_layers sps_sub_layer_ordering_info_present_flag sps_max_sub_layers_minus1) sub_layer_ordering
+  orderings ←
+      repeated (ordered_sub_layers sps_sub_layer_ordering_info_present_flag sps_max_sub_layers_minus1)
+      sub_layer_ordering
   blocks ← block_sizes format.pic_width_in_luma_samples format.pic_height_in_luma_samples
   scaling_list_enabled_flag ← flag
   scaling_lists ← scaling_lists scaling_list_enabled_flag
@@ -206,7 +214,8 @@ sequence_parameter_set = do
   pcm ← optional pcm_enabled_flag (pcm_format blocks)
   short_term_ref_pic_sets ← short_term_ref_pic_sets (highest_ordering orderings).max_dec_pic_buffering_minus1
   long_term_ref_pics_present_flag ← flag
-  long_term_ref_pics ← optional long_term_ref_pics_present_flag (long_term_candidates (log2_max_pic_order_cnt_lsb_minus4 + 4))
+  long_term_ref_pics ←
+      optional long_term_ref_pics_present_flag (long_term_candidates (log2_max_pic_order_cnt_lsb_minus4 + 4))
   sps_temporal_mvp_enabled_flag ← flag
   strong_intra_smoothing_enabled_flag ← flag
   vui_parameters_present_flag ← flag

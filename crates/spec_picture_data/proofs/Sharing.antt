@@ -1,5 +1,6 @@
 -- The segments of a picture share out its coding tree units.
-use Rattle.std.proofs.Common.{◌≡◌, ℕ, zero, suc, ◌+◌, ◌-◌, ◌≤◌, ◌<◌, max, List, [], ◌∷◌, ◌++◌, map, drop, length, Result, Ok, Err, refl, sym, ap, ◌∙◌, append_assoc, append-nil, arith}
+use Rattle.std.proofs.Common.{◌≡◌, ℕ, zero, suc, ◌+◌, ◌-◌, ◌≤◌, ◌<◌, max, List, [], ◌∷◌, ◌++◌, map, drop, length}
+use Rattle.std.proofs.Common.{Result, Ok, Err, refl, sym, ap, ◌∙◌, append_assoc, append-nil, arith}
 use Rattle.std.specs.List.{range_with_len, flat_map}
 use Rattle.std.proofs.lemmas.List.{map-append, map-id, map_push}
 use Rattle.std.proofs.Math.Nat.{max-eq_right, min-eq_left}
@@ -9,11 +10,13 @@ use Rattle.plan_types.specs.declared.segment_plan.SegmentPlan.{SegmentPlan}
 use Rattle.plan_types.specs.declared.picture_plan.PicturePlan.{PicturePlan}
 use Rattle.block_geometry.specs.CodingTreeBlocks.{ctb_scan}
 use Rattle.spec_slice_data.specs.Segment.{Between, unit_step}
-use Rattle.plan_types.specs.Segments.{address_of}
 use Rattle.spec_picture_data.specs.Shapes.{end_of, segment_shape}
-use Rattle.spec_picture_data.specs.Picture.{TreeUnit, Progress, Halt, SegmentAt, segment_at, segment_read, segments_read, picture_read, then_units, and_segments, unit_given, units_read, with_unit}
-use Rattle.plan_types.specs.Segments.{AreInOrder, Rise, begins_at}
-use Rattle.spec_picture_data.specs.Units.{units_between, segment_units, shared_units, picture_units, addresses, with_segments}
+use Rattle.spec_picture_data.specs.Picture.{TreeUnit, Progress, Halt, SegmentAt, segment_at, segment_read}
+use Rattle.spec_picture_data.specs.Picture.{segments_read, picture_read, then_units, and_segments, unit_given}
+use Rattle.spec_picture_data.specs.Picture.{units_read, with_unit}
+use Rattle.plan_types.specs.Segments.{AreInOrder, Rise, address_of, begins_at}
+use Rattle.spec_picture_data.specs.Units.{units_between, segment_units, shared_units, picture_units, addresses}
+use Rattle.spec_picture_data.specs.Units.{with_segments}
 
 range-append : (a m n b : ℕ) → a + m ≡ b → range_with_len a m ++ range_with_len b n ≡ range_with_len a (m + n)
 range-append a zero n b e =
@@ -39,7 +42,8 @@ begins_inside size [] h = omega arith
 begins_inside size (s ∷ later) h = omega (arith, h.0, begins_inside size later h.1)
 
 -- a segment ends where the next one begins
-ends_there : (size first : ℕ) (later : List SegmentPlan) → first < begins_at size later → Rise size later → end_of size first later ≡ begins_at size later
+ends_there : (size first : ℕ) (later : List SegmentPlan) → first < begins_at size later → Rise size later
+    → end_of size first later ≡ begins_at size later
 ends_there size first [] above h = max-eq_right (omega arith)
 ends_there size first (next ∷ later) above h =
     ap (max first) (min-eq_left (begins_inside size (next ∷ later) h)) ∙ max-eq_right (omega arith)
@@ -63,16 +67,19 @@ module _ {X : Type 0} (of_segment : ℕ → List ℕ → List X) where
       of_segment number (units_between (address_of s) (begins_at size later)) ++ shared size (number + 1) later
 
   shared-by_number : (size number : ℕ) (segments rest : List SegmentPlan) → drop number segments ≡ rest
-      → flat_map (λ i. of_segment i (units_at size segments i)) (range_with_len number (length rest)) ≡ shared size number rest
+      → flat_map (λ i. of_segment i (units_at size segments i)) (range_with_len number (length rest))
+      ≡ shared size number rest
   unfolding shared
   shared-by_number size number segments [] e = refl
   shared-by_number size number segments (s ∷ later) e =
       let next : drop (suc number) segments ≡ later = drop-tail number segments later s e in
       let same : number + 1 ≡ suc number = omega arith in
-      let behind = flat_map (λ i. of_segment i (units_at size segments i)) (range_with_len (number + 1) (length later)) in
+      let behind =
+      flat_map (λ i. of_segment i (units_at size segments i)) (range_with_len (number + 1) (length later)) in
       let end = begins_at size (drop (suc number) segments) in
       ap (λ (xs : List SegmentPlan). of_segment number (units_between (begins_at size xs) end) ++ behind) e
-      ∙ ap (λ (xs : List SegmentPlan). of_segment number (units_between (address_of s) (begins_at size xs)) ++ behind) next
+      ∙ ap (λ (xs : List SegmentPlan). of_segment number (units_between (address_of s) (begins_at size xs)) ++ behind)
+      next
       ∙ ap (λ l. of_segment number (units_between (address_of s) (begins_at size later)) ++ l)
       (shared-by_number size (number + 1) segments later (ap (λ n. drop n segments) same ∙ next))
 
@@ -101,7 +108,8 @@ units_are_shared_out p h =
     ∙ shared-all (λ i units. units) (size_in_ctbs p.sps) 0 p.segments (λ i units. refl) h.rise
     ∙ all_units p h
 
-then-ok : (r : Result Progress Halt) (next : Progress → Result Progress Halt) (q : Progress) → and_segments r next ≡ Ok q
+then-ok : (r : Result Progress Halt) (next : Progress → Result Progress Halt) (q : Progress)
+    → and_segments r next ≡ Ok q
     → (mid : Progress) × (r ≡ Ok mid) × (next mid ≡ Ok q)
 then-ok (Ok mid) next q e = (mid, refl, e)
 then-ok (Err halt) next q e = absurd cc
@@ -127,26 +135,32 @@ module _ {X : Type 0} (told : TreeUnit → X) (tag : ℕ → ℕ → X) (is : Fo
       → map told q.given ≡ map told progress.given ++ map (tag at.number) (map ctb_scan (range_with_len place n))
   unfolding units_read
   units_told at zero place progress q done =
-      let same : q ≡ progress = cc in ap (λ (x : Progress). map told x.given) same ∙ sym (append-nil (map told progress.given))
+      let same : q ≡ progress = cc in
+      ap (λ (x : Progress). map told x.given) same ∙ sym (append-nil (map told progress.given))
   units_told at (suc n) place progress q done =
-      unit_told at (ctb_scan place) progress.given (unit_step at.syntax at.picture at.shape (ctb_scan place) progress.between)
+      unit_told at (ctb_scan place) progress.given
+      (unit_step at.syntax at.picture at.shape (ctb_scan place) progress.between)
       (units_read at n (place + 1)) q
       (map (tag at.number) (map ctb_scan (range_with_len (place + 1) n)))
       (λ between later. units_told at n (place + 1) (with_unit at (ctb_scan place) progress.given between) q later) done
 
-  segment_told : (p : PicturePlan) (number first : ℕ) (s : SegmentPlan) (later : List SegmentPlan) (progress q : Progress)
+  segment_told : (p : PicturePlan) (number first : ℕ) (s : SegmentPlan) (later : List SegmentPlan)
+      (progress q : Progress)
       → end_of (size_in_ctbs p.sps) first later ≡ begins_at (size_in_ctbs p.sps) later
       → segment_read (segment_at p number first s later) progress ≡ Ok q
-      → map told q.given ≡ map told progress.given ++ map (tag number) (units_between first (begins_at (size_in_ctbs p.sps) later))
+      → map told q.given
+      ≡ map told progress.given ++ map (tag number) (units_between first (begins_at (size_in_ctbs p.sps) later))
   unfolding segment_shape
   segment_told p number first s later progress q ends done =
-      units_told (segment_at p number first s later) (end_of (size_in_ctbs p.sps) first later - first) first progress q done
+      units_told (segment_at p number first s later) (end_of (size_in_ctbs p.sps) first later - first)
+      first progress q done
       ∙ ap (λ behind. map told progress.given ++ map (tag number) (units_between first behind)) ends
 
   segments_told : (p : PicturePlan) (number first : ℕ) (segments : List SegmentPlan) (progress q : Progress)
       → first ≡ begins_at (size_in_ctbs p.sps) segments → Rise (size_in_ctbs p.sps) segments
       → segments_read p number first segments progress ≡ Ok q
-      → map told q.given ≡ map told progress.given ++ shared (λ i units. map (tag i) units) (size_in_ctbs p.sps) number segments
+      → map told q.given
+      ≡ map told progress.given ++ shared (λ i units. map (tag i) units) (size_in_ctbs p.sps) number segments
   unfolding segments_read shared
   segments_told p number first [] progress q begins h done =
       let same : q ≡ progress = cc in
@@ -165,10 +179,12 @@ module _ {X : Type 0} (told : TreeUnit → X) (tag : ℕ → ℕ → X) (is : Fo
   picture_told : (p : PicturePlan) (given : List TreeUnit) (q : Progress) → AreInOrder p → picture_read p given ≡ Ok q
       → map told q.given ≡ map told given ++ shared (λ i units. map (tag i) units) (size_in_ctbs p.sps) 0 p.segments
   unfolding picture_read
-  picture_told p given q h done = segments_told p 0 0 p.segments (record { between = _; given = given }) q (sym h.first) h.rise done
+  picture_told p given q h done =
+      segments_told p 0 0 p.segments (record { between = _; given = given }) q (sym h.first) h.rise done
 
 -- each unit has the number of its segment
-pub units_of_segments : (p : PicturePlan) (given : List TreeUnit) (q : Progress) → AreInOrder p → picture_read p given ≡ Ok q
+pub units_of_segments : (p : PicturePlan) (given : List TreeUnit) (q : Progress) → AreInOrder p
+    → picture_read p given ≡ Ok q
     → with_segments q.given ≡ with_segments given ++ shared_units p
 unfolding segment_units shared_units
 units_of_segments p given q h done =
@@ -177,9 +193,11 @@ units_of_segments p given q h done =
     (sym (shared-by_number (λ i units. map (λ ctu. (i, ctu)) units) (size_in_ctbs p.sps) 0 p.segments p.segments refl))
 
 -- and all units of the picture are there, in order
-pub units_of_picture : (p : PicturePlan) (given : List TreeUnit) (q : Progress) → AreInOrder p → picture_read p given ≡ Ok q
+pub units_of_picture : (p : PicturePlan) (given : List TreeUnit) (q : Progress) → AreInOrder p
+    → picture_read p given ≡ Ok q
     → addresses q.given ≡ addresses given ++ picture_units p
 units_of_picture p given q h done =
     picture_told (λ (u : TreeUnit). u.ctu) (λ i ctu. ctu) (λ at ctu between. refl) p given q h done
     ∙ ap (λ (l : List ℕ). addresses given ++ l)
-    (shared-all (λ i units. map (λ ctu. ctu) units) (size_in_ctbs p.sps) 0 p.segments (λ i units. map-id units) h.rise ∙ all_units p h)
+    (shared-all (λ i units. map (λ ctu. ctu) units) (size_in_ctbs p.sps) 0 p.segments (λ i units. map-id units) h.rise
+    ∙ all_units p h)

@@ -31,7 +31,8 @@ pub record PictureBroken : Type 0 where
 abbrev pub in_unit : ℕ → Broken → PictureBroken
 in_unit nal broken = record { breach = broken.breach; nal = nal; ctu = broken.ctu }
 
-abbrev pub then_segments : ℕ → Result Between Broken → (Between → Result Between PictureBroken) → Result Between PictureBroken
+abbrev pub then_segments : ℕ → Result Between Broken → (Between → Result Between PictureBroken)
+    → Result Between PictureBroken
 then_segments nal (Err e) next = Err (in_unit nal e)
 then_segments nal (Ok between) next = next between
 
@@ -40,7 +41,8 @@ unfoldable pub segments_data : PicturePlan → ℕ → List SegmentPlan → Betw
 segments_data p first [] between = Ok between
 segments_data p first (s ∷ later) between =
     let behind = end_of (size_in_ctbs p.sps) first later in
-    then_segments s.header.nal (segment_data (segment_syntax p s) (picture_shape p.sps p.pps) (segment_shape p s first behind) between)
+    then_segments s.header.nal
+    (segment_data (segment_syntax p s) (picture_shape p.sps p.pps) (segment_shape p s first behind) between)
     (segments_data p behind later)
 
 -- the data of a picture's segments
@@ -86,15 +88,18 @@ unit_given at ctu between = record { segment = at.number; ctu = ctu; read = unit
 abbrev pub with_unit : SegmentAt → ℕ → List TreeUnit → Between → Progress
 with_unit at ctu given between = record { between = between; given = given ++ unit_given at ctu between ∷ [] }
 
-abbrev pub then_units : SegmentAt → ℕ → List TreeUnit → Result Between Breach → (Progress → Result Progress Halt) → Result Progress Halt
-then_units at ctu given (Err e) next = Err (record { given = given; broken = record { breach = e; nal = at.nal; ctu = ctu } })
+abbrev pub then_units : SegmentAt → ℕ → List TreeUnit → Result Between Breach → (Progress → Result Progress Halt)
+    → Result Progress Halt
+then_units at ctu given (Err e) next =
+    Err (record { given = given; broken = record { breach = e; nal = at.nal; ctu = ctu } })
 then_units at ctu given (Ok between) next = next (with_unit at ctu given between)
 
 -- so many units of a segment from a place on, each handed over
 unfoldable pub units_read : SegmentAt → ℕ → ℕ → Progress → Result Progress Halt
 units_read at zero place progress = Ok progress
 units_read at (suc n) place progress =
-    then_units at (ctb_scan place) progress.given (unit_step at.syntax at.picture at.shape (ctb_scan place) progress.between) (units_read at n (place + 1))
+    then_units at (ctb_scan place) progress.given
+    (unit_step at.syntax at.picture at.shape (ctb_scan place) progress.between) (units_read at n (place + 1))
 
 abbrev pub segment_read : SegmentAt → Progress → Result Progress Halt
 segment_read at progress = units_read at at.shape.count at.shape.first progress
@@ -107,7 +112,8 @@ and_segments (Ok progress) next = next progress
 unfoldable pub segments_read : PicturePlan → ℕ → ℕ → List SegmentPlan → Progress → Result Progress Halt
 segments_read p number first [] progress = Ok progress
 segments_read p number first (s ∷ later) progress =
-    and_segments (segment_read (segment_at p number first s later) progress) (segments_read p (number + 1) (end_of (size_in_ctbs p.sps) first later) later)
+    and_segments (segment_read (segment_at p number first s later) progress)
+    (segments_read p (number + 1) (end_of (size_in_ctbs p.sps) first later) later)
 
 -- all units of a picture in order, behind those that were handed over before; or the units before the first broken
 -- rule, and that rule

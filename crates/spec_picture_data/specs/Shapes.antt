@@ -1,6 +1,7 @@
 -- A planned picture and its slice segments as their data are read (6.3.1, 7.3.8.1, 7.4.3.2, 7.4.3.3, 7.4.7.1, 9.3.1).
 -- Sizes are binary logarithms of sides in places of 4x4 luma samples.
-use Rattle.std.specs.Prelude.{ℕ, ◌+◌, ◌-◌, ◌*◌, ◌/◌, ◌^◌, ℤ, pos, ◌+ℤ◌, Bool, true, false, List, [], ◌∷◌, map, min, max, Option, Some, None, is_some, unwrap_or, slice_index_or, unsigned_abs, if◌then◌else◌}
+use Rattle.std.specs.Prelude.{ℕ, ◌+◌, ◌-◌, ◌*◌, ◌/◌, ◌^◌, ℤ, pos, ◌+ℤ◌, Bool, true, false, List, [], ◌∷◌, map, min, max}
+use Rattle.std.specs.Prelude.{Option, Some, None, is_some, unwrap_or, slice_index_or, unsigned_abs, if◌then◌else◌}
 use Rattle.header_types.specs.declared.sps.SpsFields.{SpsFields}
 use Rattle.header_types.specs.declared.sps.PcmFormat.{PcmFormat}
 use Rattle.header_types.specs.declared.pps.PpsFields.{PpsFields}
@@ -8,7 +9,8 @@ use Rattle.slice_types.specs.declared.slice.InterFields.{InterFields}
 use Rattle.slice_types.specs.declared.slice.SliceFields.{SliceFields}
 use Rattle.slice_types.specs.declared.slice.SliceType.{SliceType}
 use Rattle.block_geometry.specs.CodingTreeBlocks.{ctb_place}
-use Rattle.header_types.specs.SequenceParameterSets.{ctb_log2, min_cb_log2, min_tb_log2, max_tb_log2, min_pcm_log2, max_pcm_log2, width_in_ctbs}
+use Rattle.header_types.specs.SequenceParameterSets.{ctb_log2, min_cb_log2, min_tb_log2, max_tb_log2, min_pcm_log2}
+use Rattle.header_types.specs.SequenceParameterSets.{max_pcm_log2, width_in_ctbs}
 use Rattle.plan_types.specs.declared.segment_plan.SegmentPlan.{SegmentPlan}
 use Rattle.plan_types.specs.declared.picture_plan.PicturePlan.{PicturePlan}
 use Rattle.plan_types.specs.Segments.{address_of}
@@ -131,7 +133,9 @@ segment_shape p s first behind = record {
   count = behind - first;
   slice = address_of (slice_start p s);
   qp = first_qp (qp_bd_offset p.sps) (slice_qp p.pps s.header.slice.slice_qp_delta);
-  contexts = first_contexts (slice_qp p.pps s.header.slice.slice_qp_delta) (init_type s.header.slice.slice_type s.header.slice.inter);
+  contexts =
+      first_contexts (slice_qp p.pps s.header.slice.slice_qp_delta)
+      (init_type s.header.slice.slice_type s.header.slice.inter);
   dependent = s.header.segment.dependent_slice_segment_flag;
   substreams = map (bytes_of s.payload) s.substreams;
 }

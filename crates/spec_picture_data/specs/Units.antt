@@ -15,11 +15,13 @@ units_between first behind = map ctb_scan (range_with_len first (behind - first)
 -- picture's end
 unfoldable pub segment_units : PicturePlan → ℕ → List ℕ
 segment_units p number =
-    units_between (begins_at (size_in_ctbs p.sps) (drop number p.segments)) (begins_at (size_in_ctbs p.sps) (drop (suc number) p.segments))
+    units_between (begins_at (size_in_ctbs p.sps) (drop number p.segments))
+    (begins_at (size_in_ctbs p.sps) (drop (suc number) p.segments))
 
 -- the coding tree units of a picture's segments one after the other, each with the number of its segment
 unfoldable pub shared_units : PicturePlan → List (ℕ × ℕ)
-shared_units p = flat_map (λ number. map (λ ctu. (number, ctu)) (segment_units p number)) (range_with_len 0 (length p.segments))
+shared_units p =
+    flat_map (λ number. map (λ ctu. (number, ctu)) (segment_units p number)) (range_with_len 0 (length p.segments))
 
 -- all coding tree units of a picture, in decoding order
 unfoldable pub picture_units : PicturePlan → List ℕ

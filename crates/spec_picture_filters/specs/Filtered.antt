@@ -22,7 +22,8 @@ both_added p s unit motions gathered = record { motions = motions; gathered = un
 
 abbrev pub added_in : References → PicturePlan → Option SegmentPlan → TreeUnit → Behind → Behind
 added_in pictures p None unit behind = behind
-added_in pictures p (Some s) unit behind = both_added p s unit (motion_added pictures p s unit behind.motions) behind.gathered
+added_in pictures p (Some s) unit behind =
+    both_added p s unit (motion_added pictures p s unit behind.motions) behind.gathered
 
 -- behind the next unit, by the number of its segment
 abbrev pub with_unit : References → PicturePlan → Behind → TreeUnit → Behind

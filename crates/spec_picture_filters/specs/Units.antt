@@ -1,5 +1,6 @@
 -- What a coding tree unit adds to what the loop filters of its picture need (8.7.2, 8.7.3).
-use Rattle.std.specs.Prelude.{ℕ, ◌+◌, ◌-◌, ◌==◌, ℤ, pos, negsuc, Bool, false, ◌&&◌, ◌||◌, nat_le, nat_lt, List, Option, Some, None, if◌then◌else◌}
+use Rattle.std.specs.Prelude.{ℕ, ◌+◌, ◌-◌, ◌==◌, ℤ, pos, negsuc, Bool, false, ◌&&◌, ◌||◌, nat_le, nat_lt, List, Option}
+use Rattle.std.specs.Prelude.{Some, None, if◌then◌else◌}
 use Rattle.std.specs.Int.{int_max, int_min}
 use Rattle.block_geometry.specs.CodingTreeBlocks.{is_from}
 use Rattle.ctu_records.specs.declared.item.Item.{Item}

@@ -10,10 +10,13 @@ ghost use Rattle.spec_picture_filters.specs.Disabled.{AreDisabled, HasNoOffset};
 
 /// The motion beside which the filters' data are gathered is that of the picture.
 pub fn motion_is_threaded()
-    ensures { (pictures : References) (p : PicturePlan) (units : List TreeUnit) → (units_behind pictures p units).motions ≡ units_derived pictures p units }
+    ensures { (pictures : References) (p : PicturePlan) (units : List TreeUnit)
+        → (units_behind pictures p units).motions ≡ units_derived pictures p units }
 {}
 
 /// A picture of which each slice is without deblocking, and each unit without offsets, keeps its samples.
 pub fn pictures_without_filters_keep_their_samples()
-    ensures { (pictures : References) (p : PicturePlan) (units : List TreeUnit) (samples : Samples) (c x y : ℕ) → AreDisabled p.segments → All HasNoOffset units → filtered p (units_filtered pictures p units) samples c x y ≡ samples c x y }
+    ensures { (pictures : References) (p : PicturePlan) (units : List TreeUnit) (samples : Samples) (c x y : ℕ)
+        → AreDisabled p.segments → All HasNoOffset units
+        → filtered p (units_filtered pictures p units) samples c x y ≡ samples c x y }
 {}

@@ -27,13 +27,15 @@ unfoldable pub known_of_unit : References → PicturePlan → SegmentPlan → Tr
 known_of_unit pictures p s unit motions =
     let picture : PictureShape = picture_shape p.sps p.pps in
     unit_derived (slice_motion p s unit.ctu)
-    (beneath_unit picture unit.ctu (collocated_motions pictures (collocated_entry s.header.slice (slice_start p s).lists)))
+    (beneath_unit picture unit.ctu
+    (collocated_motions pictures (collocated_entry s.header.slice (slice_start p s).lists)))
     unit.read.items (known_beside picture (address_of (slice_start p s)) unit.ctu motions)
 
 -- the motion of the picture behind a unit of a slice segment
 unfoldable pub unit_added : References → PicturePlan → SegmentPlan → TreeUnit → Motions → Motions
 unit_added pictures p s unit motions =
-    unit_laid (picture_shape p.sps p.pps) unit.ctu (slice_motion p s unit.ctu) (known_of_unit pictures p s unit motions) motions
+    unit_laid (picture_shape p.sps p.pps) unit.ctu (slice_motion p s unit.ctu)
+    (known_of_unit pictures p s unit motions) motions
 
 abbrev pub added_in : References → PicturePlan → Option SegmentPlan → TreeUnit → Motions → Motions
 added_in pictures p None unit motions = motions

@@ -1,6 +1,7 @@
 -- The motion of a picture by place, what of it is known beside a coding tree unit (6.4.1, 6.4.2), and what a later
 -- picture takes of it (8.5.3.2.8). A place is a block of 4x4 luma samples.
-use Rattle.std.specs.Prelude.{ℕ, ◌+◌, ◌-◌, ◌*◌, ◌/◌, ◌^◌, ◌==◌, ◌&&◌, ◌||◌, nat_le, nat_lt, Bool, Option, Some, None, if◌then◌else◌}
+use Rattle.std.specs.Prelude.{ℕ, ◌+◌, ◌-◌, ◌*◌, ◌/◌, ◌^◌, ◌==◌, ◌&&◌, ◌||◌, nat_le, nat_lt, Bool, Option, Some, None}
+use Rattle.std.specs.Prelude.{if◌then◌else◌}
 use Rattle.block_geometry.specs.CodingTreeBlocks.{is_decoded_before, is_from}
 use Rattle.spec_motion.specs.declared.collocation.Collocated.{Collocated}
 use Rattle.spec_motion.specs.declared.collocation.CollocatedVector.{CollocatedVector}
@@ -43,7 +44,8 @@ has_place picture x y = nat_lt x picture.across && nat_lt y picture.down
 -- it, and its unit is of the slice and was decoded before (6.4.1)
 unfoldable pub is_available : PictureShape → ℕ → ℕ → ℕ → ℕ → Bool
 is_available picture slice address x y =
-    has_place picture x y && (is_from slice (unit_of_place picture x y) && is_decoded_before (unit_of_place picture x y) address)
+    has_place picture x y
+    && (is_from slice (unit_of_place picture x y) && is_decoded_before (unit_of_place picture x y) address)
 
 -- without the pictures that the vectors point to
 abbrev pub vector_of : Option PlaceVector → Option Vector
@@ -59,7 +61,8 @@ unfoldable pub motion_beside : PictureShape → ℕ → ℕ → Motions → ℕ 
 motion_beside picture slice address motions column row =
     let x = first_column picture address + column - 1 in
     let y = first_row picture address + row - 1 in
-    if (nat_le 1 (first_column picture address + column) && nat_le 1 (first_row picture address + row)) && is_available picture slice address x y
+    if (nat_le 1 (first_column picture address + column) && nat_le 1 (first_row picture address + row))
+    && is_available picture slice address x y
     then motion_of (motions x y)
     else None
 
@@ -76,11 +79,13 @@ known_beside picture slice address motions column row =
 -- a vector of a collocated picture
 abbrev pub collocated_vector : Option PlaceVector → Option CollocatedVector
 collocated_vector None = None
-collocated_vector (Some v) = Some (record { mv = v.vector.mv; order = v.reference.order; long_term = v.reference.long_term })
+collocated_vector (Some v) =
+    Some (record { mv = v.vector.mv; order = v.reference.order; long_term = v.reference.long_term })
 
 abbrev pub collocated_of : Option PlaceMotion → Option Collocated
 collocated_of None = None
-collocated_of (Some place) = Some (record { list_0 = collocated_vector place.list_0; list_1 = collocated_vector place.list_1 })
+collocated_of (Some place) =
+    Some (record { list_0 = collocated_vector place.list_0; list_1 = collocated_vector place.list_1 })
 
 -- what the collocated picture has at the blocks of 4x4 places from the first one of the unit at an address on, as far
 -- as the block behind the unit's: no candidate of the unit stands past it
@@ -97,7 +102,8 @@ pointing_vector slice list (Some v) = Some (record { vector = v; reference = ref
 
 abbrev pub pointing_motion : SliceMotion → Option Motion → Option PlaceMotion
 pointing_motion slice None = None
-pointing_motion slice (Some motion) = Some (record { list_0 = pointing_vector slice 0 motion.list_0; list_1 = pointing_vector slice 1 motion.list_1 })
+pointing_motion slice (Some motion) =
+    Some (record { list_0 = pointing_vector slice 0 motion.list_0; list_1 = pointing_vector slice 1 motion.list_1 })
 
 -- whether a place of the picture is one of the unit at an address (6.3.1)
 abbrev pub is_of_unit : PictureShape → ℕ → ℕ → ℕ → Bool

@@ -1,5 +1,6 @@
 -- What the motion of a slice's coding tree units depends on (7.4.7.1, 8.3.4).
-use Rattle.std.specs.Prelude.{ℕ, ◌+◌, ◌-◌, ℤ, pos, Bool, true, false, List, [], map, length, min, nat_lt, slice_get, slice_index_or, Option, Some, None, option_and_then, if◌then◌else◌}
+use Rattle.std.specs.Prelude.{ℕ, ◌+◌, ◌-◌, ℤ, pos, Bool, true, false, List, [], map, length, min, nat_lt, slice_get}
+use Rattle.std.specs.Prelude.{slice_index_or, Option, Some, None, option_and_then, if◌then◌else◌}
 use Rattle.std.specs.List.{range_with_len}
 use Rattle.header_types.specs.declared.pps.PpsFields.{PpsFields}
 use Rattle.header_types.specs.declared.reference_pictures.Lists.{Lists}
@@ -25,7 +26,8 @@ reference_of entry = record { picture = entry.place; order = entry.poc; long_ter
 
 -- the entry with this number; behind the last one there is none
 abbrev pub reference_at : List RefEntry → ℕ → Reference
-reference_at entries i = if nat_lt i (length entries) then reference_of (slice_index_or entries i no_entry) else no_reference
+reference_at entries i =
+    if nat_lt i (length entries) then reference_of (slice_index_or entries i no_entry) else no_reference
 
 -- a list of 16 entries
 unfoldable pub references : List RefEntry → List Reference

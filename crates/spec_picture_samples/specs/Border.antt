@@ -43,7 +43,8 @@ has_sample picture c x y = nat_lt c 3 && (nat_lt x (width_of picture c) && nat_l
 -- it, and its unit is of the slice and was decoded before (6.4.1)
 unfoldable pub is_available : PictureShape → ℕ → ℕ → ℕ → ℕ → ℕ → Bool
 is_available picture slice address c x y =
-    has_sample picture c x y && (is_from slice (unit_of_sample picture c x y) && is_decoded_before (unit_of_sample picture c x y) address)
+    has_sample picture c x y
+    && (is_from slice (unit_of_sample picture c x y) && is_decoded_before (unit_of_sample picture c x y) address)
 
 -- a column or a line that is counted from 1 at a unit's first one lies in the picture, as far as its first edge goes
 abbrev pub is_inside : ℕ → ℕ → Bool
@@ -54,7 +55,8 @@ unfoldable pub sample_beside : PictureShape → ℕ → ℕ → Samples → ℕ 
 sample_beside picture slice address samples c column line =
     let x = unit_column picture c address + column - 1 in
     let y = unit_line picture c address + line - 1 in
-    if (is_inside (unit_column picture c address) column && is_inside (unit_line picture c address) line) && is_available picture slice address c x y
+    if (is_inside (unit_column picture c address) column && is_inside (unit_line picture c address) line)
+    && is_available picture slice address c x y
     then Some (samples c x y) else None
 
 -- what is known beside the unit at an address: no block of it asks for a column past twice the unit's side

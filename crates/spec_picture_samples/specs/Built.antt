@@ -1,6 +1,7 @@
 -- The samples of a picture before its loop filters, and its motion, by what was read of its coding tree units and the
 -- pictures of the decoded picture buffer (8.4.4.1, 8.5.3, 8.6.5).
-use Rattle.std.specs.Prelude.{ℕ, ◌+◌, ◌-◌, ◌==◌, ◌&&◌, Bool, List, [], Option, Some, None, Result, Ok, Err, slice_get, if◌then◌else◌}
+use Rattle.std.specs.Prelude.{ℕ, ◌+◌, ◌-◌, ◌==◌, ◌&&◌, Bool, List, [], Option, Some, None, Result, Ok, Err, slice_get}
+use Rattle.std.specs.Prelude.{if◌then◌else◌}
 use Rattle.std.specs.Option.{unwrap_or}
 use Rattle.std.specs.List.{fold}
 use Rattle.plan_types.specs.declared.segment_plan.SegmentPlan.{SegmentPlan}
@@ -16,7 +17,8 @@ use Rattle.spec_picture_motion.specs.Slices.{slice_motion}
 use Rattle.spec_reconstruction.specs.Inter.{InterUnit}
 use Rattle.spec_reconstruction.specs.Known.{Known}
 use Rattle.spec_reconstruction.specs.Unit.{unit_built}
-use Rattle.spec_picture_samples.specs.Border.{Samples, no_samples, has_sample, known_beside, unit_column, unit_line, unit_of_sample}
+use Rattle.spec_picture_samples.specs.Border.{Samples, no_samples, has_sample, known_beside, unit_column, unit_line}
+use Rattle.spec_picture_samples.specs.Border.{unit_of_sample}
 use Rattle.spec_picture_samples.specs.Format.{unit_format}
 use Rattle.spec_picture_samples.specs.References.{DecodedPicture, motions_of, pictures_of}
 use Rattle.spec_picture_samples.specs.Weights.{slice_weighting}
@@ -57,7 +59,8 @@ unfoldable pub samples_added : InterUnit → PicturePlan → SegmentPlan → Tre
 samples_added inter p s unit samples =
     let picture = picture_shape p.sps p.pps in
     unit_laid picture unit.ctu
-    (unit_built (unit_format p.sps p.pps s.header.slice) inter unit.read.items (known_beside picture (address_of (slice_start p s)) unit.ctu samples))
+    (unit_built (unit_format p.sps p.pps s.header.slice) inter unit.read.items
+    (known_beside picture (address_of (slice_start p s)) unit.ctu samples))
     samples
 
 -- the picture behind a unit of a slice segment

@@ -41,7 +41,8 @@ byte_of sample = sample % 256
 
 -- a row of a window
 abbrev pub row_bytes : Samples → ℕ → Window → ℕ → List ℕ
-row_bytes samples c w row = map (λ column. byte_of (samples c (w.left + column) (w.top + row))) (range_with_len 0 w.width)
+row_bytes samples c w row =
+    map (λ column. byte_of (samples c (w.left + column) (w.top + row))) (range_with_len 0 w.width)
 
 unfoldable pub plane_bytes : Samples → ℕ → Window → List ℕ
 plane_bytes samples c w = concat (map (row_bytes samples c w) (range_with_len 0 w.height))
@@ -49,4 +50,5 @@ plane_bytes samples c w = concat (map (row_bytes samples c w) (range_with_len 0 
 -- the bytes of a picture
 unfoldable pub picture_bytes : PictureFormat → Samples → List ℕ
 picture_bytes format samples =
-    plane_bytes samples 0 (window_of format 0) ++ (plane_bytes samples 1 (window_of format 1) ++ plane_bytes samples 2 (window_of format 2))
+    plane_bytes samples 0 (window_of format 0)
+    ++ (plane_bytes samples 1 (window_of format 1) ++ plane_bytes samples 2 (window_of format 2))

@@ -22,14 +22,16 @@ format_height format c = if c == 0 then format.pic_height_in_luma_samples else f
 
 -- the greatest sample of a component
 abbrev pub greatest_sample : PictureFormat → ℕ → ℕ
-greatest_sample format c = 2 ^ (if c == 0 then 8 + format.bit_depth_luma_minus8 else 8 + format.bit_depth_chroma_minus8) - 1
+greatest_sample format c =
+    2 ^ (if c == 0 then 8 + format.bit_depth_luma_minus8 else 8 + format.bit_depth_chroma_minus8) - 1
 
 -- the sample of a picture at a column and a line, or the nearest one inside. It is held to the bit depth, which no
 -- sample that was decoded exceeds; where there is no picture it is 0
 unfoldable pub reference_sample : Option DecodedPicture → ℕ → ℤ → ℤ → ℕ
 reference_sample None c x y = 0
 reference_sample (Some p) c x y =
-    min (p.samples c (clamped x (format_width p.format c)) (clamped y (format_height p.format c))) (greatest_sample p.format c)
+    min (p.samples c (clamped x (format_width p.format c)) (clamped y (format_height p.format c)))
+    (greatest_sample p.format c)
 
 -- the samples of the pictures of a buffer, by their places
 abbrev pub pictures_of : List DecodedPicture → Pictures

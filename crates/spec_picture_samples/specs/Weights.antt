@@ -1,6 +1,7 @@
 -- The weights of a slice's reference pictures (7.4.7.3). Each number is held to its range, in which those that are read
 -- are.
-use Rattle.std.specs.Prelude.{ℕ, ◌^◌, ℤ, pos, negsuc, ◌+ℤ◌, ◌-ℤ◌, ◌*ℤ◌, min, nat_lt, List, length, map, slice_index_or, Option, Some, None, if◌then◌else◌}
+use Rattle.std.specs.Prelude.{ℕ, ◌^◌, ℤ, pos, negsuc, ◌+ℤ◌, ◌-ℤ◌, ◌*ℤ◌, min, nat_lt, List, length, map, slice_index_or}
+use Rattle.std.specs.Prelude.{Option, Some, None, if◌then◌else◌}
 use Rattle.std.specs.Int.{int_max, int_min, int_shr}
 use Rattle.std.specs.Int.RustNames.{unsigned_abs}
 use Rattle.std.specs.List.{range_with_len}
@@ -25,7 +26,8 @@ abbrev pub luma_denominator : PredWeightTable → ℕ
 luma_denominator t = min t.luma_log2_weight_denom 7
 
 abbrev pub chroma_denominator : PredWeightTable → ℕ
-chroma_denominator t = unsigned_abs (held (pos 0) (pos 7) (pos t.luma_log2_weight_denom +ℤ t.delta_chroma_log2_weight_denom))
+chroma_denominator t =
+    unsigned_abs (held (pos 0) (pos 7) (pos t.luma_log2_weight_denom +ℤ t.delta_chroma_log2_weight_denom))
 
 -- 1, and what differs from it, in units of 2^-denominator
 abbrev pub weight_by : ℕ → ℤ → ℤ

@@ -1,5 +1,6 @@
 -- The slice segments of a stream are grouped to its pictures, in their order.
-use Rattle.std.proofs.Common.{◌≡◌, ◌∙◌, ℕ, ℤ, Bool, true, false, not, ◌&&◌, List, [], ◌∷◌, ◌++◌, Option, Some, None, IfSome, if◌then◌else◌, Result, Ok, Err, refl, sym, ap, subst, append_assoc, append-nil}
+use Rattle.std.proofs.Common.{◌≡◌, ◌∙◌, ℕ, ℤ, Bool, true, false, not, ◌&&◌, List, [], ◌∷◌, ◌++◌, Option, Some, None}
+use Rattle.std.proofs.Common.{IfSome, if◌then◌else◌, Result, Ok, Err, refl, sym, ap, subst, append_assoc, append-nil}
 use Rattle.std.specs.Prelude.{nat_lt}
 use Rattle.std.specs.List.{All, AllZip}
 use Rattle.std.proofs.lemmas.List.Elements.{All-nil, All-cons, All-append, All-push}
@@ -26,9 +27,14 @@ use Rattle.spec_pictures.specs.declared.unit_kind.UnitKind.TheVariants as unit
 use Rattle.spec_pictures.specs.UnitKinds.{is_rasl, is_slice, kind_of_type}
 use Rattle.spec_pictures.specs.Closing.{broken_at_closing}
 use Rattle.spec_pictures.specs.Pictures.{beginning}
-use Rattle.spec_pictures.specs.Steps.{Stepped, begun, behind_read, close, closed_by, closed_open, closing, continued, continued_by, continuing, first_flag, goes_on, joined, judged_header, kind_step, opened_by, opening, picture_of, put_pps, put_sps, segment_of, sequence_end, slice_judged, slice_step, step, then_next, unit_step, with_order, with_set, with_sets}
+use Rattle.spec_pictures.specs.Steps.{Stepped, begun, behind_read, close, closed_by, closed_open, closing, continued}
+use Rattle.spec_pictures.specs.Steps.{continued_by, continuing, first_flag, goes_on, joined, judged_header, kind_step}
+use Rattle.spec_pictures.specs.Steps.{opened_by, opening, picture_of, put_pps, put_sps, segment_of, sequence_end}
+use Rattle.spec_pictures.specs.Steps.{slice_judged, slice_step, step, then_next, unit_step, with_order, with_set}
+use Rattle.spec_pictures.specs.Steps.{with_sets}
 use Rattle.spec_pictures.specs.Planned.{Planned, at_end, behind_closed, planned_end, planned_from, planned_next}
-use Rattle.spec_pictures.specs.Grouping.{AreGrouped, AreOfPicture, AreOfPictureAtMost, HasFirstFlag, IsSegmentOf, decoded_unit, decoded_units, segments_of, units_next}
+use Rattle.spec_pictures.specs.Grouping.{AreGrouped, AreOfPicture, AreOfPictureAtMost, HasFirstFlag, IsSegmentOf}
+use Rattle.spec_pictures.specs.Grouping.{decoded_unit, decoded_units, segments_of, units_next}
 use Rattle.spec_pictures.proofs.HeaderFacts.{judged_flag, judged_number}
 
 abbrev IsWhole : PicturePlan → Type 0
@@ -41,7 +47,8 @@ open_of (Some p) = p.segments
 abbrev IsBegun : Between → Type 0
 IsBegun s = IfSome s.picture IsWhole
 
-zip-append : (xs ys : List NalUnit) (ss bs : List SegmentPlan) → AllZip IsSegmentOf xs ss → AllZip IsSegmentOf ys bs → AllZip IsSegmentOf (xs ++ ys) (ss ++ bs)
+zip-append : (xs ys : List NalUnit) (ss bs : List SegmentPlan) → AllZip IsSegmentOf xs ss → AllZip IsSegmentOf ys bs
+    → AllZip IsSegmentOf (xs ++ ys) (ss ++ bs)
 zip-append [] ys [] bs a b = b
 zip-append [] ys (s ∷ ss) bs a b = absurd a
 zip-append (x ∷ xs) ys [] bs a b = absurd a
@@ -50,7 +57,8 @@ zip-append (x ∷ xs) ys (s ∷ ss) bs a b = (a.0, zip-append xs ys ss bs a.1 b)
 segments-append : (xs ys : List PicturePlan) → segments_of (xs ++ ys) ≡ segments_of xs ++ segments_of ys
 segments-append [] ys = refl
 segments-append (x ∷ xs) ys =
-    ap (λ (ss : List SegmentPlan). x.segments ++ ss) (segments-append xs ys) ∙ sym (append_assoc x.segments (segments_of xs) (segments_of ys))
+    ap (λ (ss : List SegmentPlan). x.segments ++ ss) (segments-append xs ys)
+    ∙ sym (append_assoc x.segments (segments_of xs) (segments_of ys))
 
 at_most : (segments : List SegmentPlan) → AreOfPicture segments → AreOfPictureAtMost segments
 at_most [] h = tt
@@ -60,14 +68,16 @@ open_at_most : (p : Option PicturePlan) → IfSome p IsWhole → AreOfPictureAtM
 open_at_most None h = tt
 open_at_most (Some p) h = at_most p.segments h
 
-one_more : (segments : List SegmentPlan) (s : SegmentPlan) → AreOfPicture segments → HasFirstFlag false s → AreOfPicture (segments ++ s ∷ [])
+one_more : (segments : List SegmentPlan) (s : SegmentPlan) → AreOfPicture segments → HasFirstFlag false s
+    → AreOfPicture (segments ++ s ∷ [])
 one_more [] s h flag = absurd h
 one_more (first ∷ later) s h flag = (h.0, All-push (HasFirstFlag false) later s h.1 flag)
 
 -- ---- what a unit does to the open picture's segments
 
 -- where it doesn't stop the stream, its segments stand behind those that were open
-record OnGoes (before : List SegmentPlan) (closed : List PicturePlan) (units : List NalUnit) (n : Between) : Type 0 where
+record OnGoes (before : List SegmentPlan) (closed : List PicturePlan) (units : List NalUnit)
+    (n : Between) : Type 0 where
   own : List SegmentPlan
   zip : AllZip IsSegmentOf units own
   all : before ++ own ≡ segments_of closed ++ open_of n.picture
@@ -96,7 +106,8 @@ record ClosedGoes (before : List SegmentPlan) (t : Stepped) : Type 0 where
   begins : All IsWhole t.closed
   next : ClosedNext before t.closed t.next
 
-closed_by_goes : (s : Between) (p : PicturePlan) (f : Option Fault) → IsWhole p → ClosedGoes p.segments (closed_by s p f)
+closed_by_goes : (s : Between) (p : PicturePlan) (f : Option Fault) → IsWhole p
+    → ClosedGoes p.segments (closed_by s p f)
 closed_by_goes s p None whole = record {
   begins = All-cons IsWhole p [] whole (All-nil IsWhole);
   next = (sym (append-nil p.segments), refl);
@@ -106,7 +117,8 @@ closed_by_goes s p (Some f) whole = record {
   next = record { rest = p.segments; all = refl; begins = at_most p.segments whole };
 }
 
-closed_open_goes : (s : Between) (p : Option PicturePlan) → s.picture ≡ p → IfSome p IsWhole → ClosedGoes (open_of p) (closed_open s p)
+closed_open_goes : (s : Between) (p : Option PicturePlan) → s.picture ≡ p → IfSome p IsWhole
+    → ClosedGoes (open_of p) (closed_open s p)
 closed_open_goes s None is whole = record { begins = All-nil IsWhole; next = (refl, is) }
 closed_open_goes s (Some p) is whole = closed_by_goes s p (broken_at_closing p) whole
 
@@ -131,12 +143,15 @@ after_goes before closed units (Ok n) all h = record {
   all = ap (λ (ss : List SegmentPlan). ss ++ open_of n.picture) all;
   begun = h.begun;
 }
-after_goes before closed units (Err e) all h = record { rest = []; all = all ∙ sym (append-nil (segments_of closed)); begins = tt }
+after_goes before closed units (Err e) all h =
+    record { rest = []; all = all ∙ sym (append-nil (segments_of closed)); begins = tt }
 
-then_goes : (before : List SegmentPlan) (closed : List PicturePlan) (next : Result Between Stop) (f : Between → Result Between Stop) (units : List NalUnit)
+then_goes : (before : List SegmentPlan) (closed : List PicturePlan) (next : Result Between Stop)
+    (f : Between → Result Between Stop) (units : List NalUnit)
     → All IsWhole closed → ClosedNext before closed next → ((n : Between) → n.picture ≡ None → AfterGoes units (f n))
     → StepGoes before (then_next closed next f) units
-then_goes before closed (Ok n) f units begins h keeps = record { begins = begins; next = after_goes before closed units (f n) h.0 (keeps n h.1) }
+then_goes before closed (Ok n) f units begins h keeps =
+    record { begins = begins; next = after_goes before closed units (f n) h.0 (keeps n h.1) }
 then_goes before closed (Err e) f units begins h keeps = record { begins = begins; next = h }
 
 closing_goes : (s : Between) (f : Between → Result Between Stop) (units : List NalUnit) → IsBegun s
@@ -146,11 +161,14 @@ closing_goes s f units whole keeps =
     then_goes (open_of s.picture) (close s).closed (close s).next f units h.begins h.next keeps
 
 -- a unit that only closes
-only_next : (before : List SegmentPlan) (closed : List PicturePlan) (next : Result Between Stop) → ClosedNext before closed next → NextGoes before closed [] next
+only_next : (before : List SegmentPlan) (closed : List PicturePlan) (next : Result Between Stop)
+    → ClosedNext before closed next → NextGoes before closed [] next
 only_next before closed (Ok n) h = record {
   own = [];
   zip = tt;
-  all = append-nil before ∙ h.0 ∙ sym (append-nil (segments_of closed)) ∙ ap (λ (p : Option PicturePlan). segments_of closed ++ open_of p) (sym h.1);
+  all =
+      append-nil before ∙ h.0 ∙ sym (append-nil (segments_of closed))
+      ∙ ap (λ (p : Option PicturePlan). segments_of closed ++ open_of p) (sym h.1);
   begun = subst (λ (p : Option PicturePlan). IfSome p IsWhole) (sym h.1) tt;
 }
 only_next before closed (Err e) h = h
@@ -161,7 +179,8 @@ only_closes s whole =
     record { begins = h.begins; next = only_next (open_of s.picture) (close s).closed (close s).next h.next }
 
 -- a unit that changes no picture
-passes : (s n : Between) → n.picture ≡ s.picture → IsBegun s → StepGoes (open_of s.picture) (record { closed = []; next = Ok n }) []
+passes : (s n : Between) → n.picture ≡ s.picture → IsBegun s
+    → StepGoes (open_of s.picture) (record { closed = []; next = Ok n }) []
 passes s n same whole = record {
   begins = All-nil IsWhole;
   next = record {
@@ -178,15 +197,18 @@ none_open n none = record {
   begun = subst (λ (p : Option PicturePlan). IfSome p IsWhole) (sym none) tt;
 }
 
-set_goes : {X : Type 0} (nal : ℕ) (r : Result X Breach) (f : X → Between) → ((x : X) → (f x).picture ≡ None) → AfterGoes [] (behind_read nal r f)
+set_goes : {X : Type 0} (nal : ℕ) (r : Result X Breach) (f : X → Between) → ((x : X) → (f x).picture ≡ None)
+    → AfterGoes [] (behind_read nal r f)
 set_goes nal (Ok x) f none = none_open (f x) (none x)
 set_goes nal (Err e) f none = tt
 
 -- ---- slice segments
 
-segment_is : (sets : Sets) (former : Former) (before : List SegmentPlan) (u : NalUnit) (p : PicturePlan) (h : SliceHeaderFields)
+segment_is : (sets : Sets) (former : Former) (before : List SegmentPlan) (u : NalUnit) (p : PicturePlan)
+    (h : SliceHeaderFields)
     → judged_header sets former before u ≡ Ok h → IsSegmentOf u (segment_of before former.dpb p.rps u h)
-segment_is sets former before u p h e = record { number = judged_number sets former before u h e; payload = refl; removed = refl }
+segment_is sets former before u p h e =
+    record { number = judged_number sets former before u h e; payload = refl; removed = refl }
 
 -- the picture that a slice segment opens has this segment alone
 record Opens (u : NalUnit) (p : PicturePlan) : Type 0 where
@@ -198,7 +220,8 @@ abbrev segments_in : Result PicturePlan Breach → List SegmentPlan
 segments_in (Ok p) = p.segments
 segments_in (Err e) = []
 
-rps_opens : (former : Former) (u : NalUnit) (h : SliceHeaderFields) (n : Named) (poc : ℤ) (p : PicturePlan) → h.nal ≡ u.index
+rps_opens : (former : Former) (u : NalUnit) (h : SliceHeaderFields) (n : Named) (poc : ℤ) (p : PicturePlan)
+    → h.nal ≡ u.index
     → (r : Result Rps FaultKind) → with_set former.dpb u h n poc r ≡ Ok p → Opens u p
 rps_opens former u h n poc p number (Err f) e = absurd cc
 rps_opens former u h n poc p number (Ok rps) e = record {
@@ -217,33 +240,42 @@ sets_open : (former : Former) (u : NalUnit) (h : SliceHeaderFields) (p : Picture
     → (o : Option Named) → with_sets former u h o ≡ Ok p → Opens u p
 sets_open former u h p number None e = absurd cc
 sets_open former u h p number (Some n) e =
-    order_opens former u h n p number (pic_order_cnt_val h.kind h.slice.references.slice_pic_order_cnt_lsb former.prev_tid0_pic_order_cnt) e
+    order_opens former u h n p number
+    (pic_order_cnt_val h.kind h.slice.references.slice_pic_order_cnt_lsb former.prev_tid0_pic_order_cnt) e
 
-picture_opens : (sets : Sets) (former : Former) (u : NalUnit) (h : SliceHeaderFields) (p : PicturePlan) → h.nal ≡ u.index
+picture_opens : (sets : Sets) (former : Former) (u : NalUnit) (h : SliceHeaderFields) (p : PicturePlan)
+    → h.nal ≡ u.index
     → picture_of sets former u h ≡ Ok p → Opens u p
 unfolding picture_of
-picture_opens sets former u h p number e = sets_open former u h p number (named_by sets h.segment.slice_pic_parameter_set_id) e
+picture_opens sets former u h p number e =
+    sets_open former u h p number (named_by sets h.segment.slice_pic_parameter_set_id) e
 
-opens_by : (sets : Sets) (former : Former) (u : NalUnit) (p : PicturePlan) (r : Result SliceHeaderFields Breach) → judged_header sets former [] u ≡ r
+opens_by : (sets : Sets) (former : Former) (u : NalUnit) (p : PicturePlan) (r : Result SliceHeaderFields Breach)
+    → judged_header sets former [] u ≡ r
     → opened_by sets former u r ≡ Ok p → Opens u p × (first_flag (bits u.payload) ≡ Some true)
 opens_by sets former u p (Err f) is e = absurd cc
-opens_by sets former u p (Ok h) is e = (picture_opens sets former u h p (judged_number sets former [] u h is) e, judged_flag sets former u h is)
+opens_by sets former u p (Ok h) is e =
+    (picture_opens sets former u h p (judged_number sets former [] u h is) e, judged_flag sets former u h is)
 
 opening_opens : (sets : Sets) (former : Former) (u : NalUnit) (p : PicturePlan) → opening sets former u ≡ Ok p
     → Opens u p × (first_flag (bits u.payload) ≡ Some true)
 unfolding opening
 opening_opens sets former u p e = opens_by sets former u p (judged_header sets former [] u) refl e
 
-flag_of : (u : NalUnit) (s : SegmentPlan) (flag : Bool) → IsSegmentOf u s → first_flag (bits u.payload) ≡ Some flag → HasFirstFlag flag s
+flag_of : (u : NalUnit) (s : SegmentPlan) (flag : Bool) → IsSegmentOf u s → first_flag (bits u.payload) ≡ Some flag
+    → HasFirstFlag flag s
 flag_of u s flag is e = ap (λ (payload : List ℕ). first_flag (bits payload)) is.payload ∙ e
 
-opened_goes : (u : NalUnit) (s : Between) (p : PicturePlan) → Opens u p → first_flag (bits u.payload) ≡ Some true → OpenGoes (u ∷ []) (begun s p)
+opened_goes : (u : NalUnit) (s : Between) (p : PicturePlan) → Opens u p → first_flag (bits u.payload) ≡ Some true
+    → OpenGoes (u ∷ []) (begun s p)
 opened_goes u s p opened flag = record {
   zip = subst (AllZip IsSegmentOf (u ∷ [])) (sym opened.only) (opened.is, tt);
-  begun = subst AreOfPicture (sym opened.only) (flag_of u opened.segment true opened.is flag, All-nil (HasFirstFlag false));
+  begun =
+      subst AreOfPicture (sym opened.only) (flag_of u opened.segment true opened.is flag, All-nil (HasFirstFlag false));
 }
 
-open_by_goes : (u : NalUnit) (s : Between) (r : Result PicturePlan Breach) → opening s.sets s.former u ≡ r → AfterGoes (u ∷ []) (behind_read u.index r (begun s))
+open_by_goes : (u : NalUnit) (s : Between) (r : Result PicturePlan Breach) → opening s.sets s.former u ≡ r
+    → AfterGoes (u ∷ []) (behind_read u.index r (begun s))
 open_by_goes u s (Err e) is = tt
 open_by_goes u s (Ok p) is = let o = opening_opens s.sets s.former u p is in opened_goes u s p o.0 o.1
 
@@ -262,7 +294,9 @@ continued_goes u s p whole flag (Ok h) is =
       own = segment_of p.segments s.former.dpb p.rps u h ∷ [];
       zip = (segment, tt);
       all = refl;
-      begun = one_more p.segments (segment_of p.segments s.former.dpb p.rps u h) whole (flag_of u (segment_of p.segments s.former.dpb p.rps u h) false segment flag);
+      begun =
+          one_more p.segments (segment_of p.segments s.former.dpb p.rps u h) whole
+          (flag_of u (segment_of p.segments s.former.dpb p.rps u h) false segment flag);
     }
 
 continuing_goes : (u : NalUnit) (s : Between) (p : PicturePlan) → IsWhole p → first_flag (bits u.payload) ≡ Some false
@@ -270,12 +304,14 @@ continuing_goes : (u : NalUnit) (s : Between) (p : PicturePlan) → IsWhole p �
 unfolding continuing
 continuing_goes u s p whole flag = continued_goes u s p whole flag (judged_header s.sets s.former p.segments u) refl
 
-joined_goes : (u : NalUnit) (s : Between) (o : Option PicturePlan) → IfSome o IsWhole → first_flag (bits u.payload) ≡ Some false
+joined_goes : (u : NalUnit) (s : Between) (o : Option PicturePlan) → IfSome o IsWhole
+    → first_flag (bits u.payload) ≡ Some false
     → NextGoes (open_of o) [] (u ∷ []) (joined u s o)
 joined_goes u s None whole flag = after_goes [] [] (u ∷ []) _ refl (open_by_goes u s (opening s.sets s.former u) refl)
 joined_goes u s (Some p) whole flag = continuing_goes u s p whole flag
 
-judged_goes : (u : NalUnit) (s : Between) → IsBegun s → first_flag (bits u.payload) ≡ Some false → NextGoes (open_of s.picture) [] (u ∷ []) (slice_judged u s)
+judged_goes : (u : NalUnit) (s : Between) → IsBegun s → first_flag (bits u.payload) ≡ Some false
+    → NextGoes (open_of s.picture) [] (u ∷ []) (slice_judged u s)
 unfolding slice_judged
 judged_goes u s whole flag = joined_goes u s s.picture whole flag
 
@@ -286,7 +322,8 @@ goes_on_is (Some false) e = refl
 
 slice_by : (u : NalUnit) (s : Between) → IsBegun s → (dropped on : Bool) → goes_on (first_flag (bits u.payload)) ≡ on
     → StepGoes (open_of s.picture) (if dropped then close s
-    else (if on then record { closed = []; next = slice_judged u s } else closing s (slice_judged u))) (if not dropped then u ∷ [] else [])
+    else (if on then record { closed = []; next = slice_judged u s } else closing s (slice_judged u)))
+    (if not dropped then u ∷ [] else [])
 slice_by u s whole true on is = only_closes s whole
 slice_by u s whole false true is = record { begins = All-nil IsWhole; next = judged_goes u s whole (goes_on_is _ is) }
 slice_by u s whole false false is = closing_goes s (slice_judged u) (u ∷ []) whole (judged_none u)
@@ -294,7 +331,8 @@ slice_by u s whole false false is = closing_goes s (slice_judged u) (u ∷ []) w
 slice_goes : (u : NalUnit) (s : Between) → IsBegun s
     → StepGoes (open_of s.picture) (slice_step s u) (if not (is_rasl u.nal_type && s.drops_rasl) then u ∷ [] else [])
 unfolding slice_step
-slice_goes u s whole = slice_by u s whole (is_rasl u.nal_type && s.drops_rasl) (goes_on (first_flag (bits u.payload))) refl
+slice_goes u s whole =
+    slice_by u s whole (is_rasl u.nal_type && s.drops_rasl) (goes_on (first_flag (bits u.payload))) refl
 
 -- ---- other units
 
@@ -302,7 +340,9 @@ abbrev OtherGoes : NalUnit → Between → UnitKind → Type 0
 OtherGoes u s kind = StepGoes (open_of s.picture) (kind_step s u kind) []
 
 other_by : (u : NalUnit) (s : Between) → IsBegun s → (a b c d : Bool)
-    → OtherGoes u s (if a then unit.SequenceSet else (if b then unit.PictureSet else (if c then unit.SequenceEnd else (if d then unit.Border else unit.Other))))
+    → OtherGoes u s
+    (if a then unit.SequenceSet
+    else (if b then unit.PictureSet else (if c then unit.SequenceEnd else (if d then unit.Border else unit.Other))))
 other_by u s whole true b c d =
     closing_goes s _ [] whole (λ n none. set_goes u.index (sequence_parameter_set_of u.payload) (put_sps n) (λ x. none))
 other_by u s whole false true c d =
@@ -311,7 +351,8 @@ other_by u s whole false false true d = closing_goes s _ [] whole (λ n none. no
 other_by u s whole false false false true = only_closes s whole
 other_by u s whole false false false false = passes s s refl whole
 
-unit_by : (u : NalUnit) (s : Between) → IsBegun s → (layer slice : Bool) → nat_lt 0 u.layer ≡ layer → is_slice u.nal_type ≡ slice
+unit_by : (u : NalUnit) (s : Between) → IsBegun s → (layer slice : Bool) → nat_lt 0 u.layer ≡ layer
+    → is_slice u.nal_type ≡ slice
     → StepGoes (open_of s.picture) (unit_step s u) (decoded_unit s (Told.Whole u))
 unfolding unit_step kind_of_type
 unit_by u s whole true slice l is = rw l (passes s s refl whole)
@@ -335,7 +376,8 @@ record Goes (ended : Bool) (before : List SegmentPlan) (units : List NalUnit) (p
   rest_begins : AreOfPictureAtMost rest
   whole : ended ≡ true → p.stop ≡ None → rest ≡ []
 
-end_by : (before : List SegmentPlan) (closed : List PicturePlan) (next : Result Between Stop) → All IsWhole closed → ClosedNext before closed next
+end_by : (before : List SegmentPlan) (closed : List PicturePlan) (next : Result Between Stop) → All IsWhole closed
+    → ClosedNext before closed next
     → Goes true before [] (at_end (record { closed = closed; next = next }))
 end_by before closed (Ok n) begins h = record {
   more = [];
@@ -357,7 +399,8 @@ end_by before closed (Err e) begins h = record {
 }
 
 end_goes : (ended : Bool) (s : Between) → IsBegun s → Goes ended (open_of s.picture) [] (planned_end ended s)
-end_goes true s whole = let h = close_goes s whole in end_by (open_of s.picture) (close s).closed (close s).next h.begins h.next
+end_goes true s whole =
+    let h = close_goes s whole in end_by (open_of s.picture) (close s).closed (close s).next h.begins h.next
 end_goes false s whole = record {
   more = [];
   zip = tt;
@@ -368,7 +411,8 @@ end_goes false s whole = record {
   whole = λ e n. absurd cc;
 }
 
-next_goes : (ended : Bool) (before : List SegmentPlan) (closed : List PicturePlan) (own : List NalUnit) (next : Result Between Stop)
+next_goes : (ended : Bool) (before : List SegmentPlan) (closed : List PicturePlan) (own : List NalUnit)
+    (next : Result Between Stop)
     (f : Between → List NalUnit) (g : Between → Planned) → All IsWhole closed → NextGoes before closed own next
     → ((n : Between) → IsBegun n → Goes ended (open_of n.picture) (f n) (g n))
     → Goes ended before (units_next own next f) (behind_closed closed (planned_next next g))
@@ -398,14 +442,17 @@ next_goes ended before closed own (Ok n) f g begins h later =
       whole = i.whole;
     }
 
-all_goes : (ended : Bool) (s : Between) (ts : List Told) → IsBegun s → Goes ended (open_of s.picture) (decoded_units s ts) (planned_from ended s ts)
+all_goes : (ended : Bool) (s : Between) (ts : List Told) → IsBegun s
+    → Goes ended (open_of s.picture) (decoded_units s ts) (planned_from ended s ts)
 all_goes ended s [] whole = end_goes ended s whole
 all_goes ended s (t ∷ ts) whole =
     let h = step_goes s t whole in
-    next_goes ended (open_of s.picture) (step s t).closed (decoded_unit s t) (step s t).next (λ n. decoded_units n ts) (λ n. planned_from ended n ts)
+    next_goes ended (open_of s.picture) (step s t).closed (decoded_unit s t) (step s t).next (λ n. decoded_units n ts)
+    (λ n. planned_from ended n ts)
     h.begins h.next (λ n begun. all_goes ended n ts begun)
 
-pub are_grouped : (ended : Bool) (told : List Told) → AreGrouped ended (decoded_units beginning told) (planned_from ended beginning told)
+pub are_grouped : (ended : Bool) (told : List Told)
+    → AreGrouped ended (decoded_units beginning told) (planned_from ended beginning told)
 unfolding beginning
 are_grouped ended told =
     let h = all_goes ended beginning told tt in

@@ -1,5 +1,6 @@
 -- What is judged of a picture once all its slice segments are there (7.4.7.1, C.5.2.2).
-use Rattle.std.specs.Prelude.{ℕ, zero, suc, ◌+◌, ◌-◌, ◌/◌, ◌%◌, Bool, true, false, not, ◌&&◌, ◌||◌, List, [], ◌∷◌, length, sum, Option, Some, None, nat_lt, ◌==◌, if◌then◌else◌}
+use Rattle.std.specs.Prelude.{ℕ, zero, suc, ◌+◌, ◌-◌, ◌/◌, ◌%◌, Bool, true, false, not, ◌&&◌, ◌||◌, List, [], ◌∷◌}
+use Rattle.std.specs.Prelude.{length, sum, Option, Some, None, nat_lt, ◌==◌, if◌then◌else◌}
 use Rattle.hv_base.specs.declared.fault.FaultKind.{FaultKind}
 use Rattle.hv_base.specs.declared.fault.FaultKind.TheVariants as rule
 use Rattle.hv_base.specs.declared.fault.Fault.{Fault}
@@ -33,8 +34,8 @@ broken_at kind s = Some (record { kind = kind; nal = s.header.nal; ctu = None })
 abbrev pub slice_start : ℕ → SegmentPlan → ℕ
 slice_start before s = if s.header.segment.dependent_slice_segment_flag then before else address_of s
 
--- the rule that a segment breaks which ends before the place `end` of the scan, with entropy coding sync: where it begins inside a row, or
--- its slice, which begins at `start`, does, it ends in that row; and its entry points fit
+-- the rule that a segment breaks which ends before the place `end` of the scan, with entropy coding sync: where it
+-- begins inside a row, or its slice, which begins at `start`, does, it ends in that row; and its entry points fit
 abbrev pub segment_breaks : ℕ → ℕ → ℕ → SegmentPlan → Option Fault
 segment_breaks width start end s =
     if passes_row width (address_of s) end || passes_row width start end then broken_at rule.SliceOrder s
@@ -49,7 +50,8 @@ or_later (Some f) later = Some f
 abbrev pub broken_from : ℕ → ℕ → ℕ → List SegmentPlan → Option Fault
 broken_from width size before [] = None
 broken_from width size before (s ∷ later) =
-    or_later (segment_breaks width (slice_start before s) (begins_at size later) s) (broken_from width size (slice_start before s) later)
+    or_later (segment_breaks width (slice_start before s) (begins_at size later) s)
+    (broken_from width size (slice_start before s) later)
 
 -- the first rule that the slice segments of a picture break together
 unfoldable pub broken_in : PicturePlan → Option Fault

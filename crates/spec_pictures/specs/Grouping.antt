@@ -1,5 +1,6 @@
 -- The pictures of a stream as groups of its slice segments (7.4.2.4.4).
-use Rattle.std.specs.Prelude.{◌≡◌, Bool, true, false, not, All, ◌&&◌, List, [], ◌∷◌, ◌++◌, Some, None, Result, Ok, Err, nat_lt, if◌then◌else◌}
+use Rattle.std.specs.Prelude.{◌≡◌, Bool, true, false, not, All, ◌&&◌, List, [], ◌∷◌, ◌++◌, Some, None, Result, Ok, Err}
+use Rattle.std.specs.Prelude.{nat_lt, if◌then◌else◌}
 use Rattle.std.specs.List.{AllZip}
 use Rattle.hv_base.specs.declared.refusal.Stop.{Stop}
 use Rattle.plan_types.specs.declared.segment_plan.SegmentPlan.{SegmentPlan}

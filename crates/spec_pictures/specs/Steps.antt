@@ -1,5 +1,6 @@
 -- One unit of a stream after the other: what it closes, how it is judged, and what is known behind it.
-use Rattle.std.specs.Prelude.{ℕ, ◌+◌, ℤ, Bool, true, false, not, ◌&&◌, ◌||◌, List, [], ◌∷◌, ◌++◌, length, slice_set, Option, Some, None, is_none, Result, Ok, Err, nat_lt, nat_le, if◌then◌else◌}
+use Rattle.std.specs.Prelude.{ℕ, ◌+◌, ℤ, Bool, true, false, not, ◌&&◌, ◌||◌, List, [], ◌∷◌, ◌++◌, length, slice_set}
+use Rattle.std.specs.Prelude.{Option, Some, None, is_none, Result, Ok, Err, nat_lt, nat_le, if◌then◌else◌}
 use Rattle.hv_base.specs.declared.breach.Breach.{Breach}
 use Rattle.hv_base.specs.declared.breach.Breach.TheVariants as breach
 use Rattle.hv_base.specs.declared.fault.FaultKind.{FaultKind}
@@ -128,7 +129,8 @@ segment_of before dpb rps u header = record {
 }
 
 -- the picture that a first slice segment opens
-abbrev pub with_set : List DpbPicture → NalUnit → SliceHeaderFields → Named → ℤ → Result Rps FaultKind → Result PicturePlan Breach
+abbrev pub with_set : List DpbPicture → NalUnit → SliceHeaderFields → Named → ℤ → Result Rps FaultKind
+    → Result PicturePlan Breach
 with_set dpb u header n poc (Err kind) = Err (breach.Fault kind)
 with_set dpb u header n poc (Ok rps) = Ok (record {
   nal = u.index;
@@ -143,11 +145,14 @@ with_set dpb u header n poc (Ok rps) = Ok (record {
 
 abbrev pub with_order : Former → NalUnit → SliceHeaderFields → Named → Result ℤ FaultKind → Result PicturePlan Breach
 with_order former u header n (Err kind) = Err (breach.Fault kind)
-with_order former u header n (Ok poc) = with_set former.dpb u header n poc (reference_picture_set header.kind header.slice.references poc former.dpb)
+with_order former u header n (Ok poc) =
+    with_set former.dpb u header n poc (reference_picture_set header.kind header.slice.references poc former.dpb)
 
 abbrev pub with_sets : Former → NalUnit → SliceHeaderFields → Option Named → Result PicturePlan Breach
 with_sets former u header None = Err (breach.Fault rule.MissingSet)
-with_sets former u header (Some n) = with_order former u header n (pic_order_cnt_val header.kind header.slice.references.slice_pic_order_cnt_lsb former.prev_tid0_pic_order_cnt)
+with_sets former u header (Some n) =
+    with_order former u header n
+    (pic_order_cnt_val header.kind header.slice.references.slice_pic_order_cnt_lsb former.prev_tid0_pic_order_cnt)
 
 -- an accepted header has parameter sets, an order count in range and its reference pictures, so this is a picture
 unfoldable pub picture_of : Sets → Former → NalUnit → SliceHeaderFields → Result PicturePlan Breach
@@ -173,7 +178,8 @@ with_segment dpb u header p = record p { segments = p.segments ++ segment_of p.s
 unfoldable pub judged_header : Sets → Former → List SegmentPlan → NalUnit → Result SliceHeaderFields Breach
 judged_header sets former segments u =
     if is_none (first_flag (bits u.payload)) then Err (breach.Fault rule.HeaderSyntax)
-    else (if former.first_in_sequence && not (is_irap u.nal_type || nat_lt 0 (length segments)) then Err (breach.Fault rule.FirstPicture)
+    else (if former.first_in_sequence && not (is_irap u.nal_type || nat_lt 0 (length segments))
+    then Err (breach.Fault rule.FirstPicture)
     else (if nat_le 4096 (length segments) then Err (breach.Limit bound.Segments)
     else slice_header_of (context_of sets former segments u) u.payload))
 
@@ -224,7 +230,8 @@ kind_step s u unit.Other = record { closed = []; next = Ok s }
 
 -- one unit: those of a layer above the base are passed over
 unfoldable pub unit_step : Between → NalUnit → Stepped
-unit_step s u = if nat_lt 0 u.layer then record { closed = []; next = Ok s } else kind_step s u (kind_of_type u.nal_type)
+unit_step s u =
+    if nat_lt 0 u.layer then record { closed = []; next = Ok s } else kind_step s u (kind_of_type u.nal_type)
 
 -- a unit as it was told, or what it breaks or meets, behind what it closes
 unfoldable pub step : Between → Told → Stepped

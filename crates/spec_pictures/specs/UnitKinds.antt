@@ -1,8 +1,11 @@
 -- What a NAL unit is to the pictures of a stream, by its nal_unit_type (7.4.2.2, 7.4.2.4.4).
 use Rattle.std.specs.Prelude.{ℕ, ◌%◌, Bool, not, ◌&&◌, ◌||◌, nat_le, ◌==◌, if◌then◌else◌}
-use Rattle.hv_base.specs.declared.nal_types.TheConstants.{AUD_NUT, BLA_W_LP, CRA_NUT, EOB_NUT, EOS_NUT, PPS_NUT, PREFIX_SEI_NUT, RADL_N, RADL_R, RASL_N, RASL_R, RSV_VCL_N14, SPS_NUT, VPS_NUT}
+use Rattle.hv_base.specs.declared.nal_types.TheConstants.{AUD_NUT, BLA_W_LP, CRA_NUT, EOB_NUT, EOS_NUT, PPS_NUT}
+use Rattle.hv_base.specs.declared.nal_types.TheConstants.{PREFIX_SEI_NUT, RADL_N, RADL_R, RASL_N, RASL_R, RSV_VCL_N14}
+use Rattle.hv_base.specs.declared.nal_types.TheConstants.{SPS_NUT, VPS_NUT}
 use Rattle.spec_pictures.specs.declared.unit_kind.UnitKind.{UnitKind}
-use Rattle.spec_pictures.specs.declared.unit_kind.UnitKind.TheVariants.{Slice, SequenceSet, PictureSet, SequenceEnd, Border, Other}
+use Rattle.spec_pictures.specs.declared.unit_kind.UnitKind.TheVariants.{Slice, SequenceSet, PictureSet, SequenceEnd}
+use Rattle.spec_pictures.specs.declared.unit_kind.UnitKind.TheVariants.{Border, Other}
 
 -- the slice segments that may be decoded
 abbrev pub is_slice : ℕ → Bool

@@ -15,13 +15,15 @@ ghost use Rattle.spec_pictures.specs.Steps.{first_flag, judged_header, opening};
 /// The pictures that a front of an input shows to be over begin those of the whole input, however it goes on; and a
 /// broken rule or limit in the front is that of the whole input.
 pub fn fronts_stay()
-    ensures { (front : List ℕ) (rest : List ℕ) (ended : Bool) → Extends (planned_of false front) (planned_of ended (front ++ rest)) }
+    ensures { (front : List ℕ) (rest : List ℕ) (ended : Bool)
+        → Extends (planned_of false front) (planned_of ended (front ++ rest)) }
 {}
 
 /// The slice segments of all pictures, joined, are the units that are decoded, before what stops the stream, in their
 /// order; each picture begins where first_slice_segment_in_pic_flag is 1, and nowhere else (7.4.2.4.4).
 pub fn segments_are_grouped_to_pictures()
-    ensures { (ended : Bool) (told : List Told) → AreGrouped ended (decoded_units beginning told) (planned_from ended beginning told) }
+    ensures { (ended : Bool) (told : List Told)
+        → AreGrouped ended (decoded_units beginning told) (planned_from ended beginning told) }
 {}
 
 /// A header that is accepted as the first of a picture opens one: nothing is refused behind it. Its

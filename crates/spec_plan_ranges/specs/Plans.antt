@@ -24,7 +24,8 @@ pub record AreReferences (size : ℕ) (l : Lists) : Type 0 where
 abbrev pub HaveRows : ℕ → ℕ → List SegmentPlan → Type 0
 HaveRows width size [] = Unit {0}
 HaveRows width size (s ∷ later) =
-    (length s.substreams ≡ row_before width (begins_at size later) - address_of s / width + 1) × HaveRows width size later
+    (length s.substreams ≡ row_before width (begins_at size later) - address_of s / width + 1)
+    × HaveRows width size later
 
 -- a picture that is planned. The marks are of the pictures in the buffer before it
 pub record IsPlan (p : PicturePlan) : Type 0 where
@@ -35,4 +36,5 @@ pub record IsPlan (p : PicturePlan) : Type 0 where
   pub order : AreInOrder p
   pub slices : BeginSlicesFrom 0 p.segments
   pub references : All (λ (s : SegmentPlan). IfSome s.lists (AreReferences (length p.rps.marks))) p.segments
-  pub rows : p.pps.entropy_coding_sync_enabled_flag ≡ true → HaveRows (width_in_ctbs p.sps) (size_in_ctbs p.sps) p.segments
+  pub rows : p.pps.entropy_coding_sync_enabled_flag ≡ true
+      → HaveRows (width_in_ctbs p.sps) (size_in_ctbs p.sps) p.segments

@@ -1,5 +1,6 @@
 -- The scaling factors of transform blocks (7.4.5, 8.6.3).
-use Rattle.std.specs.Prelude.{ℕ, Bool, ◌+◌, ◌-◌, ◌*◌, ◌/◌, ◌%◌, ◌^◌, ◌==◌, ◌&&◌, nat_lt, Option, Some, None, List, [], ◌++◌, map, slice_index_or, if◌then◌else◌}
+use Rattle.std.specs.Prelude.{ℕ, Bool, ◌+◌, ◌-◌, ◌*◌, ◌/◌, ◌%◌, ◌^◌, ◌==◌, ◌&&◌, nat_lt, Option, Some, None, List, []}
+use Rattle.std.specs.Prelude.{◌++◌, map, slice_index_or, if◌then◌else◌}
 use Rattle.std.specs.List.{range_with_len}
 use Rattle.block_geometry.specs.declared.kind.Scan.TheVariants.{Diagonal}
 use Rattle.block_geometry.specs.Scans.{scan_index}
@@ -44,11 +45,17 @@ scaling_factor (Some lists) intra log2 c x y = listed_factor (list_of lists intr
 
 -- those of the blocks of a component and a size, row after row
 abbrev pub factors_in_rows : Option ScalingLists → Bool → ℕ → ℕ → List ℕ
-factors_in_rows lists intra log2 c = map (λ k. scaling_factor lists intra log2 c (k % 2 ^ log2) (k / 2 ^ log2)) (range_with_len 0 (2 ^ log2 * 2 ^ log2))
+factors_in_rows lists intra log2 c =
+    map (λ k. scaling_factor lists intra log2 c (k % 2 ^ log2) (k / 2 ^ log2)) (range_with_len 0 (2 ^ log2 * 2 ^ log2))
 
 abbrev pub factors_of_size : Option ScalingLists → Bool → ℕ → List ℕ
-factors_of_size lists intra log2 = factors_in_rows lists intra log2 0 ++ (factors_in_rows lists intra log2 1 ++ factors_in_rows lists intra log2 2)
+factors_of_size lists intra log2 =
+    factors_in_rows lists intra log2 0 ++ (factors_in_rows lists intra log2 1 ++ factors_in_rows lists intra log2 2)
 
 -- those of all blocks of intra coding units, or of inter ones
 unfoldable pub scaling_factors : Option ScalingLists → Bool → ScalingFactors
-scaling_factors lists intra = record { by_place = factors_of_size lists intra 2 ++ (factors_of_size lists intra 3 ++ (factors_of_size lists intra 4 ++ factors_in_rows lists intra 5 0)) }
+scaling_factors lists intra = record {
+  by_place =
+      factors_of_size lists intra 2
+      ++ (factors_of_size lists intra 3 ++ (factors_of_size lists intra 4 ++ factors_in_rows lists intra 5 0));
+}

@@ -39,8 +39,11 @@ pub record InterUnit : Type 0 where
 -- predSamplesLX of a component at a column and a line of the picture, by a vector of a list
 unfoldable pub predicted_by : UnitFormat → InterUnit → ℕ → ℕ → Vector → ℕ → ℕ → ℤ
 predicted_by format inter list c v x y =
-    if c == 0 then luma_sample format.luma_depth (inter.pictures (reference_in inter.slice list v.ref_idx).picture 0) v.mv.x v.mv.y x y
-    else chroma_sample format.chroma_depth (inter.pictures (reference_in inter.slice list v.ref_idx).picture c) v.mv.x v.mv.y x y
+    if c == 0
+    then luma_sample format.luma_depth
+    (inter.pictures (reference_in inter.slice list v.ref_idx).picture 0) v.mv.x v.mv.y x y
+    else chroma_sample format.chroma_depth
+    (inter.pictures (reference_in inter.slice list v.ref_idx).picture c) v.mv.x v.mv.y x y
 
 -- the reference index of a vector, where there is one
 abbrev pub index_of : Option Vector → ℕ
@@ -54,18 +57,24 @@ motion_weighting inter c motion = weighting_of inter.weighting c (index_of motio
 -- a sample of a component by vectors of the lists; motion by neither list has none
 unfoldable pub sample_by : UnitFormat → InterUnit → ℕ → Weighting → Option Vector → Option Vector → ℕ → ℕ → ℕ
 sample_by format inter c weighting None None x y = 0
-sample_by format inter c weighting (Some v) None x y = weighted_one (depth_of format c) weighting 0 (predicted_by format inter 0 c v x y)
-sample_by format inter c weighting None (Some w) x y = weighted_one (depth_of format c) weighting 1 (predicted_by format inter 1 c w x y)
+sample_by format inter c weighting (Some v) None x y =
+    weighted_one (depth_of format c) weighting 0 (predicted_by format inter 0 c v x y)
+sample_by format inter c weighting None (Some w) x y =
+    weighted_one (depth_of format c) weighting 1 (predicted_by format inter 1 c w x y)
 sample_by format inter c weighting (Some v) (Some w) x y =
-    weighted_two (depth_of format c) weighting (predicted_by format inter 0 c v x y) (predicted_by format inter 1 c w x y)
+    weighted_two (depth_of format c) weighting (predicted_by format inter 0 c v x y)
+    (predicted_by format inter 1 c w x y)
 
 -- a sample of a component by a motion, at a column and a line of the picture
 abbrev pub inter_sample : UnitFormat → InterUnit → ℕ → Motion → ℕ → ℕ → ℕ
-inter_sample format inter c motion x y = sample_by format inter c (motion_weighting inter c motion) motion.list_0 motion.list_1 x y
+inter_sample format inter c motion x y =
+    sample_by format inter c (motion_weighting inter c motion) motion.list_0 motion.list_1 x y
 
 -- a block of places in samples of a component; both are counted from a unit's first one
 abbrev pub samples_of : ℕ → Rectangle → Rectangle
-samples_of c block = rectangle (samples_of_place c * block.x) (samples_of_place c * block.y) (samples_of_place c * block.width) (samples_of_place c * block.height)
+samples_of c block =
+    rectangle (samples_of_place c * block.x) (samples_of_place c * block.y) (samples_of_place c * block.width)
+    (samples_of_place c * block.height)
 
 -- a rectangle of samples of a component over what was there, each by its column and line, counted from 0
 unfoldable pub rectangle_laid : ℕ → Rectangle → (ℕ → ℕ → ℕ) → Known → Known
@@ -78,7 +87,9 @@ rectangle_laid c block samples known component column line =
 unfoldable pub component_predicted : UnitFormat → InterUnit → Rectangle → Motion → ℕ → Known → Known
 component_predicted format inter block motion c known =
     rectangle_laid c (samples_of c block)
-    (λ x y. inter_sample format inter c motion (samples_of_place c * inter.column + x) (samples_of_place c * inter.row + y)) known
+    (λ x y. inter_sample format inter c motion (samples_of_place c * inter.column + x)
+    (samples_of_place c * inter.row + y))
+    known
 
 abbrev pub block_predicted_by : UnitFormat → InterUnit → Rectangle → Option Motion → Known → Known
 block_predicted_by format inter block None known = known

@@ -28,4 +28,5 @@ chroma_parameter offset index = offset_parameter offset (int_max (neg_ℤ (pos o
 unfoldable pub parameter_of : UnitFormat → ℕ → ℕ → ℕ
 parameter_of format c qp =
     if c == 0 then qp
-    else chroma_parameter (depth_offset format.chroma_depth) (pos qp -ℤ pos (depth_offset format.luma_depth) +ℤ chroma_offset format c)
+    else chroma_parameter (depth_offset format.chroma_depth)
+    (pos qp -ℤ pos (depth_offset format.luma_depth) +ℤ chroma_offset format c)

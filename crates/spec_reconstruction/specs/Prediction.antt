@@ -27,7 +27,10 @@ offered format motion known c column line =
 -- a block of 2^log2 samples on a side that is predicted by a mode from what is known beside it
 unfoldable pub block_predicted : UnitFormat → motion.Known → ℕ → ℕ → ℕ → ℕ → ℕ → Known → Known
 block_predicted format motion c log2 mode x y known =
-    laid c x y (2 ^ log2) (predicted c log2 mode format.strong_intra_smoothing (depth_of format c) (substituted (depth_of format c) (beside (offered format motion known c) (2 ^ log2) x y))) known
+    laid c x y (2 ^ log2)
+    (predicted c log2 mode format.strong_intra_smoothing (depth_of format c)
+    (substituted (depth_of format c) (beside (offered format motion known c) (2 ^ log2) x y)))
+    known
 
 -- the chroma blocks of a square of at least 8x8 luma samples, Cb first
 unfoldable pub chroma_predicted : UnitFormat → motion.Known → ℕ → Square → Known → Known

@@ -3,7 +3,8 @@ use Rattle.std.specs.Prelude.{ℕ, ◌+◌, ◌*◌, ◌^◌, ◌==◌, ◌&&◌
 use Rattle.ctu_records.specs.declared.item.CodedBlock.{CodedBlock}
 use Rattle.ctu_records.specs.declared.item.Item.{Item}
 use Rattle.ctu_records.specs.declared.item.Item.TheVariants as item
-use Rattle.ctu_records.specs.declared.item.Item.TheVariants.{Unit, Luma, Chroma, Prediction, Pcm, Sample, Transform, Delta, Level}
+use Rattle.ctu_records.specs.declared.item.Item.TheVariants.{Unit, Luma, Chroma, Prediction, Pcm, Sample, Transform}
+use Rattle.ctu_records.specs.declared.item.Item.TheVariants.{Delta, Level}
 use Rattle.spec_reconstruction.specs.declared.format.ScalingFactors.{ScalingFactors}
 use Rattle.spec_reconstruction.specs.declared.format.UnitFormat.{UnitFormat}
 use Rattle.spec_reconstruction.specs.declared.unit_mode.UnitMode.{UnitMode}
@@ -37,7 +38,8 @@ factors_of format mode = if mode.intra then format.intra_factors else format.int
 -- the scaled coefficients of a block (8.6.3)
 abbrev pub scaled_block : UnitFormat → UnitMode → ℕ → ℕ → ℕ → List ℤ → Block
 scaled_block format mode c log2 qp levels x y =
-    scaled (depth_of format c) log2 qp (factor (factors_of format mode) log2 c (2 ^ log2 * y + x)) (block_in (2 ^ log2) levels x y)
+    scaled (depth_of format c) log2 qp (factor (factors_of format mode) log2 c (2 ^ log2 * y + x))
+    (block_in (2 ^ log2) levels x y)
 
 -- whether a block has the transform of sines: luma of 4x4 samples in an intra coding unit (8.6.4.2)
 abbrev pub has_sines : UnitMode → ℕ → ℕ → Bool
@@ -49,10 +51,13 @@ unfoldable pub residuals : UnitFormat → UnitMode → CodedBlock → ℕ → Li
 residuals format mode block qp levels x y =
     if mode.transquant_bypass then block_in (2 ^ block.log2_size) levels x y
     else (if block.transform_skip
-    then skipped (depth_of format block.component) (scaled_block format mode block.component block.log2_size qp levels x y)
-    else transformed (depth_of format block.component) (has_sines mode block.component block.log2_size) (2 ^ block.log2_size) (scaled_block format mode block.component block.log2_size qp levels) x y)
+    then skipped (depth_of format block.component)
+    (scaled_block format mode block.component block.log2_size qp levels x y)
+    else transformed (depth_of format block.component) (has_sines mode block.component block.log2_size)
+    (2 ^ block.log2_size) (scaled_block format mode block.component block.log2_size qp levels) x y)
 
 -- the residuals of a block in a coding unit whose Qp'Y is qp, by the items behind it
 abbrev pub residuals_behind : UnitFormat → UnitMode → CodedBlock → ℕ → List Item → Block
 residuals_behind format mode block qp items =
-    residuals format mode block (parameter_of format block.component qp) (levels_behind (2 ^ block.log2_size * 2 ^ block.log2_size) items)
+    residuals format mode block (parameter_of format block.component qp)
+    (levels_behind (2 ^ block.log2_size * 2 ^ block.log2_size) items)

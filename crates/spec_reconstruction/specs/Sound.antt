@@ -1,15 +1,18 @@
 -- The ranges of what is read of a unit, for which its samples are told: what its syntax and the sets that it belongs to
 -- give.
-use Rattle.std.specs.Prelude.{◌≡◌, ℕ, ◌+◌, ◌-◌, ◌*◌, ◌^◌, ◌<◌, ◌≤◌, List, [], ◌∷◌, length, slice_index_or, Option, Some, None, ⊤}
+use Rattle.std.specs.Prelude.{◌≡◌, ℕ, ◌+◌, ◌-◌, ◌*◌, ◌^◌, ◌<◌, ◌≤◌, List, [], ◌∷◌, length, slice_index_or, Option, Some}
+use Rattle.std.specs.Prelude.{None, ⊤}
 use Rattle.std.specs.List.{All}
 use Rattle.ctu_records.specs.declared.item.Item.{Item}
-use Rattle.ctu_records.specs.declared.item.Item.TheVariants.{Unit, Luma, Chroma, Prediction, Pcm, Sample, Transform, Delta, Block, Level}
+use Rattle.ctu_records.specs.declared.item.Item.TheVariants.{Unit, Luma, Chroma, Prediction, Pcm, Sample, Transform}
+use Rattle.ctu_records.specs.declared.item.Item.TheVariants.{Delta, Block, Level}
 use Rattle.ctu_records.specs.declared.item.Square.{Square}
 use Rattle.ctu_records.specs.declared.item.CodedBlock.{CodedBlock}
 use Rattle.ctu_records.specs.declared.prediction.MotionSyntax.{MotionSyntax}
 use Rattle.ctu_records.specs.declared.prediction.MotionSyntax.TheVariants.{Merge, Vectors}
 use Rattle.ctu_records.specs.declared.prediction.PartMode.{PartMode}
-use Rattle.ctu_records.specs.declared.prediction.PartMode.TheVariants.{Whole, TwoNxN, Nx2N, NxN, TwoNxnU, TwoNxnD, NLx2N, NRx2N}
+use Rattle.ctu_records.specs.declared.prediction.PartMode.TheVariants.{Whole, TwoNxN, Nx2N, NxN, TwoNxnU, TwoNxnD}
+use Rattle.ctu_records.specs.declared.prediction.PartMode.TheVariants.{NLx2N, NRx2N}
 use Rattle.ctu_records.specs.declared.prediction.PredictionUnit.{PredictionUnit}
 use Rattle.ctu_records.specs.declared.prediction.VectorSyntax.{VectorSyntax}
 use Rattle.ctu_records.specs.Tree.{IsPlaced, luma_mode_at, qp_at}
@@ -92,8 +95,10 @@ IsSound format (Level place value) = ⊤
 -- read of each, and so have those of chroma
 pub record HasPulses (format : UnitFormat) (square : Square) (items : List Item) : Type 0 where
   pub count : 24 * 4 ^ square.log2_size ≤ length items
-  pub luma : (k : ℕ) → k < 16 * 4 ^ square.log2_size → sample_of (slice_index_or items k (Sample 0)) < 2 ^ format.pcm_luma_bits
-  pub chroma : (k : ℕ) → 16 * 4 ^ square.log2_size ≤ k → k < 24 * 4 ^ square.log2_size → sample_of (slice_index_or items k (Sample 0)) < 2 ^ format.pcm_chroma_bits
+  pub luma : (k : ℕ) → k < 16 * 4 ^ square.log2_size
+      → sample_of (slice_index_or items k (Sample 0)) < 2 ^ format.pcm_luma_bits
+  pub chroma : (k : ℕ) → 16 * 4 ^ square.log2_size ≤ k → k < 24 * 4 ^ square.log2_size
+      → sample_of (slice_index_or items k (Sample 0)) < 2 ^ format.pcm_chroma_bits
 
 abbrev pub BeginsPulses : UnitFormat → Item → List Item → Type 0
 BeginsPulses format (Unit unit) items = ⊤

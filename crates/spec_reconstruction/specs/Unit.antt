@@ -3,7 +3,8 @@ use Rattle.std.specs.Prelude.{ℕ, ◌+◌, ◌*◌, ◌^◌, ◌==◌, false, L
 use Rattle.ctu_records.specs.declared.item.CodedBlock.{CodedBlock}
 use Rattle.ctu_records.specs.declared.item.CodingUnit.{CodingUnit}
 use Rattle.ctu_records.specs.declared.item.Item.{Item}
-use Rattle.ctu_records.specs.declared.item.Item.TheVariants.{Unit, Luma, Chroma, Prediction, Pcm, Sample, Transform, Delta, Block, Level}
+use Rattle.ctu_records.specs.declared.item.Item.TheVariants.{Unit, Luma, Chroma, Prediction, Pcm, Sample, Transform}
+use Rattle.ctu_records.specs.declared.item.Item.TheVariants.{Delta, Block, Level}
 use Rattle.ctu_records.specs.declared.item.Square.{Square}
 use Rattle.ctu_records.specs.Tree.{luma_mode_at, qp_at}
 use Rattle.spec_reconstruction.specs.declared.format.UnitFormat.{UnitFormat}
@@ -24,7 +25,8 @@ pub record Building : Type 0 where
 
 -- before the first item
 abbrev pub before_unit : Known → Building
-before_unit known = record { mode = record { transquant_bypass = false; intra = false }; chroma_mode = 0; known = known }
+before_unit known =
+    record { mode = record { transquant_bypass = false; intra = false }; chroma_mode = 0; known = known }
 
 abbrev pub with_known : Building → Known → Building
 with_known building known = record { mode = building.mode; chroma_mode = building.chroma_mode; known = known }
@@ -35,7 +37,8 @@ mode_of unit = record { transquant_bypass = unit.transquant_bypass; intra = unit
 -- the residuals of a block are added to its predicted samples
 unfoldable pub block_constructed : UnitFormat → List Item → UnitMode → CodedBlock → List Item → Known → Known
 block_constructed format all mode block items =
-    constructed (depth_of format block.component) block.component (samples_of_place block.component * block.x) (samples_of_place block.component * block.y) (2 ^ block.log2_size)
+    constructed (depth_of format block.component) block.component (samples_of_place block.component * block.x)
+    (samples_of_place block.component * block.y) (2 ^ block.log2_size)
     (residuals_behind format mode block (qp_at all block.x block.y) items)
 
 -- the blocks of a transform unit of an intra coding unit are predicted; those of an inter one were with their
@@ -43,17 +46,22 @@ block_constructed format all mode block items =
 abbrev pub transform_predicted : UnitFormat → InterUnit → List Item → Building → Square → Known
 transform_predicted format inter all building square =
     if building.mode.intra
-    then unit_predicted format inter.motion (luma_mode_at all square.x square.y) building.chroma_mode square building.known
+    then unit_predicted format inter.motion (luma_mode_at all square.x square.y) building.chroma_mode
+    square building.known
     else building.known
 
 -- an item of a unit of which all was read, with the items behind it: a transform unit's blocks are predicted from what
 -- is known so far, and each of its coded blocks is constructed behind that
 abbrev pub item_built : UnitFormat → InterUnit → List Item → Building → Item → List Item → Building
-item_built format inter all building (Unit unit) items = record { mode = mode_of unit; chroma_mode = building.chroma_mode; known = building.known }
+item_built format inter all building (Unit unit) items =
+    record { mode = mode_of unit; chroma_mode = building.chroma_mode; known = building.known }
 item_built format inter all building (Luma luma) items = building
-item_built format inter all building (Chroma mode) items = record { mode = building.mode; chroma_mode = mode; known = building.known }
-item_built format inter all building (Prediction unit) items = with_known building (prediction_laid format inter unit building.known)
-item_built format inter all building (Pcm square) items = with_known building (pulses_laid format square items building.known)
+item_built format inter all building (Chroma mode) items =
+    record { mode = building.mode; chroma_mode = mode; known = building.known }
+item_built format inter all building (Prediction unit) items =
+    with_known building (prediction_laid format inter unit building.known)
+item_built format inter all building (Pcm square) items =
+    with_known building (pulses_laid format square items building.known)
 item_built format inter all building (Sample value) items = building
 item_built format inter all building (Transform unit) items =
     with_known building (transform_predicted format inter all building unit.square)
@@ -65,7 +73,8 @@ item_built format inter all building (Level place value) items = building
 -- items in reading order, of a unit of which all was read
 unfoldable pub items_built : UnitFormat → InterUnit → List Item → List Item → Building → Building
 items_built format inter all [] building = building
-items_built format inter all (item ∷ items) building = items_built format inter all items (item_built format inter all building item items)
+items_built format inter all (item ∷ items) building =
+    items_built format inter all items (item_built format inter all building item items)
 
 -- the samples that are known once a unit is built, by those known before it
 unfoldable pub unit_built : UnitFormat → InterUnit → List Item → Known → Known

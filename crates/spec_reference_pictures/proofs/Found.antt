@@ -1,5 +1,7 @@
 -- Places of pictures that were found.
-use Rattle.std.proofs.Common.{ℕ, zero, suc, ◌≡◌, ◌∙◌, ◌<◌, ◌==◌, ◌⊎◌, inl, inr, Bool, true, false, ◌||◌, cond, if◌then◌else◌, List, [], ◌∷◌, ◌++◌, map, length, get_or, Option, Some, None, arith, refl, sym, ap, subst}
+use Rattle.std.proofs.Common.{ℕ, zero, suc, ◌≡◌, ◌∙◌, ◌<◌, ◌==◌, ◌⊎◌, inl, inr, Bool, true, false, ◌||◌, cond}
+use Rattle.std.proofs.Common.{if◌then◌else◌, List, [], ◌∷◌, ◌++◌, map, length, get_or, Option, Some, None, arith, refl}
+use Rattle.std.proofs.Common.{sym, ap, subst}
 use Rattle.std.specs.List.{Contains, filter}
 use Rattle.std.proofs.lemmas.Bool.{cases_lt}
 use Rattle.std.proofs.lemmas.Bool.Decides.{Decides-eqb}
@@ -8,9 +10,11 @@ use Rattle.std.proofs.lemmas.List.Elements.{Contains-append_cases, Contains-appe
 use Rattle.std.proofs.lemmas.List.Folds.{list_any_at}
 use Rattle.spec_reference_pictures.specs.ReferencePictureSet.{found, greatest_below, is_among, is_place}
 
-by_test : (test : ℕ → Bool) (n k : ℕ) (b : Bool) → (greatest_below test n ≡ Some k → (k < n) × (test k ≡ true)) → test n ≡ b → (if b then Some n else greatest_below test n) ≡ Some k
+by_test : (test : ℕ → Bool) (n k : ℕ) (b : Bool) → (greatest_below test n ≡ Some k → (k < n) × (test k ≡ true))
+    → test n ≡ b → (if b then Some n else greatest_below test n) ≡ Some k
     → (k < suc n) × (test k ≡ true)
-by_test test n k true below holds is = let same : n ≡ k = cc in (omega arith, subst (λ (j : ℕ). test j ≡ true) same holds)
+by_test test n k true below holds is =
+    let same : n ≡ k = cc in (omega arith, subst (λ (j : ℕ). test j ≡ true) same holds)
 by_test test n k false below fails is = let lower = below is in (omega (arith, lower.0), lower.1)
 
 -- the greatest place for which a test holds is below the bound, and the test holds for it
@@ -72,8 +76,10 @@ pub record IsNamedBy {A : Type 0} (f : A → Option ℕ) (p : A → Bool) (xs : 
 here : {A : Type 0} (x : A) (xs : List A) → Contains (x ∷ xs) x
 here x xs = (0, omega arith, refl)
 
-named_later : {A : Type 0} (f : A → Option ℕ) (p : A → Bool) (y : A) (xs : List A) (k : ℕ) → (x : A) × IsNamedBy f p xs k x → (x : A) × IsNamedBy f p (y ∷ xs) k x
-named_later f p y xs k (x, is) = (x, record { among = Contains-append_right (y ∷ []) xs x is.among; picked = is.picked; names = is.names })
+named_later : {A : Type 0} (f : A → Option ℕ) (p : A → Bool) (y : A) (xs : List A) (k : ℕ)
+    → (x : A) × IsNamedBy f p xs k x → (x : A) × IsNamedBy f p (y ∷ xs) k x
+named_later f p y xs k (x, is) =
+    (x, record { among = Contains-append_right (y ∷ []) xs x is.among; picked = is.picked; names = is.names })
 
 by_pick : {A : Type 0} (f : A → Option ℕ) (p : A → Bool) (y : A) (xs : List A) (k : ℕ) (b : Bool) → p y ≡ b
     → (is_among k (map f (filter p xs)) ≡ true → (x : A) × IsNamedBy f p xs k x)
@@ -86,11 +92,13 @@ by_pick f p y xs k true picks rest e =
 by_pick f p y xs k false passes rest e = named_later f p y xs k (rest e)
 
 -- a place that items which a test picks name is named by one of them
-pub among_picked : {A : Type 0} (f : A → Option ℕ) (p : A → Bool) (xs : List A) (k : ℕ) → is_among k (map f (filter p xs)) ≡ true → (x : A) × IsNamedBy f p xs k x
+pub among_picked : {A : Type 0} (f : A → Option ℕ) (p : A → Bool) (xs : List A) (k : ℕ)
+    → is_among k (map f (filter p xs)) ≡ true → (x : A) × IsNamedBy f p xs k x
 among_picked f p [] k e = cc
 among_picked f p (y ∷ xs) k e = by_pick f p y xs k (p y) refl (among_picked f p xs k) e
 
-pub among_mapped : {A : Type 0} (f : A → Option ℕ) (xs : List A) (k : ℕ) → is_among k (map f xs) ≡ true → (x : A) × (f x ≡ Some k)
+pub among_mapped : {A : Type 0} (f : A → Option ℕ) (xs : List A) (k : ℕ) → is_among k (map f xs) ≡ true
+    → (x : A) × (f x ≡ Some k)
 among_mapped f [] k e = cc
 among_mapped f (y ∷ xs) k e =
     elim (either (is_place k (f y)) (is_among k (map f xs)) e) [
@@ -103,10 +111,13 @@ pub among_at : (places : List (Option ℕ)) (i k : ℕ) → get_or places i None
 among_at places i k e =
     elim (cases_lt i (length places)) [
       | inl inside ↦ list_any_at (is_place k) places i None inside (is_its_place (get_or places i None) k e)
-      | inr past ↦ let none : get_or places i None ≡ None = get_or_past places i None past in let no : ◌≡◌ {A = Option ℕ} None (Some k) = sym none ∙ e in cc
+      | inr past ↦
+          let none : get_or places i None ≡ None = get_or_past places i None past in
+          let no : ◌≡◌ {A = Option ℕ} None (Some k) = sym none ∙ e in cc
     ]
 
-pub among_append : (k : ℕ) (xs ys : List (Option ℕ)) → is_among k (xs ++ ys) ≡ true → (is_among k xs ≡ true) ⊎ (is_among k ys ≡ true)
+pub among_append : (k : ℕ) (xs ys : List (Option ℕ)) → is_among k (xs ++ ys) ≡ true
+    → (is_among k xs ≡ true) ⊎ (is_among k ys ≡ true)
 among_append k [] ys e = inr e
 among_append k (x ∷ xs) ys e =
     elim (either (is_place k x) (is_among k (xs ++ ys)) e) [

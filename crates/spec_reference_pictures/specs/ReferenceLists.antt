@@ -1,5 +1,6 @@
 -- Reference picture lists (8.3.4).
-use Rattle.std.specs.Prelude.{◌≡◌, ℕ, ℤ, pos, ◌+◌, ◌%◌, ◌⊎◌, true, false, ◌==◌, List, [], ◌++◌, map, length, slice_index_or, Option, Some, None, if◌then◌else◌}
+use Rattle.std.specs.Prelude.{◌≡◌, ℕ, ℤ, pos, ◌+◌, ◌%◌, ◌⊎◌, true, false, ◌==◌, List, [], ◌++◌, map, length}
+use Rattle.std.specs.Prelude.{slice_index_or, Option, Some, None, if◌then◌else◌}
 use Rattle.std.specs.Bool.{MatchBool}
 use Rattle.std.specs.List.{Contains, range_with_len}
 use Rattle.header_types.specs.declared.reference_pictures.DpbPicture.{DpbPicture}
@@ -27,7 +28,8 @@ no_reference = record { place = 0; poc = pos 0; is_long_term = false }
 
 -- NumPicTotalCurr pictures in the order of a list: those of the short-term lists, then the long-term ones
 unfoldable pub in_turn : List DpbPicture → List ℕ → List ℕ → List ℕ → List RefEntry
-in_turn dpb first second long = map (short_entry dpb) first ++ (map (short_entry dpb) second ++ map (long_entry dpb) long)
+in_turn dpb first second long =
+    map (short_entry dpb) first ++ (map (short_entry dpb) second ++ map (long_entry dpb) long)
 
 -- entry i of the temporary list, which has these in turn again and again (8-8, 8-10). It is the same however long the
 -- list is made, in the standard the greater of num_ref_idx_active_minus1 + 1 and NumPicTotalCurr
@@ -42,13 +44,15 @@ entry_taken (Some list_entry) i = slice_index_or list_entry i 0
 -- the list of so many active entries (8-9, 8-11); none where NumPicTotalCurr is 0
 unfoldable pub reference_list : List RefEntry → ℕ → Option (List ℕ) → List RefEntry
 reference_list turn active list_entry =
-    if length turn == 0 then [] else map (λ i. temporary_entry turn (entry_taken list_entry i)) (range_with_len 0 active)
+    if length turn == 0 then []
+    else map (λ i. temporary_entry turn (entry_taken list_entry i)) (range_with_len 0 active)
 
 -- list 0 of a slice with these fields: none of an I slice, which has no fields of P and B slices
 abbrev pub list_0 : Option InterFields → Rps → List DpbPicture → List RefEntry
 list_0 None rps dpb = []
 list_0 (Some fields) rps dpb =
-    reference_list (in_turn dpb rps.st_curr_before rps.st_curr_after rps.lt_curr) (fields.num_ref_idx_l0_active_minus1 + 1) fields.list_entry_l0
+    reference_list (in_turn dpb rps.st_curr_before rps.st_curr_after rps.lt_curr)
+    (fields.num_ref_idx_l0_active_minus1 + 1) fields.list_entry_l0
 
 -- list 1 of a slice that has so many entries in it: none of a P slice
 abbrev pub list_1_of : Option ℕ → Option (List ℕ) → Rps → List DpbPicture → List RefEntry
@@ -71,4 +75,5 @@ TellsOrderCount dpb entry = entry.poc ≡ order_count_at dpb entry.place
 -- whether an entry is for a picture that the picture itself may use, as what it stands there
 abbrev pub IsCurrent : Rps → RefEntry → Type 0
 IsCurrent rps entry =
-    MatchBool entry.is_long_term (Contains rps.lt_curr entry.place) (Contains rps.st_curr_before entry.place ⊎ Contains rps.st_curr_after entry.place)
+    MatchBool entry.is_long_term (Contains rps.lt_curr entry.place)
+    (Contains rps.st_curr_before entry.place ⊎ Contains rps.st_curr_after entry.place)

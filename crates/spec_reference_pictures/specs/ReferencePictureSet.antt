@@ -1,5 +1,7 @@
 -- Reference picture sets (8.3.2).
-use Rattle.std.specs.Prelude.{◌≡◌, ◌≢◌, ◌≤◌, ◌<◌, ◌⊎◌, ℕ, zero, suc, ◌+◌, ◌*◌, ℤ, pos, ◌+ℤ◌, ◌-ℤ◌, Bool, true, false, not, ◌&&◌, ◌||◌, ◌==◌, List, ◌++◌, map, length, slice_index_or, Option, Some, None, is_none, unwrap_or, if◌then◌else◌, Result, Ok, Err}
+use Rattle.std.specs.Prelude.{◌≡◌, ◌≢◌, ◌≤◌, ◌<◌, ◌⊎◌, ℕ, zero, suc, ◌+◌, ◌*◌, ℤ, pos, ◌+ℤ◌, ◌-ℤ◌, Bool, true, false}
+use Rattle.std.specs.Prelude.{not, ◌&&◌, ◌||◌, ◌==◌, List, ◌++◌, map, length, slice_index_or, Option, Some, None}
+use Rattle.std.specs.Prelude.{is_none, unwrap_or, if◌then◌else◌, Result, Ok, Err}
 use Rattle.std.specs.List.{Contains, filter, filter_map, list_any, range_with_len, count_by}
 use Rattle.std.specs.Ordering.{int_eq}
 use Rattle.hv_base.specs.declared.fault.FaultKind.{FaultKind}
@@ -79,7 +81,8 @@ no_picture = record { poc = pos 0; mark = mark.Unused; needed_for_output = false
 -- the order counts of the pictures that are marked as reference when the set is derived: none where the picture begins
 -- anew
 abbrev pub reference_poc : PictureKind → DpbPicture → Option ℤ
-reference_poc kind picture = if begins_anew kind then None else (if is_reference picture.mark then Some picture.poc else None)
+reference_poc kind picture =
+    if begins_anew kind then None else (if is_reference picture.mark then Some picture.poc else None)
 
 unfoldable pub reference_pocs : PictureKind → List DpbPicture → List (Option ℤ)
 reference_pocs kind dpb = map (reference_poc kind) dpb
@@ -99,7 +102,8 @@ own_cycle long i = unwrap_or (long_term_entry long i).delta_poc_msb_cycle_lt 0
 -- again, but at the first entry that names no candidate of the sequence parameter set
 unfoldable pub msb_cycle_before : LongTermRefs → ℕ → ℕ
 msb_cycle_before long zero = 0
-msb_cycle_before long (suc i) = if i == long.num_long_term_sps then own_cycle long i else own_cycle long i + msb_cycle_before long i
+msb_cycle_before long (suc i) =
+    if i == long.num_long_term_sps then own_cycle long i else own_cycle long i + msb_cycle_before long i
 
 -- DeltaPocMsbCycleLt of entry i
 abbrev pub msb_cycle : LongTermRefs → ℕ → ℕ
@@ -109,7 +113,8 @@ msb_cycle long i = msb_cycle_before long (suc i)
 -- (8-5)
 abbrev pub name_by : ℕ → ℤ → ℕ → ℕ → Option ℕ → PictureName
 name_by max_lsb poc lsb cycle None = Lsb max_lsb lsb
-name_by max_lsb poc lsb cycle (Some _) = OrderCount (poc -ℤ pos (cycle * max_lsb) -ℤ pos (lsb_of max_lsb poc) +ℤ pos lsb)
+name_by max_lsb poc lsb cycle (Some _) =
+    OrderCount (poc -ℤ pos (cycle * max_lsb) -ℤ pos (lsb_of max_lsb poc) +ℤ pos lsb)
 
 -- how long-term entry i names its picture
 unfoldable pub long_term_name : PictureKind → LongTermRefs → ℤ → ℕ → PictureName
@@ -120,15 +125,18 @@ long_term_name kind long poc i =
 -- the places of the pictures that the long-term entries name, which are sought among all that are marked as reference
 unfoldable pub long_term_places : PictureKind → LongTermRefs → ℤ → List DpbPicture → List (Option ℕ)
 long_term_places kind long poc dpb =
-    map (λ i. place_of (long_term_name kind long poc i) (reference_pocs kind dpb)) (range_with_len 0 (length long.entries))
+    map (λ i. place_of (long_term_name kind long poc i) (reference_pocs kind dpb))
+    (range_with_len 0 (length long.entries))
 
 -- the order counts of the short-term pictures: those that are marked so and that no long-term entry names
 abbrev pub short_term_poc : PictureKind → List (Option ℕ) → ℕ → DpbPicture → Option ℤ
 short_term_poc kind long k picture =
-    if begins_anew kind || is_among k long then None else (if is_short_term picture.mark then Some picture.poc else None)
+    if begins_anew kind || is_among k long then None
+    else (if is_short_term picture.mark then Some picture.poc else None)
 
 unfoldable pub short_term_pocs : PictureKind → List (Option ℕ) → List DpbPicture → List (Option ℤ)
-short_term_pocs kind long dpb = map (λ k. short_term_poc kind long k (slice_index_or dpb k no_picture)) (range_with_len 0 (length dpb))
+short_term_pocs kind long dpb =
+    map (λ k. short_term_poc kind long k (slice_index_or dpb k no_picture)) (range_with_len 0 (length dpb))
 
 -- whether an entry is one that the picture itself may use, or one that only later pictures may
 abbrev pub is_for : Bool → Bool → Bool
@@ -138,12 +146,15 @@ is_for false used = not used
 -- the pictures of the short-term entries for the picture itself, or of those for later pictures alone
 unfoldable pub short_term_set : List (Option ℤ) → ℤ → Bool → List ShortTermRef → List (Option ℕ)
 short_term_set counts poc current entries =
-    map (λ (r : ShortTermRef). place_of (OrderCount (poc +ℤ r.delta_poc)) counts) (filter (λ (r : ShortTermRef). is_for current r.used) entries)
+    map (λ (r : ShortTermRef). place_of (OrderCount (poc +ℤ r.delta_poc)) counts)
+    (filter (λ (r : ShortTermRef). is_for current r.used) entries)
 
 -- the pictures of the long-term entries for the picture itself, or of the others, where these are those of all
 unfoldable pub long_term_set : List (Option ℕ) → Bool → List LongTermRef → List (Option ℕ)
 long_term_set places current entries =
-    map (λ i. slice_index_or places i None) (filter (λ i. is_for current (slice_index_or entries i no_entry).used_by_curr_pic_lt_flag) (range_with_len 0 (length entries)))
+    map (λ i. slice_index_or places i None)
+    (filter (λ i. is_for current (slice_index_or entries i no_entry).used_by_curr_pic_lt_flag)
+    (range_with_len 0 (length entries)))
 
 -- the five lists (8-5, 8-6, 8-7), None standing for "no reference picture"
 unfoldable pub named_sets : PictureKind → ReferenceFields → ℤ → List DpbPicture → NamedSets
@@ -162,7 +173,8 @@ named_sets kind fields poc dpb =
 
 -- whether a picture lacks that the picture itself may use
 unfoldable pub lacks_current : NamedSets → Bool
-lacks_current sets = list_any is_none sets.st_curr_before || list_any is_none sets.st_curr_after || list_any is_none sets.lt_curr
+lacks_current sets =
+    list_any is_none sets.st_curr_before || list_any is_none sets.st_curr_after || list_any is_none sets.lt_curr
 
 -- the pictures that were found
 unfoldable pub found : List (Option ℕ) → List ℕ
@@ -172,7 +184,8 @@ found places = filter_map (λ place. place) places
 unfoldable pub mark_after : NamedSets → ℕ → Mark
 mark_after sets k =
     if is_among k sets.lt_curr || is_among k sets.lt_foll then mark.Long else
-    (if is_among k sets.st_curr_before || (is_among k sets.st_curr_after || is_among k sets.st_foll) then mark.Short else mark.Unused)
+    (if is_among k sets.st_curr_before || (is_among k sets.st_curr_after || is_among k sets.st_foll) then mark.Short
+    else mark.Unused)
 
 -- the set of the pictures that were found in a buffer of this many
 unfoldable pub found_set : NamedSets → ℕ → Rps
@@ -214,5 +227,7 @@ IsMarked rps k m = (k < length rps.marks) × (slice_index_or rps.marks k mark.Un
 -- no two entries of a short-term set have the same difference
 pub record HasDistinctDeltas (s : StRps) : Type 0 where
   pub sides : (a b : ShortTermRef) → Contains s.negative a → Contains s.positive b → a.delta_poc ≢ b.delta_poc
-  pub negative : (a b : ShortTermRef) → Contains s.negative a → Contains s.negative b → a.delta_poc ≡ b.delta_poc → a ≡ b
-  pub positive : (a b : ShortTermRef) → Contains s.positive a → Contains s.positive b → a.delta_poc ≡ b.delta_poc → a ≡ b
+  pub negative : (a b : ShortTermRef) → Contains s.negative a → Contains s.negative b → a.delta_poc ≡ b.delta_poc
+      → a ≡ b
+  pub positive : (a b : ShortTermRef) → Contains s.positive a → Contains s.positive b → a.delta_poc ≡ b.delta_poc
+      → a ≡ b

@@ -1,5 +1,7 @@
 -- Short-term reference picture sets: st_ref_pic_set (7.3.7, 7.4.8).
-use Rattle.std.specs.Prelude.{◌≡◌, ℕ, zero, suc, ◌+◌, ◌-◌, ◌≤◌, ℤ, pos, ◌+ℤ◌, ◌<ℤ◌, neg_ℤ, int_lt, Bool, true, false, List, [], ◌∷◌, ◌++◌, reverse, filter, length, All, AllPairs, slice_index_or, Ok, nat_le, ◌==◌, if◌then◌else◌}
+use Rattle.std.specs.Prelude.{◌≡◌, ℕ, zero, suc, ◌+◌, ◌-◌, ◌≤◌, ℤ, pos, ◌+ℤ◌, ◌<ℤ◌, neg_ℤ, int_lt, Bool, true, false}
+use Rattle.std.specs.Prelude.{List, [], ◌∷◌, ◌++◌, reverse, filter, length, All, AllPairs, slice_index_or, Ok, nat_le}
+use Rattle.std.specs.Prelude.{◌==◌, if◌then◌else◌}
 use Rattle.hv_base.specs.declared.field_rules.FieldRules.{FieldRules}
 use Rattle.header_types.specs.declared.short_term_set.ShortTermRef.{ShortTermRef}
 use Rattle.header_types.specs.declared.short_term_set.StRps.{StRps}
@@ -72,7 +74,8 @@ use_flags = do
 
 -- an entry moved by deltaRps, where it is in use
 unfoldable pub moved_entry : ℤ → ShortTermRef → Bool × Bool → List ShortTermRef
-moved_entry delta entry flags = if flags.1 then record { delta_poc = entry.delta_poc +ℤ delta; used = flags.0 } ∷ [] else []
+moved_entry delta entry flags =
+    if flags.1 then record { delta_poc = entry.delta_poc +ℤ delta; used = flags.0 } ∷ [] else []
 
 -- those of a source's entries that are in use, each moved by deltaRps
 unfoldable pub moved : ℤ → List ShortTermRef → Header (List ShortTermRef)
@@ -132,11 +135,17 @@ st_ref_pic_set index count former greatest = do
 
 -- where the entries of each set read before are the nearest first, so are those of a set that is read
 abbrev pub KeepsOrder : Type 0
-KeepsOrder = (rules : FieldRules) (index count : ℕ) (former : List StRps) (greatest : ℕ) (bits : List Bool) (s : StRps) (left : List Bool)
-    → All IsNearestFirst former → read rules (st_ref_pic_set index count former greatest) bits ≡ Ok (s, left) → IsNearestFirst s
+KeepsOrder =
+    (rules : FieldRules) (index count : ℕ) (former : List StRps) (greatest : ℕ) (bits : List Bool) (s : StRps)
+    (left : List Bool)
+    → All IsNearestFirst former → read rules (st_ref_pic_set index count former greatest) bits ≡ Ok (s, left)
+    → IsNearestFirst s
 
 -- a set that is read has at most 16 entries; where those of the sets read before are within 32768 n, they are within
 -- 32768 (n + 1)
 abbrev pub StaysNear : Type 0
-StaysNear = (rules : FieldRules) (index count : ℕ) (former : List StRps) (greatest : ℕ) (bits : List Bool) (s : StRps) (left : List Bool) (n : ℕ)
-    → greatest ≤ 15 → 14 ≤ n → All (IsStRps n) former → read rules (st_ref_pic_set index count former greatest) bits ≡ Ok (s, left) → IsStRps (n + 1) s
+StaysNear =
+    (rules : FieldRules) (index count : ℕ) (former : List StRps) (greatest : ℕ) (bits : List Bool) (s : StRps)
+    (left : List Bool) (n : ℕ)
+    → greatest ≤ 15 → 14 ≤ n → All (IsStRps n) former
+    → read rules (st_ref_pic_set index count former greatest) bits ≡ Ok (s, left) → IsStRps (n + 1) s

@@ -10,7 +10,9 @@ ghost use Rattle.slice_types.specs.declared.slice.ReferenceFields.{ReferenceFiel
 ghost use Rattle.slice_types.specs.declared.slice.SliceFields.{SliceFields};
 ghost use Rattle.spec_reference_pictures.specs.PictureOrderCount.{is_irap};
 ghost use Rattle.spec_reference_pictures.specs.ReferenceLists.{IsCurrent, TellsOrderCount, reference_lists};
-ghost use Rattle.spec_reference_pictures.specs.ReferencePictureSet.{HasDistinctDeltas, IsLongTerm, IsMarked, IsShortTerm, num_pic_total_curr, reference_picture_set};
+ghost use Rattle.spec_reference_pictures.specs.ReferencePictureSet.{HasDistinctDeltas, IsLongTerm, IsMarked};
+ghost use Rattle.spec_reference_pictures.specs.ReferencePictureSet.{IsShortTerm, num_pic_total_curr};
+ghost use Rattle.spec_reference_pictures.specs.ReferencePictureSet.{reference_picture_set};
 
 /// A picture of the buffer is marked as a long-term one exactly where it is in one of the two long-term lists, and as a
 /// short-term one exactly where it is in one of the three short-term lists. So each picture that stays marked as
@@ -44,14 +46,18 @@ pub fn short_term_lists_are_disjoint()
 
 /// Each entry of a reference picture list is for a picture that the picture itself may use.
 pub fn lists_have_current_pictures()
-    ensures l0 { (slice : SliceFields) (rps : Rps) (dpb : List DpbPicture) → All (IsCurrent rps) (reference_lists slice rps dpb).l0 }
-    ensures l1 { (slice : SliceFields) (rps : Rps) (dpb : List DpbPicture) → All (IsCurrent rps) (reference_lists slice rps dpb).l1 }
+    ensures l0 { (slice : SliceFields) (rps : Rps) (dpb : List DpbPicture)
+        → All (IsCurrent rps) (reference_lists slice rps dpb).l0 }
+    ensures l1 { (slice : SliceFields) (rps : Rps) (dpb : List DpbPicture)
+        → All (IsCurrent rps) (reference_lists slice rps dpb).l1 }
 {}
 
 /// Each entry of a reference picture list tells the order count of the buffer's picture at its place.
 pub fn entries_tell_order_counts()
-    ensures l0 { (slice : SliceFields) (rps : Rps) (dpb : List DpbPicture) → All (TellsOrderCount dpb) (reference_lists slice rps dpb).l0 }
-    ensures l1 { (slice : SliceFields) (rps : Rps) (dpb : List DpbPicture) → All (TellsOrderCount dpb) (reference_lists slice rps dpb).l1 }
+    ensures l0 { (slice : SliceFields) (rps : Rps) (dpb : List DpbPicture)
+        → All (TellsOrderCount dpb) (reference_lists slice rps dpb).l0 }
+    ensures l1 { (slice : SliceFields) (rps : Rps) (dpb : List DpbPicture)
+        → All (TellsOrderCount dpb) (reference_lists slice rps dpb).l1 }
 {}
 
 /// A picture that isn't an intra random access point may use NumPicTotalCurr pictures, as its fields count them.

@@ -1,10 +1,12 @@
 -- transform_skip_flag, and the place of the last coded level of a block (7.3.8.11, 9.3.4.2.3).
-use Rattle.std.specs.Prelude.{ℕ, ◌+◌, ◌-◌, ◌*◌, ◌/◌, ◌%◌, ◌^◌, ◌==◌, Bool, true, false, not, ◌&&◌, nat_lt, if◌then◌else◌}
+use Rattle.std.specs.Prelude.{ℕ, ◌+◌, ◌-◌, ◌*◌, ◌/◌, ◌%◌, ◌^◌, ◌==◌, Bool, true, false, not, ◌&&◌, nat_lt}
+use Rattle.std.specs.Prelude.{if◌then◌else◌}
 use Rattle.block_geometry.specs.declared.kind.Scan.{Scan}
 use Rattle.block_geometry.specs.declared.kind.Scan.TheVariants.{Diagonal, Horizontal, Vertical}
 use Rattle.spec_formats.specs.Format.{◌>>=◌, give, when◌then◌else◌}
 use Rattle.spec_cabac.specs.Bins.{Tree, decision, fixed, truncated}
-use Rattle.spec_cabac.specs.declared.init_values.TheConstants.{TRANSFORM_SKIP_FLAG, LAST_SIG_COEFF_X_PREFIX, LAST_SIG_COEFF_Y_PREFIX}
+use Rattle.spec_cabac.specs.declared.init_values.TheConstants.{TRANSFORM_SKIP_FLAG, LAST_SIG_COEFF_X_PREFIX}
+use Rattle.spec_cabac.specs.declared.init_values.TheConstants.{LAST_SIG_COEFF_Y_PREFIX}
 use Rattle.spec_residuals.specs.declared.block.ResidualBlock.{ResidualBlock}
 
 -- cIdx is 0
@@ -24,7 +26,8 @@ transform_skip_flag block =
 -- ctxIdxInc of bin i of last_sig_coeff_x_prefix and last_sig_coeff_y_prefix (9.3.4.2.3)
 abbrev pub prefix_context : ResidualBlock → ℕ → ℕ
 prefix_context block i =
-    by_component block (3 * (block.log2 - 2) + (block.log2 - 1) / 4 + i / 2 ^ ((block.log2 + 1) / 4)) (15 + i / 2 ^ (block.log2 - 2))
+    by_component block (3 * (block.log2 - 2) + (block.log2 - 1) / 4 + i / 2 ^ ((block.log2 + 1) / 4))
+    (15 + i / 2 ^ (block.log2 - 2))
 
 -- last_sig_coeff_x_prefix, last_sig_coeff_y_prefix, by the base of its contexts
 unfoldable pub last_prefix : ℕ → ResidualBlock → Tree ℕ
@@ -50,4 +53,5 @@ last_position block = do
   y_prefix ← last_prefix LAST_SIG_COEFF_Y_PREFIX block
   x_suffix ← last_suffix x_prefix
   y_suffix ← last_suffix y_prefix
-  give (if is_vertical block.scan then (last_of y_prefix y_suffix, last_of x_prefix x_suffix) else (last_of x_prefix x_suffix, last_of y_prefix y_suffix))
+  give (if is_vertical block.scan then (last_of y_prefix y_suffix, last_of x_prefix x_suffix)
+      else (last_of x_prefix x_suffix, last_of y_prefix y_suffix))

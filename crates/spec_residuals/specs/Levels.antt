@@ -1,5 +1,7 @@
 -- The levels of a sub-block (7.3.8.11, 9.3.3.9, 9.3.4.2.6, 9.3.4.2.7).
-use Rattle.std.specs.Prelude.{ℕ, ◌+◌, ◌-◌, ◌*◌, ◌%◌, ◌^◌, ◌==◌, min, ℤ, pos, neg_ℤ, Bool, true, false, not, ◌&&◌, nat_lt, nat_le, List, [], ◌∷◌, ◌++◌, length, replicate, slice_index, slice_index_or, slice_set, if◌then◌else◌}
+use Rattle.std.specs.Prelude.{ℕ, ◌+◌, ◌-◌, ◌*◌, ◌%◌, ◌^◌, ◌==◌, min, ℤ, pos, neg_ℤ, Bool, true, false, not, ◌&&◌}
+use Rattle.std.specs.Prelude.{nat_lt, nat_le, List, [], ◌∷◌, ◌++◌, length, replicate, slice_index, slice_index_or}
+use Rattle.std.specs.Prelude.{slice_set, if◌then◌else◌}
 use Rattle.hv_base.specs.declared.breach.Breach.{Breach}
 use Rattle.hv_base.specs.declared.breach.Breach.TheVariants as breach
 use Rattle.hv_base.specs.declared.fault.FaultKind.TheVariants as rule
@@ -7,7 +9,8 @@ use Rattle.block_geometry.specs.Scans.{Place, scan_place}
 use Rattle.spec_bits.specs.Bits.{bit_of, digit}
 use Rattle.spec_formats.specs.Format.{◌>>=◌, give, wanted, when◌then◌else◌}
 use Rattle.spec_cabac.specs.Bins.{Tree, decision, fixed, ones, times}
-use Rattle.spec_cabac.specs.declared.init_values.TheConstants.{COEFF_ABS_LEVEL_GREATER1_FLAG, COEFF_ABS_LEVEL_GREATER2_FLAG}
+use Rattle.spec_cabac.specs.declared.init_values.TheConstants.{COEFF_ABS_LEVEL_GREATER1_FLAG}
+use Rattle.spec_cabac.specs.declared.init_values.TheConstants.{COEFF_ABS_LEVEL_GREATER2_FLAG}
 use Rattle.spec_residuals.specs.declared.block.ResidualBlock.{ResidualBlock}
 use Rattle.spec_residuals.specs.declared.block.Level.{Level}
 use Rattle.spec_residuals.specs.declared.progress.SubBlock.{SubBlock}
@@ -33,8 +36,14 @@ next_context context false = if context == 0 then 0 else min 3 (context + 1)
 -- coeff_abs_level_greater1_flag number j of a sub-block
 abbrev pub greater1_flag : ResidualBlock → ℕ → ℕ → Greater1Flags → Tree Greater1Flags
 greater1_flag block set j g = do
-  flag ← decision (by_component block COEFF_ABS_LEVEL_GREATER1_FLAG (COEFF_ABS_LEVEL_GREATER1_FLAG + 16) + 4 * set + g.context)
-  give (record { flags = slice_set g.flags j flag; context = next_context g.context flag; first = if flag && (g.first == 16) then j else g.first })
+  flag ←
+      decision (by_component block COEFF_ABS_LEVEL_GREATER1_FLAG (COEFF_ABS_LEVEL_GREATER1_FLAG + 16) + 4 * set
+      + g.context)
+  give (record {
+    flags = slice_set g.flags j flag;
+    context = next_context g.context flag;
+    first = if flag && (g.first == 16) then j else g.first;
+  })
 
 abbrev pub no_flags : Greater1Flags
 no_flags = record { flags = replicate 16 false; context = 1; first = 16 }
@@ -52,7 +61,8 @@ greater2_flag block set first =
 
 -- signHidden: the last and the first level of a sub-block are more than 3 places of the scan apart
 unfoldable pub sign_hidden : ResidualBlock → List ℕ → Bool
-sign_hidden block indices = block.sign_hiding && not block.bypass && nat_lt 3 (slice_index indices 0 - slice_index indices (length indices - 1))
+sign_hidden block indices =
+    block.sign_hiding && not block.bypass && nat_lt 3 (slice_index indices 0 - slice_index indices (length indices - 1))
 
 -- how many bits the suffix of coeff_abs_level_remaining has, and what its prefix stands for, in 2^k
 abbrev pub suffix_size : ℕ → ℕ → ℕ
@@ -103,15 +113,20 @@ abbrev pub level_of : SubBlock → Place → Bool → ℕ → Level
 level_of sub p negative size = record { x = 4 * sub.x + p.0; y = 4 * sub.y + p.1; value = signed negative size }
 
 -- level j, of a size that was read, behind others
-abbrev pub sized_level : ResidualBlock → SubBlock → List ℕ → Signs → ℕ → ℕ → LevelState × Residual → Tree (LevelState × Residual)
+abbrev pub sized_level : ResidualBlock → SubBlock → List ℕ → Signs → ℕ → ℕ → LevelState × Residual
+    → Tree (LevelState × Residual)
 sized_level block sub indices s j size before = do
   let sum = before.0.sum + size
   let negative = is_negative s (length indices) j sum
   in_range ← wanted (nat_le size (32767 + digit negative)) too_great
-  give (record { rice = next_rice before.0.rice size; sum = sum }, with_level before.1 (level_of sub (scan_place 2 block.scan (slice_index indices j)) negative size))
+  give (
+    record { rice = next_rice before.0.rice size; sum = sum },
+    with_level before.1 (level_of sub (scan_place 2 block.scan (slice_index indices j)) negative size),
+  )
 
 -- level j of a sub-block behind others. One without coeff_abs_level_remaining is at most 2, and raises no cRiceParam.
-abbrev pub level_at : ResidualBlock → SubBlock → List ℕ → Signs → ℕ → LevelState × Residual → Tree (LevelState × Residual)
+abbrev pub level_at : ResidualBlock → SubBlock → List ℕ → Signs → ℕ → LevelState × Residual
+    → Tree (LevelState × Residual)
 level_at block sub indices s j before = do
   more ← when base_level s j == greatest_base s j then coeff_abs_level_remaining before.0.rice else give 0
   sized_level block sub indices s j (base_level s j + more) before

@@ -1,5 +1,6 @@
 -- residual_coding (7.3.8.11): the levels of a transform block.
-use Rattle.std.specs.Prelude.{ℕ, ◌+◌, ◌-◌, ◌*◌, ◌/◌, ◌%◌, ◌==◌, Bool, true, false, List, [], length, replicate, slice_set}
+use Rattle.std.specs.Prelude.{ℕ, ◌+◌, ◌-◌, ◌*◌, ◌/◌, ◌%◌, ◌==◌, Bool, true, false, List, [], length, replicate}
+use Rattle.std.specs.Prelude.{slice_set}
 use Rattle.block_geometry.specs.Scans.{scan_index}
 use Rattle.spec_bits.specs.Bits.{digit}
 use Rattle.spec_formats.specs.Format.{◌>>=◌, give, when◌then◌else◌}
@@ -58,7 +59,8 @@ sub_blocks block last position transform_skip = do
 -- the levels behind the place of the last one
 abbrev pub levels_behind : ResidualBlock → ℕ × ℕ → Bool → Tree Residual
 levels_behind block place transform_skip =
-    sub_blocks block (scan_index (block.log2 - 2) block.scan (place.0 / 4) (place.1 / 4)) (scan_index 2 block.scan (place.0 % 4) (place.1 % 4)) transform_skip
+    sub_blocks block (scan_index (block.log2 - 2) block.scan (place.0 / 4) (place.1 / 4))
+    (scan_index 2 block.scan (place.0 % 4) (place.1 % 4)) transform_skip
 
 unfoldable pub residual_coding : ResidualBlock → Tree Residual
 residual_coding block = do

@@ -9,7 +9,8 @@ these position k few =
     let e : ((k + position) % 32 + (32 - position % 32)) % 32 ≡ k = omega arith in
     grind (arith, nat_tests)
 
-pub others : (position band : ℕ) → band < 32 → ((k : ℕ) → k < 4 → band ≢ (k + position) % 32) → band_index position band ≡ 0
+pub others : (position band : ℕ) → band < 32 → ((k : ℕ) → k < 4 → band ≢ (k + position) % 32)
+    → band_index position band ≡ 0
 unfolding band_index
 others position band low none =
     let place : ℕ = (band + (32 - position % 32)) % 32 in

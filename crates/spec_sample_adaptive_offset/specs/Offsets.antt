@@ -1,5 +1,6 @@
 -- The offsets of a component of a coding tree unit, and which of them a sample has (7.4.9.3, 8.7.3.2).
-use Rattle.std.specs.Prelude.{ℕ, ◌+◌, ◌-◌, ◌/◌, ◌%◌, ◌^◌, ◌==◌, min, nat_lt, ℤ, pos, ◌+ℤ◌, ◌*ℤ◌, List, slice_index_or, if◌then◌else◌}
+use Rattle.std.specs.Prelude.{ℕ, ◌+◌, ◌-◌, ◌/◌, ◌%◌, ◌^◌, ◌==◌, min, nat_lt, ℤ, pos, ◌+ℤ◌, ◌*ℤ◌, List, slice_index_or}
+use Rattle.std.specs.Prelude.{if◌then◌else◌}
 use Rattle.std.specs.Int.{int_min, int_max}
 use Rattle.std.specs.Int.RustNames.{unsigned_abs}
 

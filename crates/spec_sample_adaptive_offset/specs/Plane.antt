@@ -1,5 +1,6 @@
 -- The samples of a component after sample adaptive offset, by place (8.7.3).
-use Rattle.std.specs.Prelude.{◌≡◌, ◌≤◌, ◌<◌, ℕ, ◌+◌, ◌-◌, ◌/◌, ◌^◌, ◌==◌, nat_lt, nat_le, Bool, ◌&&◌, ◌||◌, ℤ, List, if◌then◌else◌}
+use Rattle.std.specs.Prelude.{◌≡◌, ◌≤◌, ◌<◌, ℕ, ◌+◌, ◌-◌, ◌/◌, ◌^◌, ◌==◌, nat_lt, nat_le, Bool, ◌&&◌, ◌||◌, ℤ, List}
+use Rattle.std.specs.Prelude.{if◌then◌else◌}
 use Rattle.block_geometry.specs.CodingTreeBlocks.{is_decoded_before}
 use Rattle.ctu_records.specs.declared.offset.ComponentOffset.{ComponentOffset}
 use Rattle.ctu_records.specs.declared.offset.ComponentOffset.TheVariants.{Off, Band, Edge}
@@ -28,13 +29,15 @@ unit_at plane x y = plane.unit (x / plane.ctb_size) (y / plane.ctb_size)
 -- whether samples of two coding tree units may be compared: those of one slice, and those of two slices where the flag
 -- of the slice that is later in decoding order is 1
 abbrev pub meets : OffsetUnit → OffsetUnit → Bool
-meets unit other = unit.slice == other.slice || (if is_decoded_before unit.slice other.slice then other.across else unit.across)
+meets unit other =
+    unit.slice == other.slice || (if is_decoded_before unit.slice other.slice then other.across else unit.across)
 
 -- whether a neighbour of a sample is inside the picture and may be compared with it. Its column and line are counted
 -- from those before the sample's, so that 0, 1, 2 are before, at and behind it.
 abbrev pub may_read : OffsetPlane → ℕ → ℕ → ℕ → ℕ → Bool
 may_read plane x y column line =
-    ((nat_lt 0 (x + column) && nat_le (x + column) plane.width) && (nat_lt 0 (y + line) && nat_le (y + line) plane.height))
+    ((nat_lt 0 (x + column) && nat_le (x + column) plane.width)
+    && (nat_lt 0 (y + line) && nat_le (y + line) plane.height))
     && meets (unit_at plane x y) (unit_at plane (x + column - 1) (y + line - 1))
 
 -- hPos and vPos of the first neighbour, by SaoEoClass: on the left, above, above on the left, above on the right
@@ -48,7 +51,8 @@ first_line class = if class == 0 then 1 else 0
 unfoldable pub edge_sample : OffsetPlane → (ℕ → ℕ → ℕ) → List ℤ → ℕ → ℕ → ℕ → ℕ → ℕ
 edge_sample plane f offsets column line x y =
     if may_read plane x y column line && may_read plane x y (2 - column) (2 - line)
-    then edge_moved plane.depth offsets (f x y) (f (x + column - 1) (y + line - 1)) (f (x + (2 - column) - 1) (y + (2 - line) - 1))
+    then edge_moved plane.depth offsets (f x y) (f (x + column - 1) (y + line - 1))
+    (f (x + (2 - column) - 1) (y + (2 - line) - 1))
     else f x y
 
 -- a sample by the parameters of its coding tree unit
@@ -68,5 +72,6 @@ pub record AgreeBeside (p q : OffsetPlane) (f g : ℕ → ℕ → ℕ) (x y : �
   pub depth : p.depth ≡ q.depth
   pub inside : (x < p.width) × (y < p.height)
   pub kept : p.kept x y ≡ q.kept x y
-  pub units : (i j : ℕ) → i < p.width → j < p.height → x ≤ i + 1 → i ≤ x + 1 → y ≤ j + 1 → j ≤ y + 1 → unit_at p i j ≡ unit_at q i j
+  pub units : (i j : ℕ) → i < p.width → j < p.height → x ≤ i + 1 → i ≤ x + 1 → y ≤ j + 1 → j ≤ y + 1
+      → unit_at p i j ≡ unit_at q i j
   pub samples : (i j : ℕ) → i < p.width → j < p.height → x ≤ i + 1 → i ≤ x + 1 → y ≤ j + 1 → j ≤ y + 1 → f i j ≡ g i j

@@ -1,5 +1,6 @@
 -- Means of samples are no greater than the greatest of them.
-use Rattle.std.proofs.Common.{◌≡◌, ℕ, zero, suc, ◌+◌, ◌*◌, ◌/◌, ◌<◌, ◌≤◌, ℤ, pos, Bool, true, false, cond, List, length, inl, inr, refl, ap, sym, subst, ◌∙◌, arith}
+use Rattle.std.proofs.Common.{◌≡◌, ℕ, zero, suc, ◌+◌, ◌*◌, ◌/◌, ◌<◌, ◌≤◌, ℤ, pos, Bool, true, false, cond, List, length}
+use Rattle.std.proofs.Common.{inl, inr, refl, ap, sym, subst, ◌∙◌, arith}
 use Rattle.std.specs.Prelude.{map}
 use Rattle.std.specs.Int.{int_min, int_max}
 use Rattle.std.specs.Int.RustNames.{unsigned_abs}
@@ -13,7 +14,8 @@ use Rattle.spec_intra_prediction.specs.Neighbours.{at}
 use Rattle.spec_intra_prediction.specs.PlanarDc.{sum_below}
 
 -- one of two by what is tested
-pub case_holds : {X : Type 0} (P : X → Type 0) (b : Bool) (x y : X) → (b ≡ true → P x) → (b ≡ false → P y) → P (cond b x y)
+pub case_holds : {X : Type 0} (P : X → Type 0) (b : Bool) (x y : X) → (b ≡ true → P x) → (b ≡ false → P y)
+    → P (cond b x y)
 case_holds P true x y first second = first refl
 case_holds P false x y first second = second refl
 
@@ -67,5 +69,6 @@ pub map_most : (m n : ℕ) (f : ℕ → ℕ) → ((k : ℕ) → k < n → f k �
 map_most m n f small k = elim (cases_lt k n) [
   | inl inside ↦ subst (λ v. v ≤ m) (sym (get_or-map-range_with_len f 0 n k k 0 inside (omega arith))) (small k inside)
   | inr past ↦ let none : 0 ≤ m = omega arith in
-      subst (λ v. v ≤ m) (sym (get_or_past (map f (range_with_len 0 n)) k 0 (omega (arith, past, length-map-range_with_len f 0 n)))) none
+      subst (λ v. v ≤ m)
+      (sym (get_or_past (map f (range_with_len 0 n)) k 0 (omega (arith, past, length-map-range_with_len f 0 n)))) none
 ]

@@ -1,6 +1,7 @@
 -- Prediction units: prediction_unit (7.3.8.6) and mvd_coding (7.3.8.9), part_mode (9.3.3.5), and where cu_skip_flag,
 -- pred_mode_flag and rqt_root_cbf stand (7.3.8.5).
-use Rattle.std.specs.Prelude.{ℕ, ◌+◌, ◌-◌, ◌==◌, ◌&&◌, not, nat_le, nat_lt, ℤ, pos, Bool, true, false, Option, Some, None, if◌then◌else◌}
+use Rattle.std.specs.Prelude.{ℕ, ◌+◌, ◌-◌, ◌==◌, ◌&&◌, not, nat_le, nat_lt, ℤ, pos, Bool, true, false, Option, Some}
+use Rattle.std.specs.Prelude.{None, if◌then◌else◌}
 use Rattle.hv_base.specs.declared.breach.Breach.{Breach}
 use Rattle.hv_base.specs.declared.breach.Breach.TheVariants as breach
 use Rattle.hv_base.specs.declared.fault.FaultKind.TheVariants as rule
@@ -10,13 +11,17 @@ use Rattle.ctu_records.specs.declared.prediction.Mv.{Mv}
 use Rattle.ctu_records.specs.declared.prediction.MotionSyntax.{MotionSyntax}
 use Rattle.ctu_records.specs.declared.prediction.MotionSyntax.TheVariants.{Merge, Vectors}
 use Rattle.ctu_records.specs.declared.prediction.PartMode.{PartMode}
-use Rattle.ctu_records.specs.declared.prediction.PartMode.TheVariants.{Whole, TwoNxN, Nx2N, NxN, TwoNxnU, TwoNxnD, NLx2N, NRx2N}
+use Rattle.ctu_records.specs.declared.prediction.PartMode.TheVariants.{Whole, TwoNxN, Nx2N, NxN, TwoNxnU, TwoNxnD}
+use Rattle.ctu_records.specs.declared.prediction.PartMode.TheVariants.{NLx2N, NRx2N}
 use Rattle.ctu_records.specs.declared.prediction.PredictionUnit.{PredictionUnit}
 use Rattle.ctu_records.specs.declared.prediction.Rectangle.{Rectangle}
 use Rattle.ctu_records.specs.declared.prediction.VectorSyntax.{VectorSyntax}
 use Rattle.ctu_records.specs.Prediction.{part_block}
 use Rattle.ctu_records.specs.Tree.{Ctu, added, skipped_left, skipped_above}
-use Rattle.spec_cabac.specs.declared.init_values.TheConstants.{CU_SKIP_FLAG, PRED_MODE_FLAG, PART_MODE, MERGE_FLAG, MERGE_IDX, INTER_PRED_IDC, REF_IDX, ABS_MVD_GREATER0_FLAG, ABS_MVD_GREATER1_FLAG, MVP_FLAG, RQT_ROOT_CBF}
+use Rattle.spec_cabac.specs.declared.init_values.TheConstants.{CU_SKIP_FLAG, PRED_MODE_FLAG, PART_MODE, MERGE_FLAG}
+use Rattle.spec_cabac.specs.declared.init_values.TheConstants.{MERGE_IDX, INTER_PRED_IDC, REF_IDX}
+use Rattle.spec_cabac.specs.declared.init_values.TheConstants.{ABS_MVD_GREATER0_FLAG, ABS_MVD_GREATER1_FLAG, MVP_FLAG}
+use Rattle.spec_cabac.specs.declared.init_values.TheConstants.{RQT_ROOT_CBF}
 use Rattle.spec_cabac.specs.Bins.{Tree, decision, bypass, truncated, exp_golomb}
 use Rattle.spec_formats.specs.Format.{◌>>=◌, give, wanted, when◌then◌else◌}
 use Rattle.spec_slice_data.specs.Offset.{signed}
@@ -36,7 +41,8 @@ cu_skip_flag inter x y ctu = when inter.is_inter then decision (CU_SKIP_FLAG + s
 
 -- whether CuPredMode is MODE_INTRA: pred_mode_flag, of a skipped coding unit not, in an I slice always
 abbrev pub pred_mode_flag : InterSyntax → Bool → Tree Bool
-pred_mode_flag inter skipped = when skipped then give false else (when inter.is_inter then decision PRED_MODE_FLAG else give true)
+pred_mode_flag inter skipped =
+    when skipped then give false else (when inter.is_inter then decision PRED_MODE_FLAG else give true)
 
 -- two parts of one height or width, or of two; then which of them is the lesser
 unfoldable pub two_parts : Bool → PartMode → PartMode → PartMode → Tree PartMode

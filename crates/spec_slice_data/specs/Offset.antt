@@ -1,5 +1,6 @@
 -- sao (7.3.8.3, 7.4.9.3, 9.3.3.2).
-use Rattle.std.specs.Prelude.{ℕ, zero, suc, ◌==◌, ℤ, pos, negsuc, Bool, true, false, [], ◌∷◌, Option, Some, None, if◌then◌else◌}
+use Rattle.std.specs.Prelude.{ℕ, zero, suc, ◌==◌, ℤ, pos, negsuc, Bool, true, false, [], ◌∷◌, Option, Some, None}
+use Rattle.std.specs.Prelude.{if◌then◌else◌}
 use Rattle.ctu_records.specs.declared.offset.ComponentOffset.{ComponentOffset}
 use Rattle.ctu_records.specs.declared.offset.ComponentOffset.TheVariants.{Off, Band, Edge}
 use Rattle.ctu_records.specs.declared.offset.Sao.{Sao}
@@ -125,4 +126,6 @@ merged_or_own syntax left above = do
 
 -- sao, by the parameters of the units on the left and above
 unfoldable pub sao : CtuSyntax → Sao → Sao → Tree Sao
-sao syntax left above = when syntax.sao_luma then merged_or_own syntax left above else (when syntax.sao_chroma then merged_or_own syntax left above else give no_sao)
+sao syntax left above =
+    when syntax.sao_luma then merged_or_own syntax left above
+    else (when syntax.sao_chroma then merged_or_own syntax left above else give no_sao)

@@ -21,7 +21,8 @@ group_at ctu x y =
 
 -- a block of the coding quadtree that is no smaller than a group begins one
 unfoldable pub grouped : CtuSyntax → Square → Ctu → Ctu
-grouped syntax square ctu = if nat_le syntax.log2_group square.log2_size then with_quantization ctu (group_at ctu square.x square.y) else ctu
+grouped syntax square ctu =
+    if nat_le syntax.log2_group square.log2_size then with_quantization ctu (group_at ctu square.x square.y) else ctu
 
 -- a coding unit begins: its Qp'Y is the group's
 abbrev pub unit_begun : Quantization → Quantization
@@ -58,14 +59,16 @@ cu_qp_delta offset = do
 
 -- Qp'Y by the group's prediction and CuQpDeltaVal (8.6.1)
 unfoldable pub qp_of : ℕ → ℕ → ℕ → Bool → ℕ
-qp_of offset predicted size negative = if negative then (predicted + (52 + offset) - size) % (52 + offset) else (predicted + size) % (52 + offset)
+qp_of offset predicted size negative =
+    if negative then (predicted + (52 + offset) - size) % (52 + offset) else (predicted + size) % (52 + offset)
 
 abbrev pub delta_coded : Quantization → ℕ → Quantization
 delta_coded q qp = record { last = qp; predicted = q.predicted; qp = qp; coded = true }
 
 abbrev pub with_delta : Ctu → Square → ℕ → Bool → ℕ → Ctu
 with_delta ctu square size negative qp =
-    added (with_quantization ctu (delta_coded ctu.quantization qp)) (Delta (record { square = square; delta = signed size negative; qp = qp }))
+    added (with_quantization ctu (delta_coded ctu.quantization qp))
+    (Delta (record { square = square; delta = signed size negative; qp = qp }))
 
 -- cu_qp_delta of a coding unit, where it stands
 unfoldable pub delta_where : CtuSyntax → Square → Bool → Ctu → Tree Ctu

@@ -48,7 +48,13 @@ residual_block syntax unit block = record {
 }
 
 abbrev pub coded : TransformBlock → Bool → CodedBlock
-coded block transform_skip = record { x = block.x; y = block.y; log2_size = block.log2_size; component = block.component; transform_skip = transform_skip }
+coded block transform_skip = record {
+  x = block.x;
+  y = block.y;
+  log2_size = block.log2_size;
+  component = block.component;
+  transform_skip = transform_skip;
+}
 
 -- a level of a block with a side of 2^log2 samples
 abbrev pub with_level : ℕ → Ctu → Level → Ctu
@@ -56,7 +62,8 @@ with_level log2 ctu level = added ctu (item.Level (level.y * 2 ^ log2 + level.x)
 
 -- a block, and its levels from the last one back
 unfoldable pub with_residual : TransformBlock → Residual → Ctu → Ctu
-with_residual block residual ctu = fold (with_level block.log2_size) (added ctu (item.Block (coded block residual.transform_skip))) residual.levels
+with_residual block residual ctu =
+    fold (with_level block.log2_size) (added ctu (item.Block (coded block residual.transform_skip))) residual.levels
 
 -- a block of a component whose coded block flag is 1
 unfoldable pub coded_block : CtuSyntax → UnitSyntax → TransformBlock → Ctu → Tree Ctu

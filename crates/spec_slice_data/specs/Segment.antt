@@ -1,5 +1,7 @@
 -- The coding tree units of slice segments one after the other (7.3.8.1, 9.3.1, 9.3.2), up to the first broken rule.
-use Rattle.std.specs.Prelude.{◌≡◌, ℕ, zero, suc, ◌+◌, ◌-◌, ◌*◌, ◌/◌, ◌%◌, ◌^◌, ◌==◌, ◌&&◌, ◌||◌, not, nat_le, nat_lt, Bool, true, false, List, [], ◌∷◌, ◌++◌, length, slice_index_or, Option, Some, None, Result, Ok, Err, if◌then◌else◌}
+use Rattle.std.specs.Prelude.{◌≡◌, ℕ, zero, suc, ◌+◌, ◌-◌, ◌*◌, ◌/◌, ◌%◌, ◌^◌, ◌==◌, ◌&&◌, ◌||◌, not, nat_le, nat_lt}
+use Rattle.std.specs.Prelude.{Bool, true, false, List, [], ◌∷◌, ◌++◌, length, slice_index_or, Option, Some, None}
+use Rattle.std.specs.Prelude.{Result, Ok, Err, if◌then◌else◌}
 use Rattle.hv_base.specs.declared.breach.Breach.{Breach}
 use Rattle.hv_base.specs.declared.breach.Breach.TheVariants as breach
 use Rattle.hv_base.specs.declared.fault.FaultKind.TheVariants as rule
@@ -26,8 +28,9 @@ pub record PictureShape : Type 0 where
   pub size : ℕ
   pub sync : Bool
 
--- a slice segment: the place of its first unit in the scan, how many it has, the address of its slice's first unit, Qp'Y
--- of its slice, the contexts that its slice begins with, whether it is a dependent one, and the bytes of its substreams
+-- a slice segment: the place of its first unit in the scan, how many it has, the address of its slice's first unit,
+-- Qp'Y of its slice, the contexts that its slice begins with, whether it is a dependent one, and the bytes of its
+-- substreams
 pub record SegmentShape : Type 0 where
   pub first : ℕ
   pub count : ℕ
@@ -95,8 +98,12 @@ unit_begins picture segment address between =
     let columns = places_left picture.across (n * column_of picture address) in
     record {
       size = picture.size;
-      left = side (if has_left picture segment address then (if nat_lt rows n then rows else n) else 0) (λ k. side_of left (n - 1) k);
-      above = side (if has_above picture segment address then (if nat_lt columns n then columns else n) else 0) (λ k. side_of above k (n - 1));
+      left =
+          side (if has_left picture segment address then (if nat_lt rows n then rows else n) else 0)
+          (λ k. side_of left (n - 1) k);
+      above =
+          side (if has_above picture segment address then (if nat_lt columns n then columns else n) else 0)
+          (λ k. side_of above k (n - 1));
       sao = no_sao;
       quantization = record { last = between.last; predicted = between.last; qp = between.last; coded = false };
       items = [];
@@ -140,7 +147,8 @@ begins_substream picture segment address = is_first segment address || begins_ro
 
 -- whether the second unit of the row above is in the same slice (9.3.1)
 abbrev pub has_stored : PictureShape → SegmentShape → ℕ → Bool
-has_stored picture segment address = (nat_le 2 picture.width && nat_le picture.width address) && same_slice segment (address - picture.width + 1)
+has_stored picture segment address =
+    (nat_le 2 picture.width && nat_le picture.width address) && same_slice segment (address - picture.width + 1)
 
 -- the contexts that a unit begins with: at the start of a row with entropy coding sync those behind the second unit of
 -- the row above, where it is in the slice, else the slice's first ones; at the start of another segment the slice's
@@ -154,11 +162,13 @@ contexts_before picture segment address between =
 -- Qp'Y before a unit: the slice's at its first unit and, with entropy coding sync, at the start of a row (8.6.1)
 unfoldable pub qp_before : PictureShape → SegmentShape → ℕ → Between → ℕ
 qp_before picture segment address between =
-    if begins_row picture address || (is_first segment address && not segment.dependent) then segment.qp else between.last
+    if begins_row picture address || (is_first segment address && not segment.dependent) then segment.qp
+    else between.last
 
 abbrev pub restarted : List ℕ → ℕ → Between → Option Engine → Result Between Breach
 restarted contexts last between None = Err data_end
-restarted contexts last between (Some engine) = Ok (record { engine = engine; contexts = contexts; stored = between.stored; last = last; units = between.units })
+restarted contexts last between (Some engine) =
+    Ok (record { engine = engine; contexts = contexts; stored = between.stored; last = last; units = between.units })
 
 -- the number in its segment of the substream that a unit begins
 abbrev pub substream_of : PictureShape → SegmentShape → ℕ → ℕ
@@ -183,7 +193,8 @@ judged_end end.Subset engine = ends_rightly false engine
 judged_end end.Segment engine = ends_rightly true engine
 
 abbrev pub stored_behind : PictureShape → ℕ → List ℕ → List ℕ → List ℕ
-stored_behind picture address contexts stored = if picture.sync && column_of picture address == 1 then contexts else stored
+stored_behind picture address contexts stored =
+    if picture.sync && column_of picture address == 1 then contexts else stored
 
 -- behind a unit that was read: its end is judged, and it is kept
 abbrev pub behind_unit : PictureShape → ℕ → Between → Result ((Ctu × End) × State) Breach → Result Between Breach
@@ -209,20 +220,23 @@ next_unit address = ctb_scan (ctb_place address + 1)
 -- the elements of the unit at an address and what follows it
 abbrev pub unit_at : CtuSyntax → PictureShape → SegmentShape → ℕ → Between → Tree (Ctu × End)
 unit_at common picture segment address between =
-    unit_and_end (syntax_at common picture segment address) (unit_of picture between (address - 1)).sao (unit_of picture between (address - picture.width)).sao
+    unit_and_end (syntax_at common picture segment address) (unit_of picture between (address - 1)).sao
+    (unit_of picture between (address - picture.width)).sao
     (is_last segment address) (begins_row picture (next_unit address)) (unit_begins picture segment address between)
 
 -- a unit, from what stands before it in its substream
 unfoldable pub read_unit : CtuSyntax → PictureShape → SegmentShape → ℕ → Between → Result Between Breach
 read_unit common picture segment address between =
-    behind_unit picture address between (read (unit_at common picture segment address between) (between.engine, between.contexts))
+    behind_unit picture address between
+    (read (unit_at common picture segment address between) (between.engine, between.contexts))
 
 abbrev pub then_unit : CtuSyntax → PictureShape → SegmentShape → ℕ → Result Between Breach → Result Between Breach
 then_unit common picture segment address (Err e) = Err e
 then_unit common picture segment address (Ok between) = read_unit common picture segment address between
 
 abbrev pub unit_step : CtuSyntax → PictureShape → SegmentShape → ℕ → Between → Result Between Breach
-unit_step common picture segment address between = then_unit common picture segment address (before_unit picture segment address between)
+unit_step common picture segment address between =
+    then_unit common picture segment address (before_unit picture segment address between)
 
 -- a broken rule with the address of its unit
 pub record Broken : Type 0 where
@@ -237,7 +251,8 @@ and_then address (Ok between) next = next between
 unfoldable pub units_from : CtuSyntax → PictureShape → SegmentShape → ℕ → ℕ → Between → Result Between Broken
 units_from common picture segment zero place between = Ok between
 units_from common picture segment (suc n) place between =
-    and_then (ctb_scan place) (unit_step common picture segment (ctb_scan place) between) (units_from common picture segment n (place + 1))
+    and_then (ctb_scan place) (unit_step common picture segment (ctb_scan place) between)
+    (units_from common picture segment n (place + 1))
 
 -- slice_segment_data: all units of a segment
 abbrev pub segment_data : CtuSyntax → PictureShape → SegmentShape → Between → Result Between Broken
@@ -248,7 +263,8 @@ abbrev pub Bins : Type 0
 Bins = List (Word Bin BinValue)
 
 -- these bins stand behind the start of a unit, they spell it, and behind them stands what follows
-pub record IsUnitSpelled (common : CtuSyntax) (picture : PictureShape) (segment : SegmentShape) (address : ℕ) (start next : Between) (words : Bins) : Type 0 where
+pub record IsUnitSpelled (common : CtuSyntax) (picture : PictureShape) (segment : SegmentShape) (address : ℕ)
+    (start next : Between) (words : Bins) : Type 0 where
   pub read : Ctu × End
   pub behind : State
   pub spelled : Spells (unit_at common picture segment address start) read words
@@ -265,6 +281,10 @@ UnitsSpelled common picture segment (suc n) place between after words =
     × UnitsSpelled common picture segment n (place + 1) next after rest
 
 -- the data of a segment that are read are spelled by bins that they have, and what bins of the data spell is read
-pub record IsSegmentSpelled (common : CtuSyntax) (picture : PictureShape) (segment : SegmentShape) (n place : ℕ) : Type 0 where
-  pub found : (between after : Between) → units_from common picture segment n place between ≡ Ok after → (words : List Bins) × UnitsSpelled common picture segment n place between after words
-  pub only : (between after : Between) (words : List Bins) → UnitsSpelled common picture segment n place between after words → units_from common picture segment n place between ≡ Ok after
+pub record IsSegmentSpelled (common : CtuSyntax) (picture : PictureShape) (segment : SegmentShape)
+    (n place : ℕ) : Type 0 where
+  pub found : (between after : Between) → units_from common picture segment n place between ≡ Ok after
+      → (words : List Bins) × UnitsSpelled common picture segment n place between after words
+  pub only : (between after : Between) (words : List Bins)
+      → UnitsSpelled common picture segment n place between after words
+      → units_from common picture segment n place between ≡ Ok after

@@ -1,5 +1,6 @@
 -- transform_tree (7.3.8.8) and transform_unit (7.3.8.10).
-use Rattle.std.specs.Prelude.{ℕ, zero, suc, ◌+◌, ◌-◌, ◌%◌, ◌==◌, ◌&&◌, ◌||◌, not, nat_le, nat_lt, Bool, true, false, if◌then◌else◌}
+use Rattle.std.specs.Prelude.{ℕ, zero, suc, ◌+◌, ◌-◌, ◌%◌, ◌==◌, ◌&&◌, ◌||◌, not, nat_le, nat_lt, Bool, true, false}
+use Rattle.std.specs.Prelude.{if◌then◌else◌}
 use Rattle.ctu_records.specs.declared.item.Item.TheVariants.{Transform}
 use Rattle.ctu_records.specs.declared.item.Square.{Square}
 use Rattle.ctu_records.specs.declared.item.TransformUnit.{TransformUnit}
@@ -21,12 +22,14 @@ splits_first unit depth = unit.split && depth == 0
 
 -- MaxTrafoDepth
 abbrev pub max_depth : CtuSyntax → UnitSyntax → ℕ
-max_depth syntax unit = if unit.intra then syntax.max_depth_intra + (if unit.split then 1 else 0) else syntax.inter.max_depth_inter
+max_depth syntax unit =
+    if unit.intra then syntax.max_depth_intra + (if unit.split then 1 else 0) else syntax.inter.max_depth_inter
 
 -- split_transform_flag, or what it is taken to be (7.4.9.8)
 unfoldable pub split_transform_flag : CtuSyntax → UnitSyntax → ℕ → ℕ → Tree Bool
 split_transform_flag syntax unit n depth =
-    when (nat_le n syntax.log2_max_transform && nat_lt syntax.log2_min_transform n) && (nat_lt depth (max_depth syntax unit) && not (splits_first unit depth))
+    when (nat_le n syntax.log2_max_transform && nat_lt syntax.log2_min_transform n)
+    && (nat_lt depth (max_depth syntax unit) && not (splits_first unit depth))
     then decision (SPLIT_TRANSFORM_FLAG + (3 - n))
     else give (nat_lt syntax.log2_max_transform n || splits_first unit depth)
 
@@ -46,7 +49,13 @@ block_where syntax unit coded block ctu = when coded then coded_block syntax uni
 
 -- a chroma block of a square of at least 8x8 luma samples
 abbrev pub chroma_transform : UnitSyntax → ℕ → Square → TransformBlock
-chroma_transform unit component square = record { component = component; x = square.x; y = square.y; log2_size = square.log2_size + 1; mode = unit.chroma_mode }
+chroma_transform unit component square = record {
+  component = component;
+  x = square.x;
+  y = square.y;
+  log2_size = square.log2_size + 1;
+  mode = unit.chroma_mode;
+}
 
 -- the two chroma blocks of such a square
 unfoldable pub chroma_blocks : CtuSyntax → UnitSyntax → ChromaFlags → Square → Ctu → Tree Ctu
@@ -63,11 +72,18 @@ whole_of_fourth square = record { x = square.x - 1; y = square.y - 1; log2_size 
 unfoldable pub chroma_of : CtuSyntax → UnitSyntax → ChromaFlags → Square → Ctu → Tree Ctu
 chroma_of syntax unit flags square ctu =
     when square.log2_size == 0
-    then (when square.x % 2 == 1 && square.y % 2 == 1 then chroma_blocks syntax unit flags (whole_of_fourth square) ctu else give ctu)
+    then (when square.x % 2 == 1 && square.y % 2 == 1 then chroma_blocks syntax unit flags (whole_of_fourth square) ctu
+    else give ctu)
     else chroma_blocks syntax unit flags square ctu
 
 abbrev pub luma_transform : Square → Ctu → TransformBlock
-luma_transform square ctu = record { component = 0; x = square.x; y = square.y; log2_size = square.log2_size + 2; mode = luma_mode_at ctu.items square.x square.y }
+luma_transform square ctu = record {
+  component = 0;
+  x = square.x;
+  y = square.y;
+  log2_size = square.log2_size + 2;
+  mode = luma_mode_at ctu.items square.x square.y;
+}
 
 abbrev pub luma_of : CtuSyntax → UnitSyntax → Bool → Square → Ctu → Tree Ctu
 luma_of syntax unit cbf_luma square ctu = block_where syntax unit cbf_luma (luma_transform square ctu) ctu
@@ -87,14 +103,16 @@ transform_blocks syntax unit cbf_luma flags square ctu = do
   chroma_of syntax unit flags square with_luma
 
 abbrev pub transform : Square → ℕ → Bool → ChromaFlags → TransformUnit
-transform square depth cbf_luma flags = record { square = square; depth = depth; cbf_luma = cbf_luma; cbf_cb = flags.cb; cbf_cr = flags.cr }
+transform square depth cbf_luma flags =
+    record { square = square; depth = depth; cbf_luma = cbf_luma; cbf_cb = flags.cb; cbf_cr = flags.cr }
 
 abbrev pub cbf_luma : ℕ → Tree Bool
 cbf_luma depth = when depth == 0 then decision (CBF_LUMA + 1) else decision CBF_LUMA
 
 -- cbf_luma, which is 1 at the top of an inter coding unit's tree without chroma
 unfoldable pub cbf_luma_at : UnitSyntax → ChromaFlags → ℕ → Tree Bool
-cbf_luma_at unit flags depth = when unit.intra || (nat_lt 0 depth || (flags.cb || flags.cr)) then cbf_luma depth else give true
+cbf_luma_at unit flags depth =
+    when unit.intra || (nat_lt 0 depth || (flags.cb || flags.cr)) then cbf_luma depth else give true
 
 -- a node that isn't split
 unfoldable pub transform_unit : CtuSyntax → UnitSyntax → ChromaFlags → ℕ → Square → Ctu → Tree Ctu
@@ -102,7 +120,8 @@ transform_unit syntax unit flags depth square ctu = do
   coded ← cbf_luma_at unit flags depth
   transform_blocks syntax unit coded flags square (added ctu (Transform (transform square depth coded flags)))
 
-abbrev pub split_or_blocks : (ChromaFlags → Square → Ctu → Tree Ctu) → CtuSyntax → UnitSyntax → ChromaFlags → ℕ → Square → Ctu → Tree Ctu
+abbrev pub split_or_blocks : (ChromaFlags → Square → Ctu → Tree Ctu) → CtuSyntax → UnitSyntax → ChromaFlags → ℕ → Square
+    → Ctu → Tree Ctu
 split_or_blocks quarter syntax unit above depth square ctu = do
   split ← split_transform_flag syntax unit square.log2_size depth
   flags ← chroma_flags above depth
@@ -118,4 +137,5 @@ split_or_blocks quarter syntax unit above depth square ctu = do
 -- those of the node
 unfoldable pub transform_tree : CtuSyntax → UnitSyntax → ChromaFlags → ℕ → ℕ → Square → Ctu → Tree Ctu
 transform_tree syntax unit above zero depth square ctu = transform_unit syntax unit above depth square ctu
-transform_tree syntax unit above (suc n) depth square ctu = split_or_blocks (λ flags. transform_tree syntax unit flags n (depth + 1)) syntax unit above depth square ctu
+transform_tree syntax unit above (suc n) depth square ctu =
+    split_or_blocks (λ flags. transform_tree syntax unit flags n (depth + 1)) syntax unit above depth square ctu

@@ -1,5 +1,6 @@
 -- coding_quadtree (7.3.8.4), coding_unit (7.3.8.5) and pcm_sample (7.3.8.7), and the coding tree unit.
-use Rattle.std.specs.Prelude.{ℕ, zero, suc, ◌+◌, ◌*◌, ◌^◌, ◌==◌, ◌&&◌, not, nat_le, nat_lt, Bool, true, false, if◌then◌else◌}
+use Rattle.std.specs.Prelude.{ℕ, zero, suc, ◌+◌, ◌*◌, ◌^◌, ◌==◌, ◌&&◌, not, nat_le, nat_lt, Bool, true, false}
+use Rattle.std.specs.Prelude.{if◌then◌else◌}
 use Rattle.hv_base.specs.declared.breach.Breach.TheVariants as breach
 use Rattle.hv_base.specs.declared.fault.FaultKind.TheVariants as rule
 use Rattle.std.specs.Bool.{beq}
@@ -21,7 +22,8 @@ use Rattle.spec_slice_data.specs.declared.syntax.UnitSyntax.{UnitSyntax}
 use Rattle.spec_slice_data.specs.declared.syntax.End.{End}
 use Rattle.spec_slice_data.specs.declared.syntax.End.TheVariants as end
 use Rattle.spec_slice_data.specs.Offset.{sao}
-use Rattle.spec_slice_data.specs.Inter.{one_if, cu_skip_flag, pred_mode_flag, part_mode, merged, motion, with_part, later_parts, rqt_root_cbf, splits_inter}
+use Rattle.spec_slice_data.specs.Inter.{one_if, cu_skip_flag, pred_mode_flag, part_mode, merged, motion, with_part}
+use Rattle.spec_slice_data.specs.Inter.{later_parts, rqt_root_cbf, splits_inter}
 use Rattle.spec_slice_data.specs.Modes.{upper_left, upper_right, lower_left, lower_right, luma_modes, chroma_modes}
 use Rattle.spec_slice_data.specs.Quantization.{grouped, unit_begun}
 use Rattle.spec_slice_data.specs.Transform.{transform_tree}
@@ -34,7 +36,8 @@ deeper ctu depth x y = one_if (nat_lt depth (depth_left ctu x y)) + one_if (nat_
 unfoldable pub split_cu_flag : CtuSyntax → ℕ → Square → Ctu → Tree Bool
 split_cu_flag syntax depth square ctu =
     when nat_lt syntax.log2_min_coding square.log2_size
-    then (when nat_le (square.x + 2 ^ square.log2_size) syntax.right && nat_le (square.y + 2 ^ square.log2_size) syntax.lower
+    then (when nat_le (square.x + 2 ^ square.log2_size) syntax.right
+    && nat_le (square.y + 2 ^ square.log2_size) syntax.lower
     then decision (SPLIT_CU_FLAG + deeper ctu depth square.x square.y)
     else give true)
     else give false
@@ -60,7 +63,8 @@ pcm_unit pcm square ctu = do
 
 -- cu_transquant_bypass_flag
 abbrev pub cu_transquant_bypass_flag : CtuSyntax → Tree Bool
-cu_transquant_bypass_flag syntax = when syntax.transquant_bypass_enabled then decision CU_TRANSQUANT_BYPASS_FLAG else give false
+cu_transquant_bypass_flag syntax =
+    when syntax.transquant_bypass_enabled then decision CU_TRANSQUANT_BYPASS_FLAG else give false
 
 -- whether an intra coding unit has four prediction blocks: part_mode, which only the least ones have
 abbrev pub is_split : CtuSyntax → ℕ → Tree Bool
@@ -73,7 +77,9 @@ is_split syntax n =
 
 -- pcm_flag
 abbrev pub pcm_flag : PcmSyntax → Bool → ℕ → Tree Bool
-pcm_flag pcm split n = when (pcm.enabled && not split) && (nat_le pcm.log2_least n && nat_le n pcm.log2_greatest) then terminate else give false
+pcm_flag pcm split n =
+    when (pcm.enabled && not split) && (nat_le pcm.log2_least n && nat_le n pcm.log2_greatest) then terminate
+    else give false
 
 abbrev pub unit_at : UnitStart → Ctu → CodingUnit
 unit_at start ctu = record {
@@ -92,10 +98,17 @@ begun_unit start ctu = added (with_quantization ctu (unit_begun ctu.quantization
 
 -- the transform tree of a coding unit
 abbrev pub unit_tree : CtuSyntax → UnitSyntax → Ctu → Tree Ctu
-unit_tree syntax unit ctu = transform_tree syntax unit (record { cb = true; cr = true }) unit.square.log2_size 0 unit.square ctu
+unit_tree syntax unit ctu =
+    transform_tree syntax unit (record { cb = true; cr = true }) unit.square.log2_size 0 unit.square ctu
 
 abbrev pub intra_syntax : UnitStart → Bool → ℕ → UnitSyntax
-intra_syntax start split mode = record { square = start.square; transquant_bypass = start.transquant_bypass; intra = true; split = split; chroma_mode = mode }
+intra_syntax start split mode = record {
+  square = start.square;
+  transquant_bypass = start.transquant_bypass;
+  intra = true;
+  split = split;
+  chroma_mode = mode;
+}
 
 -- an intra coding unit behind pcm_flag: its modes and its transform tree
 unfoldable pub intra_unit : CtuSyntax → UnitStart → Bool → Ctu → Tree Ctu
@@ -143,7 +156,8 @@ inter_unit syntax start ctu = do
 -- a coding unit behind pred_mode_flag
 abbrev pub unit_body : CtuSyntax → UnitStart → Ctu → Tree Ctu
 unit_body syntax start ctu =
-    when start.intra then intra_body syntax start ctu else (when start.skipped then skipped_unit syntax start ctu else inter_unit syntax start ctu)
+    when start.intra then intra_body syntax start ctu
+    else (when start.skipped then skipped_unit syntax start ctu else inter_unit syntax start ctu)
 
 -- what a coding unit begins with
 unfoldable pub unit_start : CtuSyntax → ℕ → Square → Ctu → Tree UnitStart
@@ -151,7 +165,13 @@ unit_start syntax depth square ctu = do
   transquant_bypass ← cu_transquant_bypass_flag syntax
   skipped ← cu_skip_flag syntax.inter square.x square.y ctu
   intra ← pred_mode_flag syntax.inter skipped
-  give (record { square = square; depth = depth; transquant_bypass = transquant_bypass; skipped = skipped; intra = intra })
+  give (record {
+    square = square;
+    depth = depth;
+    transquant_bypass = transquant_bypass;
+    skipped = skipped;
+    intra = intra;
+  })
 
 unfoldable pub coding_unit : CtuSyntax → ℕ → Square → Ctu → Tree Ctu
 coding_unit syntax depth square ctu = do
@@ -171,13 +191,16 @@ split_or_unit syntax quarter depth square ctu = do
 
 -- a block, if the picture reaches it
 abbrev pub where_reached : CtuSyntax → Square → Ctu → Tree Ctu → Tree Ctu
-where_reached syntax square ctu tree = when nat_lt square.x syntax.right && nat_lt square.y syntax.lower then tree else give ctu
+where_reached syntax square ctu tree =
+    when nat_lt square.x syntax.right && nat_lt square.y syntax.lower then tree else give ctu
 
 -- a square of 2^n places on a side
 unfoldable pub coding_quadtree : CtuSyntax → ℕ → ℕ → Square → Ctu → Tree Ctu
-coding_quadtree syntax zero depth square ctu = where_reached syntax square ctu (coding_unit syntax depth square (grouped syntax square ctu))
+coding_quadtree syntax zero depth square ctu =
+    where_reached syntax square ctu (coding_unit syntax depth square (grouped syntax square ctu))
 coding_quadtree syntax (suc n) depth square ctu =
-    where_reached syntax square ctu (split_or_unit syntax (coding_quadtree syntax n (depth + 1)) depth square (grouped syntax square ctu))
+    where_reached syntax square ctu
+    (split_or_unit syntax (coding_quadtree syntax n (depth + 1)) depth square (grouped syntax square ctu))
 
 abbrev pub whole_unit : ℕ → Square
 whole_unit size = record { x = 0; y = 0; log2_size = size }

@@ -1,5 +1,6 @@
 -- What a slice segment header is read under.
-use Rattle.std.specs.Prelude.{ℕ, ◌-◌, ◌/◌, ◌^◌, Bool, true, false, ◌||◌, ◌&&◌, List, length, Option, Some, None, Result, Ok, Err, slice_get, nat_lt, nat_le, ◌==◌, if◌then◌else◌}
+use Rattle.std.specs.Prelude.{ℕ, ◌-◌, ◌/◌, ◌^◌, Bool, true, false, ◌||◌, ◌&&◌, List, length, Option, Some, None, Result}
+use Rattle.std.specs.Prelude.{Ok, Err, slice_get, nat_lt, nat_le, ◌==◌, if◌then◌else◌}
 use Rattle.std.specs.List.{range_with_len, count_by}
 use Rattle.hv_base.specs.declared.breach.Breach.{Breach}
 use Rattle.hv_base.specs.declared.breach.Breach.TheVariants as breach
@@ -52,7 +53,8 @@ pub record Context : Type 0 where
 
 -- NoRaslOutputFlag: of each IDR and BLA picture, and of a CRA picture that begins a sequence (8.1)
 abbrev pub no_rasl_output_flag : ℕ → Bool → Bool
-no_rasl_output_flag nal_type first_in_sequence = (nat_le BLA_W_LP nal_type && nat_le nal_type IDR_N_LP) || ((nal_type == CRA_NUT) && first_in_sequence)
+no_rasl_output_flag nal_type first_in_sequence =
+    (nat_le BLA_W_LP nal_type && nat_le nal_type IDR_N_LP) || ((nal_type == CRA_NUT) && first_in_sequence)
 
 -- how many bits u(v) has for a field of n values: Ceil(Log2(n)), which is how many bits n - 1 has up to its highest 1
 unfoldable pub ceil_log2 : ℕ → ℕ

@@ -59,7 +59,8 @@ inter_fields type pps total temporal = do
   l0_minus1 ← ue_or num_ref_idx_active_override_flag 14 pps.num_ref_idx_l0_default_active_minus1
   l1_minus1 ← optional (is_b type) (ue_or num_ref_idx_active_override_flag 14 pps.num_ref_idx_l1_default_active_minus1)
   list_entry_l0 ← modification (pps.lists_modification_present_flag && nat_lt 1 total) total (l0_minus1 + 1)
-  list_entry_l1 ← modification (is_b type && (pps.lists_modification_present_flag && nat_lt 1 total)) total (entries_1 l1_minus1)
+  list_entry_l1 ←
+      modification (is_b type && (pps.lists_modification_present_flag && nat_lt 1 total)) total (entries_1 l1_minus1)
   mvd_l1_zero_flag ← flag_or (is_b type) false
   cabac_init_flag ← flag_or pps.cabac_init_present_flag false
   collocated ← optional temporal (collocated type l0_minus1 l1_minus1)

@@ -41,6 +41,9 @@ unfoldable pub named_sets : Context → Bool → ℕ → Result Named Breach
 named_sets c is_first id = do
   named ← found (named_by c.sets id)
   fitting ← kept (fits named.sps named.pps) (fault rule.SetMismatch)
-  unchanged ← kept (no_rasl_output_flag c.nal_type c.former.first_in_sequence || is_active c.former.active named.sps) (fault rule.SpsChanged)
-  same_set ← kept (agrees (first_of c is_first) (λ h. h.segment.slice_pic_parameter_set_id == id)) (fault rule.SliceMismatch)
+  unchanged ←
+      kept (no_rasl_output_flag c.nal_type c.former.first_in_sequence || is_active c.former.active named.sps)
+      (fault rule.SpsChanged)
+  same_set ←
+      kept (agrees (first_of c is_first) (λ h. h.segment.slice_pic_parameter_set_id == id)) (fault rule.SliceMismatch)
   Ok named

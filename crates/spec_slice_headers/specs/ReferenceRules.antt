@@ -35,7 +35,8 @@ references_found c is_first kind references poc =
 
 -- the picture order count is in range; the fields are those of the picture's first segment; its reference pictures are
 -- there; a P or B slice has some. former is the first header of the picture, if that is another one
-unfoldable pub judged_references : Context → Option SliceHeaderFields → PictureKind → SliceType → Bool → ReferenceFields → Result Bool Breach
+unfoldable pub judged_references : Context → Option SliceHeaderFields → PictureKind → SliceType → Bool → ReferenceFields
+    → Result Bool Breach
 judged_references c former kind type output references = do
   poc ← as_breach (pic_order_cnt_val kind references.slice_pic_order_cnt_lsb c.former.prev_tid0_pic_order_cnt)
   same_output ← kept (agrees former (λ h. beq h.slice.pic_output_flag output)) (fault rule.SliceMismatch)

@@ -1,5 +1,6 @@
 -- The fields of a slice that say its picture's order count and the pictures kept for reference (7.3.6.1, 7.4.7.1).
-use Rattle.std.specs.Prelude.{ℕ, ◌+◌, Bool, true, false, List, [], length, Option, Some, None, slice_index_or, nat_lt, nat_le}
+use Rattle.std.specs.Prelude.{ℕ, ◌+◌, Bool, true, false, List, [], length, Option, Some, None, slice_index_or, nat_lt}
+use Rattle.std.specs.Prelude.{nat_le}
 use Rattle.std.specs.List.{range_with_len}
 use Rattle.header_types.specs.declared.sps.SpsFields.{SpsFields}
 use Rattle.header_types.specs.declared.sps.LongTermCandidate.{LongTermCandidate}
@@ -26,8 +27,14 @@ pub record ShortTerm : Type 0 where
 -- a set that stands in the header itself
 unfoldable pub coded_short_term : SpsFields → Header ShortTerm
 coded_short_term sps = do
-  set ← st_ref_pic_set (length sps.short_term_ref_pic_sets) (length sps.short_term_ref_pic_sets) sps.short_term_ref_pic_sets ((highest_ordering sps.sub_layer_ordering).max_dec_pic_buffering_minus1)
-  give (record { short_term_ref_pic_set_sps_flag = false; short_term_ref_pic_set_idx = 0; short_term_ref_pic_set = set })
+  set ←
+      st_ref_pic_set (length sps.short_term_ref_pic_sets) (length sps.short_term_ref_pic_sets)
+      sps.short_term_ref_pic_sets ((highest_ordering sps.sub_layer_ordering).max_dec_pic_buffering_minus1)
+  give (record {
+    short_term_ref_pic_set_sps_flag = false;
+    short_term_ref_pic_set_idx = 0;
+    short_term_ref_pic_set = set;
+  })
 
 -- a set of the sequence parameter set, by its number there
 unfoldable pub named_short_term : SpsFields → Header ShortTerm
@@ -94,8 +101,12 @@ unfoldable pub long_term_of : SpsFields → StRps → List LongTermCandidate →
 long_term_of sps set candidates = do
   num_long_term_sps ← ue_or (nat_lt 0 (length candidates)) (length candidates) 0
   num_long_term_pics ← ue
-  few ← ranged (nat_le (length set.negative + length set.positive + num_long_term_sps + num_long_term_pics) ((highest_ordering sps.sub_layer_ordering).max_dec_pic_buffering_minus1))
-  entries ← each (long_term_entry sps candidates num_long_term_sps) (range_with_len 0 (num_long_term_sps + num_long_term_pics))
+  few ←
+      ranged (nat_le (length set.negative + length set.positive + num_long_term_sps + num_long_term_pics)
+      ((highest_ordering sps.sub_layer_ordering).max_dec_pic_buffering_minus1))
+  entries ←
+      each (long_term_entry sps candidates num_long_term_sps)
+      (range_with_len 0 (num_long_term_sps + num_long_term_pics))
   give (record { num_long_term_sps = num_long_term_sps; entries = entries })
 
 unfoldable pub long_term : SpsFields → StRps → Option (List LongTermCandidate) → Header LongTermRefs

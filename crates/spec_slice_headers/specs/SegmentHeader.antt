@@ -1,5 +1,6 @@
 -- slice_segment_header (7.3.6.1), and where the slice segment data begin.
-use Rattle.std.specs.Prelude.{ℕ, ◌+◌, ◌-◌, ◌/◌, Bool, List, length, Option, Some, None, Result, Ok, Err, nat_lt, if◌then◌else◌}
+use Rattle.std.specs.Prelude.{ℕ, ◌+◌, ◌-◌, ◌/◌, Bool, List, length, Option, Some, None, Result, Ok, Err, nat_lt}
+use Rattle.std.specs.Prelude.{if◌then◌else◌}
 use Rattle.hv_base.specs.declared.breach.Breach.{Breach}
 use Rattle.hv_base.specs.declared.fault.FaultKind.TheVariants as rule
 use Rattle.hv_base.specs.declared.field_rules.TheConstants.{SLICE_HEADER_RULES}

@@ -17,9 +17,14 @@ unfoldable pub front : Context → Header SegmentFields
 front c = do
   first ← flag
   opened ← wanted (first || is_some (first_of c false)) (fault rule.SliceOrder)
-  same_unit ← wanted (agrees (first_of c first) (λ h. (h.kind.nal_type == c.nal_type) && (h.kind.temporal_id == c.temporal_id))) (fault rule.SliceMismatch)
+  same_unit ←
+      wanted (agrees (first_of c first) (λ h. (h.kind.nal_type == c.nal_type) && (h.kind.temporal_id == c.temporal_id)))
+      (fault rule.SliceMismatch)
   no_output_of_prior_pics_flag ← optional (is_irap c.nal_type) flag
-  same_output ← wanted (agrees (first_of c first) (λ h. option_eq beq h.segment.no_output_of_prior_pics_flag no_output_of_prior_pics_flag)) (fault rule.SliceMismatch)
+  same_output ←
+      wanted (agrees (first_of c first)
+      (λ h. option_eq beq h.segment.no_output_of_prior_pics_flag no_output_of_prior_pics_flag))
+      (fault rule.SliceMismatch)
   slice_pic_parameter_set_id ← ue_to 63
   give (record {
     first_slice_segment_in_pic_flag = first;
@@ -41,7 +46,10 @@ later_place c n segment = do
   slice_segment_address ← u (ceil_log2 (size_in_ctbs n.sps))
   in_range ← ranged (nat_lt 0 slice_segment_address && nat_lt slice_segment_address (size_in_ctbs n.sps))
   in_order ← wanted (is_above (last_address c.segments) slice_segment_address) (fault rule.SliceOrder)
-  give (record segment { dependent_slice_segment_flag = dependent_slice_segment_flag; slice_segment_address = slice_segment_address })
+  give (record segment {
+    dependent_slice_segment_flag = dependent_slice_segment_flag;
+    slice_segment_address = slice_segment_address;
+  })
 
 -- a picture's first segment begins at its first coding tree unit
 unfoldable pub place : Context → Named → SegmentFields → Header SegmentFields

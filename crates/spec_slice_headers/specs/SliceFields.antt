@@ -1,5 +1,6 @@
 -- The fields of a slice, from slice_reserved_flag to slice_loop_filter_across_slices_enabled_flag (7.3.6.1, 7.4.7.1).
-use Rattle.std.specs.Prelude.{ℕ, ◌+◌, ℤ, pos, ◌+ℤ◌, int_le, Bool, true, false, not, ◌&&◌, ◌||◌, Option, Some, None, ◌==◌, if◌then◌else◌}
+use Rattle.std.specs.Prelude.{ℕ, ◌+◌, ℤ, pos, ◌+ℤ◌, int_le, Bool, true, false, not, ◌&&◌, ◌||◌, Option, Some, None}
+use Rattle.std.specs.Prelude.{◌==◌, if◌then◌else◌}
 use Rattle.std.specs.Bool.{beq}
 use Rattle.hv_base.specs.declared.fault.FaultKind.TheVariants as rule
 use Rattle.header_types.specs.declared.sps.SpsFields.{SpsFields}
@@ -47,7 +48,9 @@ slice_type c = do
 unfoldable pub temporal_flag : Context → Option SliceHeaderFields → SpsFields → Header Bool
 temporal_flag c former sps = do
   slice_temporal_mvp_enabled_flag ← flag_or (not (is_idr c.nal_type) && sps.sps_temporal_mvp_enabled_flag) false
-  same_temporal ← wanted (agrees former (λ h. beq h.slice.slice_temporal_mvp_enabled_flag slice_temporal_mvp_enabled_flag)) (fault rule.SliceMismatch)
+  same_temporal ←
+      wanted (agrees former (λ h. beq h.slice.slice_temporal_mvp_enabled_flag slice_temporal_mvp_enabled_flag))
+      (fault rule.SliceMismatch)
   give slice_temporal_mvp_enabled_flag
 
 -- the fields of a P or B slice
@@ -116,7 +119,8 @@ deblocking control = do
 -- slice_loop_filter_across_slices_enabled_flag, which is coded where some filter may pass the slice's edges
 abbrev pub across_slices : PpsFields → Bool → SliceDeblocking → Header Bool
 across_slices pps has_sao d =
-    flag_or (pps.pps_loop_filter_across_slices_enabled_flag && (has_sao || not d.slice_deblocking_filter_disabled_flag)) pps.pps_loop_filter_across_slices_enabled_flag
+    flag_or (pps.pps_loop_filter_across_slices_enabled_flag && (has_sao || not d.slice_deblocking_filter_disabled_flag))
+    pps.pps_loop_filter_across_slices_enabled_flag
 
 -- the fields of a slice's quantization and of its filters
 pub record Filters : Type 0 where
@@ -142,7 +146,8 @@ filter_fields pps has_sao = do
   })
 
 -- the fields behind those of the reference pictures
-unfoldable pub later_fields : Context → Option SliceHeaderFields → Named → SliceType → Bool → ReferenceFields → Header SliceFields
+unfoldable pub later_fields : Context → Option SliceHeaderFields → Named → SliceType → Bool → ReferenceFields
+    → Header SliceFields
 later_fields c former n type output references = do
   slice_temporal_mvp_enabled_flag ← temporal_flag c former n.sps
   slice_sao_luma_flag ← flag_or n.sps.sample_adaptive_offset_enabled_flag false

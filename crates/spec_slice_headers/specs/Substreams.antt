@@ -1,6 +1,7 @@
 -- The substreams of slice segment data, which entry points cut in bytes of the unit as it stands in the stream, its
 -- emulation prevention bytes among them (7.4.7.1).
-use Rattle.std.specs.Prelude.{◌≡◌, ℕ, ◌+◌, ◌-◌, ◌≤◌, List, [], ◌∷◌, All, length, take, drop, map, min, fold, nat_lt, nat_le, if◌then◌else◌}
+use Rattle.std.specs.Prelude.{◌≡◌, ℕ, ◌+◌, ◌-◌, ◌≤◌, List, [], ◌∷◌, All, length, take, drop, map, min, fold, nat_lt}
+use Rattle.std.specs.Prelude.{nat_le, if◌then◌else◌}
 use Rattle.std.specs.List.{count_by}
 use Rattle.slice_types.specs.declared.substream.Substream.{Substream}
 
@@ -54,7 +55,8 @@ range_between payload removed from to =
 
 -- the range of the payload from a place of the unit on
 abbrev pub range_from : List ℕ → List ℕ → ℕ → Substream
-range_from payload removed from = record { start = min (payload_before removed from) (length payload); end = length payload }
+range_from payload removed from =
+    record { start = min (payload_before removed from) (length payload); end = length payload }
 
 -- the ranges of the substreams from a place of the unit on
 unfoldable pub ranges_from : List ℕ → List ℕ → ℕ → List ℕ → List Substream
@@ -73,4 +75,5 @@ RangesHoldSubstreams = (payload removed : List ℕ) (first : ℕ) (offsets : Lis
 
 -- each of them is a range of the payload
 abbrev pub RangesAreInside : Type 0
-RangesAreInside = (payload removed : List ℕ) (first : ℕ) (offsets : List ℕ) → All (IsInside payload) (substream_ranges payload removed first offsets)
+RangesAreInside = (payload removed : List ℕ) (first : ℕ) (offsets : List ℕ)
+    → All (IsInside payload) (substream_ranges payload removed first offsets)

@@ -1,5 +1,6 @@
 -- Slice segment data cut in the NAL unit itself, of which emulation prevention bytes are left out after the cut.
-use Rattle.std.specs.Prelude.{◌≡◌, ℕ, ◌+◌, ◌-◌, ◌<◌, ◌≤◌, Bool, not, ◌&&◌, List, [], ◌∷◌, length, map, drop, min, nat_le, slice_index}
+use Rattle.std.specs.Prelude.{◌≡◌, ℕ, ◌+◌, ◌-◌, ◌<◌, ◌≤◌, Bool, not, ◌&&◌, List, [], ◌∷◌, length, map, drop, min}
+use Rattle.std.specs.Prelude.{nat_le, slice_index}
 use Rattle.std.specs.List.{concat}
 use Rattle.spec_units.specs.Judged.{places, stands_at, removed_of, payload_of}
 use Rattle.spec_slice_headers.specs.Substreams.{unit_place, data_size, substreams}

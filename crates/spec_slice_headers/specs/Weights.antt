@@ -50,7 +50,9 @@ unfoldable pub pred_weight_table : ℕ → ℕ → Header PredWeightTable
 pred_weight_table active_0 active_1 = do
   luma_log2_weight_denom ← ue_to 7
   delta_chroma_log2_weight_denom ← se
-  in_range ← ranged (int_le (pos 0) (pos luma_log2_weight_denom +ℤ delta_chroma_log2_weight_denom) && int_le (pos luma_log2_weight_denom +ℤ delta_chroma_log2_weight_denom) (pos 7))
+  in_range ←
+      ranged (int_le (pos 0) (pos luma_log2_weight_denom +ℤ delta_chroma_log2_weight_denom)
+      && int_le (pos luma_log2_weight_denom +ℤ delta_chroma_log2_weight_denom) (pos 7))
   l0 ← list_weights active_0
   l1 ← list_weights active_1
   give (record {

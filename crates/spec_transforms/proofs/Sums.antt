@@ -1,5 +1,6 @@
 -- Sums of as many terms as there are numbers below n.
-use Rattle.std.proofs.Common.{◌≡◌, ℕ, zero, suc, ◌+◌, ◌*◌, ◌<◌, ℤ, pos, neg_ℤ, ◌≤ℤ◌, ◌+ℤ◌, ◌*ℤ◌, Bool, refl, ap, arith, add-one}
+use Rattle.std.proofs.Common.{◌≡◌, ℕ, zero, suc, ◌+◌, ◌*◌, ◌<◌, ℤ, pos, neg_ℤ, ◌≤ℤ◌, ◌+ℤ◌, ◌*ℤ◌, Bool, refl, ap, arith}
+use Rattle.std.proofs.Common.{add-one}
 use Rattle.std.proofs.lemmas.Int.{ints}
 use Rattle.spec_transforms.specs.Matrices.{Matrix}
 use Rattle.spec_transforms.specs.Scaling.{clip16, rounded}
@@ -28,18 +29,22 @@ sum_within b (suc n) f each =
     (omega (arith, ints, below, last, e), omega (arith, ints, below, last, e))
 
 -- what a stage gives depends on the values of its block alone
-pub first_same : (matrix : Matrix) (size : ℕ) (d e : Block) (x y : ℕ) → ((k : ℕ) → k < size → d x k ≡ e x k) → first_stage matrix size d x y ≡ first_stage matrix size e x y
+pub first_same : (matrix : Matrix) (size : ℕ) (d e : Block) (x y : ℕ) → ((k : ℕ) → k < size → d x k ≡ e x k)
+    → first_stage matrix size d x y ≡ first_stage matrix size e x y
 unfolding first_stage
 first_same matrix size d e x y same =
     ap (λ (z : ℤ). clip16 (rounded 7 z)) (sum_same size _ _ (λ k h. ap (λ (z : ℤ). matrix k y *ℤ z) (same k h)))
 
-pub second_same : (matrix : Matrix) (size : ℕ) (g h : Block) (x y : ℕ) → ((k : ℕ) → k < size → g k y ≡ h k y) → second_stage matrix size g x y ≡ second_stage matrix size h x y
+pub second_same : (matrix : Matrix) (size : ℕ) (g h : Block) (x y : ℕ) → ((k : ℕ) → k < size → g k y ≡ h k y)
+    → second_stage matrix size g x y ≡ second_stage matrix size h x y
 unfolding second_stage
 second_same matrix size g h x y same = sum_same size _ _ (λ k l. ap (λ (z : ℤ). matrix k x *ℤ z) (same k l))
 
 -- and so do residuals
-pub transformed_same : (depth : ℕ) (sines : Bool) (size : ℕ) (d e : Block) → ((x y : ℕ) → x < size → y < size → d x y ≡ e x y)
+pub transformed_same : (depth : ℕ) (sines : Bool) (size : ℕ) (d e : Block)
+    → ((x y : ℕ) → x < size → y < size → d x y ≡ e x y)
     → (x y : ℕ) → transformed depth sines size d x y ≡ transformed depth sines size e x y
 unfolding transformed
 transformed_same depth sines size d e same x y =
-    ap (λ (z : ℤ). residual_of depth z) (second_same _ size _ _ x y (λ k h. first_same _ size d e k y (λ j l. same k j h l)))
+    ap (λ (z : ℤ). residual_of depth z)
+    (second_same _ size _ _ x y (λ k h. first_same _ size d e k y (λ j l. same k j h l)))

@@ -1,5 +1,6 @@
 -- All units of a picture are sound.
-use Rattle.std.proofs.Common.{◌≡◌, ℕ, zero, suc, ◌+◌, ◌≤◌, Bool, true, false, cond, List, [], ◌∷◌, ℤ, pos, negsuc, Option, Some, None, Result, Ok, Err, min, refl, subst, arith}
+use Rattle.std.proofs.Common.{◌≡◌, ℕ, zero, suc, ◌+◌, ◌≤◌, Bool, true, false, cond, List, [], ◌∷◌, ℤ, pos, negsuc}
+use Rattle.std.proofs.Common.{Option, Some, None, Result, Ok, Err, min, refl, subst, arith}
 use Rattle.std.specs.Prelude.{IfSome, ⊤, unsigned_abs, int_lt, slice_index_or}
 use Rattle.std.specs.List.{All}
 use Rattle.std.specs.Int.{int_max, int_min}
@@ -11,7 +12,8 @@ use Rattle.slice_types.specs.declared.slice.InterFields.{InterFields}
 use Rattle.slice_types.specs.declared.slice.SliceType.{SliceType}
 use Rattle.header_types.specs.declared.sps.PcmFormat.{PcmFormat}
 use Rattle.header_types.specs.declared.sps.SpsFields.{SpsFields}
-use Rattle.header_types.specs.SequenceParameterSets.{IsSps, IsPcmFormat, ctb_log2, max_tb_log2, max_pcm_log2, size_in_ctbs}
+use Rattle.header_types.specs.SequenceParameterSets.{IsSps, IsPcmFormat, ctb_log2, max_tb_log2, max_pcm_log2}
+use Rattle.header_types.specs.SequenceParameterSets.{size_in_ctbs}
 use Rattle.plan_types.specs.declared.segment_plan.SegmentPlan.{SegmentPlan}
 use Rattle.plan_types.specs.declared.picture_plan.PicturePlan.{PicturePlan}
 use Rattle.spec_reconstruction.specs.declared.format.UnitFormat.{UnitFormat}
@@ -20,8 +22,11 @@ use Rattle.spec_slice_data.specs.declared.syntax.PcmSyntax.{PcmSyntax}
 use Rattle.block_geometry.specs.CodingTreeBlocks.{ctb_scan}
 use Rattle.spec_slice_data.specs.Segment.{Between, unit_step}
 use Rattle.spec_slice_headers.specs.SliceFields.{slice_qp}
-use Rattle.spec_picture_data.specs.Shapes.{picture_shape, qp_bd_offset, pcm_syntax, inter_syntax, slice_syntax, segment_syntax, first_qp, end_of, segment_shape}
-use Rattle.spec_picture_data.specs.Picture.{before_picture, TreeUnit, Progress, Halt, SegmentAt, segment_at, with_unit, then_units, units_read, and_segments, segment_read, segments_read, picture_read, unit_given}
+use Rattle.spec_picture_data.specs.Shapes.{picture_shape, qp_bd_offset, pcm_syntax, inter_syntax, slice_syntax}
+use Rattle.spec_picture_data.specs.Shapes.{segment_syntax, first_qp, end_of, segment_shape}
+use Rattle.spec_picture_data.specs.Picture.{before_picture, TreeUnit, Progress, Halt, SegmentAt, segment_at, with_unit}
+use Rattle.spec_picture_data.specs.Picture.{then_units, units_read, and_segments, segment_read, segments_read}
+use Rattle.spec_picture_data.specs.Picture.{picture_read, unit_given}
 use Rattle.spec_picture_samples.specs.Format.{unit_format}
 use Rattle.spec_unit_ranges.proofs.Items.{IsKept}
 use Rattle.spec_unit_ranges.proofs.Predictions.{FitsInter}
@@ -41,7 +46,8 @@ lowered : (most : ℕ) (z : ℤ) → IsLow most (int_min z (pos most))
 lowered most (pos n) = low_if most n (int_lt (pos most) (pos n)) (λ e. ltb-false most n e)
 lowered most (negsuc n) = tt
 
-size-small : (most : ℕ) (b : Bool) (x y : ℤ) → unsigned_abs x ≤ most → unsigned_abs y ≤ most → unsigned_abs (cond b x y) ≤ most
+size-small : (most : ℕ) (b : Bool) (x y : ℤ) → unsigned_abs x ≤ most → unsigned_abs y ≤ most
+    → unsigned_abs (cond b x y) ≤ most
 size-small most true x y first second = first
 size-small most false x y first second = second
 
@@ -63,7 +69,8 @@ below_both : (n a b : ℕ) → n ≤ min a b → n ≤ b
 below_both n a b small = omega (arith, small)
 
 pcm-fits : (b : BlockSizes) (pcm : Option PcmFormat) → IfSome pcm (IsPcmFormat b) → IsPcm (pcm_syntax pcm)
-pcm-fits b None is = record { luma_bits = omega arith; chroma_bits = omega arith; least = λ e. absurd cc; greatest = omega arith }
+pcm-fits b None is =
+    record { luma_bits = omega arith; chroma_bits = omega arith; least = λ e. absurd cc; greatest = omega arith }
 pcm-fits b (Some pcm) is =
     let most = below_both (max_pcm_log2 pcm) (ctb_log2 b) 5 is.greatest in
     record {
@@ -74,7 +81,8 @@ pcm-fits b (Some pcm) is =
     }
 
 -- at most five candidates and 16 references
-inter-fits : (sps : SpsFields) (kind : SliceType) (fields : Option InterFields) → FitsInter (inter_syntax sps kind fields)
+inter-fits : (sps : SpsFields) (kind : SliceType) (fields : Option InterFields)
+    → FitsInter (inter_syntax sps kind fields)
 unfolding inter_syntax
 inter-fits sps kind None = record { merge = omega arith; active_0 = omega arith; active_1 = omega arith }
 inter-fits sps kind (Some fields) = record { merge = omega arith; active_0 = omega arith; active_1 = omega arith }
@@ -129,51 +137,70 @@ module _ (p : PicturePlan) (sps : IsSps p.sps) (t : SegmentPlan) where
   AreGiven (Ok progress) = IsProgress progress
   AreGiven (Err halt) = All IsUnitKept halt.given
 
-  given_kept : (at : SegmentAt) (ctu : ℕ) (given : List TreeUnit) (between : Between) → All IsUnitKept given → AreKept Format greatest between → IsProgress (with_unit at ctu given between)
+  given_kept : (at : SegmentAt) (ctu : ℕ) (given : List TreeUnit) (between : Between) → All IsUnitKept given
+      → AreKept Format greatest between → IsProgress (with_unit at ctu given between)
   given_kept at ctu given between before kept = record {
     between = kept;
     given = All-append IsUnitKept given (unit_given at ctu between ∷ []) before
-        (All-cons IsUnitKept (unit_given at ctu between) [] (unit_kept Format greatest at.picture between ctu kept) (All-nil IsUnitKept));
+        (All-cons IsUnitKept (unit_given at ctu between) [] (unit_kept Format greatest at.picture between ctu kept)
+        (All-nil IsUnitKept));
   }
 
-  then_given : (at : SegmentAt) (ctu : ℕ) (given : List TreeUnit) (r : Result Between Breach) (next : Progress → Result Progress Halt) → All IsUnitKept given → OkHolds (AreKept Format greatest) r
-      → ((progress : Progress) → IsProgress progress → AreGiven (next progress)) → AreGiven (then_units at ctu given r next)
+  then_given : (at : SegmentAt) (ctu : ℕ) (given : List TreeUnit) (r : Result Between Breach)
+      (next : Progress → Result Progress Halt)
+      → All IsUnitKept given → OkHolds (AreKept Format greatest) r
+      → ((progress : Progress) → IsProgress progress → AreGiven (next progress))
+      → AreGiven (then_units at ctu given r next)
   then_given at ctu given (Err e) next before kept later = before
-  then_given at ctu given (Ok between) next before kept later = later (with_unit at ctu given between) (given_kept at ctu given between before kept)
+  then_given at ctu given (Ok between) next before kept later =
+      later (with_unit at ctu given between) (given_kept at ctu given between before kept)
 
-  units_given : (at : SegmentAt) → ((address : ℕ) (between : Between) → AreKept Format greatest between → OkHolds (AreKept Format greatest) (unit_step at.syntax at.picture at.shape address between))
+  units_given : (at : SegmentAt)
+      → ((address : ℕ) (between : Between) → AreKept Format greatest between
+      → OkHolds (AreKept Format greatest) (unit_step at.syntax at.picture at.shape address between))
       → (n place : ℕ) (progress : Progress) → IsProgress progress → AreGiven (units_read at n place progress)
   unfolding units_read
   units_given at step zero place progress kept = kept
   units_given at step (suc n) place progress kept =
-      then_given at (ctb_scan place) progress.given _ (units_read at n (place + 1)) kept.given (step (ctb_scan place) progress.between kept.between)
+      then_given at (ctb_scan place) progress.given _ (units_read at n (place + 1)) kept.given
+      (step (ctb_scan place) progress.between kept.between)
       (λ next next_kept. units_given at step n (place + 1) next next_kept)
 
-  step_given : (number first : ℕ) (s : SegmentPlan) (later : List SegmentPlan) (address : ℕ) (between : Between) → AreKept Format greatest between
-      → OkHolds (AreKept Format greatest) (unit_step (segment_at p number first s later).syntax (segment_at p number first s later).picture (segment_at p number first s later).shape address between)
+  step_given : (number first : ℕ) (s : SegmentPlan) (later : List SegmentPlan) (address : ℕ) (between : Between)
+      → AreKept Format greatest between
+      → OkHolds (AreKept Format greatest)
+      (unit_step (segment_at p number first s later).syntax (segment_at p number first s later).picture
+      (segment_at p number first s later).shape address between)
   unfolding slice_syntax picture_shape segment_shape
   step_given number first s later address between kept =
       let shape = segment_shape p s first (end_of (size_in_ctbs p.sps) first later) in
-      step_kept Format (segment_syntax p s) (syntax-fits s) (picture_shape p.sps p.pps) (omega (arith, sps.blocks.greatest_ctb)) (omega arith) shape
+      step_kept Format (segment_syntax p s) (syntax-fits s) (picture_shape p.sps p.pps)
+      (omega (arith, sps.blocks.greatest_ctb)) (omega arith) shape
       (first_qp-small (qp_bd_offset p.sps) (slice_qp p.pps s.header.slice.slice_qp_delta)) address between kept
 
-  and_given : (r : Result Progress Halt) (next : Progress → Result Progress Halt) → AreGiven r → ((progress : Progress) → IsProgress progress → AreGiven (next progress)) → AreGiven (and_segments r next)
+  and_given : (r : Result Progress Halt) (next : Progress → Result Progress Halt) → AreGiven r
+      → ((progress : Progress) → IsProgress progress → AreGiven (next progress)) → AreGiven (and_segments r next)
   and_given (Err halt) next before later = before
   and_given (Ok progress) next before later = later progress before
 
-  segments_given : (number first : ℕ) (segments : List SegmentPlan) (progress : Progress) → IsProgress progress → AreGiven (segments_read p number first segments progress)
+  segments_given : (number first : ℕ) (segments : List SegmentPlan) (progress : Progress) → IsProgress progress
+      → AreGiven (segments_read p number first segments progress)
   unfolding segments_read
   segments_given number first [] progress kept = kept
   segments_given number first (s ∷ later) progress kept =
       let at = segment_at p number first s later in
-      and_given (segment_read at progress) _ (units_given at (step_given number first s later) at.shape.count at.shape.first progress kept)
+      and_given (segment_read at progress) _
+      (units_given at (step_given number first s later) at.shape.count at.shape.first progress kept)
       (λ next next_kept. segments_given (number + 1) (end_of (size_in_ctbs p.sps) first later) later next next_kept)
 
   picture_given : AreGiven (picture_read p [])
   unfolding picture_read before_picture
   picture_given =
       segments_given 0 0 p.segments (record { between = before_picture; given = [] })
-      (record { between = record { units = All-nil (IsKept Format greatest); last = omega arith }; given = All-nil IsUnitKept })
+      (record {
+        between = record { units = All-nil (IsKept Format greatest); last = omega arith };
+        given = All-nil IsUnitKept;
+      })
 
   unit-sound : (unit : TreeUnit) → IsUnitKept unit → AreSound Format unit.read.items
   unfolding unit_format
@@ -184,16 +211,22 @@ module _ (p : PicturePlan) (sps : IsSps p.sps) (t : SegmentPlan) where
     parameters = λ i j. let below = kept.parameters i j in omega (arith, below);
   }
 
-  ended : (r : Result Progress Halt) (progress : Progress) → AreGiven r → r ≡ Ok progress → All IsUnitKept progress.given
-  ended (Ok q) progress kept e = let same : q ≡ progress = cc in subst (λ (x : Progress). All IsUnitKept x.given) same kept.given
+  ended : (r : Result Progress Halt) (progress : Progress) → AreGiven r → r ≡ Ok progress
+      → All IsUnitKept progress.given
+  ended (Ok q) progress kept e =
+      let same : q ≡ progress = cc in subst (λ (x : Progress). All IsUnitKept x.given) same kept.given
   ended (Err halt) progress kept e = absurd cc
 
   halted : (r : Result Progress Halt) (halt : Halt) → AreGiven r → r ≡ Err halt → All IsUnitKept halt.given
   halted (Ok q) halt kept e = absurd cc
   halted (Err h) halt kept e = let same : h ≡ halt = cc in subst (λ (x : Halt). All IsUnitKept x.given) same kept
 
-  pub read-sound : (progress : Progress) → picture_read p [] ≡ Ok progress → All (λ (unit : TreeUnit). AreSound (unit_format p.sps p.pps t.header.slice) unit.read.items) progress.given
-  read-sound progress is k d inside = unit-sound (slice_index_or progress.given k d) (ended (picture_read p []) progress picture_given is k d inside)
+  pub read-sound : (progress : Progress) → picture_read p [] ≡ Ok progress
+      → All (λ (unit : TreeUnit). AreSound (unit_format p.sps p.pps t.header.slice) unit.read.items) progress.given
+  read-sound progress is k d inside =
+      unit-sound (slice_index_or progress.given k d) (ended (picture_read p []) progress picture_given is k d inside)
 
-  pub halted-sound : (halt : Halt) → picture_read p [] ≡ Err halt → All (λ (unit : TreeUnit). AreSound (unit_format p.sps p.pps t.header.slice) unit.read.items) halt.given
-  halted-sound halt is k d inside = unit-sound (slice_index_or halt.given k d) (halted (picture_read p []) halt picture_given is k d inside)
+  pub halted-sound : (halt : Halt) → picture_read p [] ≡ Err halt
+      → All (λ (unit : TreeUnit). AreSound (unit_format p.sps p.pps t.header.slice) unit.read.items) halt.given
+  halted-sound halt is k d inside =
+      unit-sound (slice_index_or halt.given k d) (halted (picture_read p []) halt picture_given is k d inside)

@@ -31,16 +31,29 @@ module _ (n : ℕ) (s : Square) (inside : IsInside (suc n) s) where
   half = ap (λ k. 2 ^ k) smaller
 
   pub upper_left_inside : IsInside n (upper_left s)
-  upper_left_inside = record { size = smaller; x = omega (arith, inside.x, pow-suc 2 n); y = omega (arith, inside.y, pow-suc 2 n) }
+  upper_left_inside =
+      record { size = smaller; x = omega (arith, inside.x, pow-suc 2 n); y = omega (arith, inside.y, pow-suc 2 n) }
 
   pub upper_right_inside : IsInside n (upper_right s)
-  upper_right_inside = record { size = smaller; x = omega (arith, inside.x, half, pow-suc 2 n); y = omega (arith, inside.y, pow-suc 2 n) }
+  upper_right_inside = record {
+    size = smaller;
+    x = omega (arith, inside.x, half, pow-suc 2 n);
+    y = omega (arith, inside.y, pow-suc 2 n);
+  }
 
   pub lower_left_inside : IsInside n (lower_left s)
-  lower_left_inside = record { size = smaller; x = omega (arith, inside.x, pow-suc 2 n); y = omega (arith, inside.y, half, pow-suc 2 n) }
+  lower_left_inside = record {
+    size = smaller;
+    x = omega (arith, inside.x, pow-suc 2 n);
+    y = omega (arith, inside.y, half, pow-suc 2 n);
+  }
 
   pub lower_right_inside : IsInside n (lower_right s)
-  lower_right_inside = record { size = smaller; x = omega (arith, inside.x, half, pow-suc 2 n); y = omega (arith, inside.y, half, pow-suc 2 n) }
+  lower_right_inside = record {
+    size = smaller;
+    x = omega (arith, inside.x, half, pow-suc 2 n);
+    y = omega (arith, inside.y, half, pow-suc 2 n);
+  }
 
 pub square_inside : (n : ℕ) (s : Square) → IsInside n s → s.log2_size ≤ 3 → IsSquare s
 square_inside n s inside small =
@@ -65,7 +78,8 @@ luma_block_inside s ctu square skip =
       y = omega (arith, square.y, side);
     }
 
-pub chroma_block_inside : (unit : UnitSyntax) (c : ℕ) (s : Square) → c < 3 → samples_of_place c ≡ 2 → 1 ≤ s.log2_size → IsSquare s → IsBlock (chroma_transform unit c s)
+pub chroma_block_inside : (unit : UnitSyntax) (c : ℕ) (s : Square) → c < 3 → samples_of_place c ≡ 2 → 1 ≤ s.log2_size
+    → IsSquare s → IsBlock (chroma_transform unit c s)
 chroma_block_inside unit c s known two least square skip =
     let side : 2 ^ (s.log2_size + 1) ≡ 2 ^ s.log2_size * 2 = pow-add 2 s.log2_size 1 in
     let some : 0 < 2 ^ s.log2_size = pow_pos s.log2_size in

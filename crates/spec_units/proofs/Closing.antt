@@ -1,10 +1,12 @@
 -- What is told of a front that ends is told of it as soon as a start code stands behind it.
-use Rattle.std.proofs.Common.{◌≡◌, ℕ, ◌+◌, ◌<◌, ◌≤◌, true, false, List, [], ◌∷◌, ◌++◌, length, take, Some, None, refl, sym, ap, ◌∙◌, arith, append_assoc}
+use Rattle.std.proofs.Common.{◌≡◌, ℕ, ◌+◌, ◌<◌, ◌≤◌, true, false, List, [], ◌∷◌, ◌++◌, length, take, Some, None, refl}
+use Rattle.std.proofs.Common.{sym, ap, ◌∙◌, arith, append_assoc}
 use Rattle.std.specs.Prelude.{◌&&◌, ◌==◌, min, replicate, nat_lt, nat_le}
 use lib.Seq.{take-append_seam}
 use borrow.Author.Tests.{ltb-true, ltb-false}
 use Rattle.hv_base.specs.declared.fault.FaultKind.TheVariants.{NoNal}
-use Rattle.spec_units.specs.Units.{ends_unit, unit_end, trimmed, Part, Raw, Stray, unit_to, unit_at, Place, Padding, Inside, parts}
+use Rattle.spec_units.specs.Units.{ends_unit, unit_end, trimmed, Part, Raw, Stray, unit_to, unit_at, Place, Padding}
+use Rattle.spec_units.specs.Units.{Inside, parts}
 use Rattle.spec_units.specs.Judged.{broken, judged, next_number, then_told, told_from}
 use Rattle.spec_units.specs.Closed.{HasNoUnit, StaysWhenClosed}
 use Rattle.spec_units.proofs.Ends.{decide, known, if_true, if_false, ends_unit-append, unit_end-none, parts-inside}

@@ -1,5 +1,6 @@
 -- Where a unit ends, in bytes and in bytes that go on.
-use Rattle.std.proofs.Common.{◌≡◌, ℕ, zero, suc, ◌+◌, ◌-◌, ◌<◌, Bool, true, false, cond, List, [], ◌∷◌, ◌++◌, length, drop, Option, Some, None, refl, sym, ap, ◌∙◌, arith}
+use Rattle.std.proofs.Common.{◌≡◌, ℕ, zero, suc, ◌+◌, ◌-◌, ◌<◌, Bool, true, false, cond, List, [], ◌∷◌, ◌++◌, length}
+use Rattle.std.proofs.Common.{drop, Option, Some, None, refl, sym, ap, ◌∙◌, arith}
 use Rattle.std.specs.Prelude.{◌&&◌, ◌==◌, option_map}
 use Rattle.spec_units.specs.Units.{ends_unit, unit_end, Padding, Inside, parts}
 
@@ -59,8 +60,10 @@ pub unit_end-length : (bs : List ℕ) (k : ℕ) → unit_end bs ≡ Some k → k
 unit_end-length [] k h = cc
 unit_end-length (b ∷ bs) k h =
     decide (ends_unit (b ∷ bs))
-    (λ t. let e : Some 0 ≡ Some k = sym (if_true _ _ _ t) ∙ h in let z : 0 ≡ k = cc in omega (arith, ends_unit-length (b ∷ bs) t))
-    (λ f. let r = option_map-suc (unit_end bs) k (sym (if_false _ _ _ f) ∙ h) in omega (arith, unit_end-length bs r.0 r.1, r.2))
+    (λ t. let e : Some 0 ≡ Some k = sym (if_true _ _ _ t) ∙ h in
+    let z : 0 ≡ k = cc in omega (arith, ends_unit-length (b ∷ bs) t))
+    (λ f. let r = option_map-suc (unit_end bs) k (sym (if_false _ _ _ f) ∙ h) in
+    omega (arith, unit_end-length bs r.0 r.1, r.2))
 
 -- a unit's end stays, however the bytes go on
 pub unit_end-append : (bs r : List ℕ) (k : ℕ) → unit_end bs ≡ Some k → unit_end (bs ++ r) ≡ Some k
@@ -74,7 +77,8 @@ unit_end-append (b ∷ bs) r k h =
     if_false _ _ _ (same ∙ f) ∙ ap (option_map suc) (unit_end-append bs r s.0 s.1) ∙ ap Some (sym s.2))
 
 -- a unit's end is the first place at which one stands
-pub unit_end-first : (bs : List ℕ) (k : ℕ) → ((j : ℕ) → j < k → ends_unit (drop j bs) ≡ false) → ends_unit (drop k bs) ≡ true → unit_end bs ≡ Some k
+pub unit_end-first : (bs : List ℕ) (k : ℕ) → ((j : ℕ) → j < k → ends_unit (drop j bs) ≡ false)
+    → ends_unit (drop k bs) ≡ true → unit_end bs ≡ Some k
 unit_end-first [] zero below here = cc
 unit_end-first [] (suc k) below here = cc
 unit_end-first (b ∷ bs) zero below here = if_true _ _ _ here
@@ -125,12 +129,14 @@ unit_end-before (b ∷ bs) k (suc j) h lt =
     unit_end-before bs r.0 j r.1 (omega (arith, lt, r.2)))
 
 -- behind a unit comes padding
-pub parts-past : (ended : Bool) (bs : List ℕ) (k : ℕ) → unit_end bs ≡ Some k → parts ended Inside bs ≡ parts ended (Padding 0) (drop k bs)
+pub parts-past : (ended : Bool) (bs : List ℕ) (k : ℕ) → unit_end bs ≡ Some k
+    → parts ended Inside bs ≡ parts ended (Padding 0) (drop k bs)
 parts-past ended [] k h = cc
 parts-past ended (b ∷ bs) k h =
     decide (ends_unit (b ∷ bs))
     (λ t. let e : Some 0 ≡ Some k = sym (if_true _ _ _ t) ∙ h in let z : 0 ≡ k = cc in
-    if_true _ _ _ t ∙ sym (if_true (b == 0) _ _ (ends_unit-zero b bs t)) ∙ ap (λ n. parts ended (Padding 0) (drop n (b ∷ bs))) z)
+    if_true _ _ _ t ∙ sym (if_true (b == 0) _ _ (ends_unit-zero b bs t))
+    ∙ ap (λ n. parts ended (Padding 0) (drop n (b ∷ bs))) z)
     (λ f. let s = option_map-suc (unit_end bs) k (sym (if_false _ _ _ f) ∙ h) in
     if_false _ _ _ f ∙ parts-past ended bs s.0 s.1 ∙ ap (λ n. parts ended (Padding 0) (drop n (b ∷ bs))) (sym s.2))
 

@@ -1,13 +1,19 @@
 -- What the grammar of the byte stream has is what a stream is split into.
-use Rattle.std.proofs.Common.{◌≡◌, ℕ, zero, suc, ◌+◌, ◌<◌, ◌≤◌, true, false, List, [], ◌∷◌, ◌++◌, length, take, drop, replicate, Some, None, refl, sym, ap, subst, ◌∙◌, arith, length-append, take-append-drop, append_assoc, append-nil, length-take-le}
+use Rattle.std.proofs.Common.{◌≡◌, ℕ, zero, suc, ◌+◌, ◌<◌, ◌≤◌, true, false, List, [], ◌∷◌, ◌++◌, length, take, drop}
+use Rattle.std.proofs.Common.{replicate, Some, None, refl, sym, ap, subst, ◌∙◌, arith, length-append, take-append-drop}
+use Rattle.std.proofs.Common.{append_assoc, append-nil, length-take-le}
 use Rattle.std.proofs.lemmas.List.{replicate-append-replicate}
 use Rattle.std.specs.Prelude.{◌&&◌, ◌==◌, min, map, nat_le, nat_lt, option_map}
 use lib.Seq.{take-append_seam, drop-append_seam}
 use borrow.Author.Tests.{le-leb, leb-true, ltb-true, ltb-false}
 use Rattle.std.proofs.lemmas.Bool.Decides.{Decides-eqb}
-use Rattle.spec_units.specs.Units.{ends_unit, unit_end, all_zero, trimmed, Part, Raw, Stray, unit_to, unit_at, Place, Padding, Inside, parts, parts_of}
-use Rattle.spec_units.specs.ByteStream.{AtLeastBehindZeros, EndsInNoZero, IsNalUnit, byte_stream_nal_unit, IsByteStream, IsSplitInto}
-use Rattle.spec_units.proofs.Ends.{decide, known, if_true, if_false, and_left, and_right, ends_unit-zero, option_map-suc, unit_end-length, unit_end-nowhere, unit_end-here, unit_end-before, parts-past, parts-inside}
+use Rattle.spec_units.specs.Units.{ends_unit, unit_end, all_zero, trimmed, Part, Raw, Stray, unit_to, unit_at, Place}
+use Rattle.spec_units.specs.Units.{Padding, Inside, parts, parts_of}
+use Rattle.spec_units.specs.ByteStream.{AtLeastBehindZeros, EndsInNoZero, IsNalUnit, byte_stream_nal_unit, IsByteStream}
+use Rattle.spec_units.specs.ByteStream.{IsSplitInto}
+use Rattle.spec_units.proofs.Ends.{decide, known, if_true, if_false, and_left, and_right, ends_unit-zero}
+use Rattle.spec_units.proofs.Ends.{option_map-suc, unit_end-length, unit_end-nowhere, unit_end-here, unit_end-before}
+use Rattle.spec_units.proofs.Ends.{parts-past, parts-inside}
 
 -- ---- a unit and what stands behind it
 

@@ -1,5 +1,6 @@
 -- Places in a unit, met one behind the other with the two bytes before them.
-use Rattle.std.proofs.Common.{◌≡◌, ℕ, zero, suc, ◌+◌, ◌-◌, ◌≤◌, Bool, true, false, List, [], ◌∷◌, ◌++◌, length, refl, sym, ap, ◌∙◌, arith}
+use Rattle.std.proofs.Common.{◌≡◌, ℕ, zero, suc, ◌+◌, ◌-◌, ◌≤◌, Bool, true, false, List, [], ◌∷◌, ◌++◌, length, refl}
+use Rattle.std.proofs.Common.{sym, ap, ◌∙◌, arith}
 use Rattle.std.specs.Prelude.{map, not, ◌&&◌, ◌==◌, nat_le, slice_index, if◌then◌else◌}
 use borrow.Author.Tests.{le-leb}
 use Rattle.spec_units.specs.Judged.{places, stands_at, removed_of, payload_of}

@@ -1,5 +1,6 @@
 -- What a writer makes of a payload, so that no start code stands in it (7.3.1.1, 7.4.2).
-use Rattle.std.specs.Prelude.{◌≡◌, ℕ, ◌+◌, ◌<◌, Bool, true, false, not, ◌&&◌, List, [], ◌∷◌, nat_le, ◌==◌, if◌then◌else◌}
+use Rattle.std.specs.Prelude.{◌≡◌, ℕ, ◌+◌, ◌<◌, Bool, true, false, not, ◌&&◌, List, [], ◌∷◌, nat_le, ◌==◌}
+use Rattle.std.specs.Prelude.{if◌then◌else◌}
 use Rattle.spec_units.specs.Judged.{removed_of, payload_of}
 
 -- whether a byte of at most 03 would follow two zero bytes

@@ -1,5 +1,6 @@
 -- What each unit of a byte stream is read as, up to the first that breaks a rule or meets a limit (7.3.1).
-use Rattle.std.specs.Prelude.{ℕ, zero, suc, ◌+◌, ◌-◌, ◌*◌, ◌/◌, ◌%◌, Bool, true, false, not, ◌&&◌, ◌||◌, List, [], ◌∷◌, ◌++◌, length, map, slice_index, min, None, nat_lt, nat_le, ◌==◌, if◌then◌else◌}
+use Rattle.std.specs.Prelude.{ℕ, zero, suc, ◌+◌, ◌-◌, ◌*◌, ◌/◌, ◌%◌, Bool, true, false, not, ◌&&◌, ◌||◌, List, [], ◌∷◌}
+use Rattle.std.specs.Prelude.{◌++◌, length, map, slice_index, min, None, nat_lt, nat_le, ◌==◌, if◌then◌else◌}
 use Rattle.hv_base.specs.declared.fault.FaultKind.TheVariants as rule
 use Rattle.hv_base.specs.declared.fault.FaultKind.{FaultKind}
 use Rattle.hv_base.specs.declared.fault.Fault.{Fault}
@@ -15,7 +16,8 @@ places test (suc n) = if test n then places test n ++ n ∷ [] else places test 
 
 -- whether 00 00 and then this byte stand in a unit, that byte at place i
 abbrev pub stands_at : ℕ → List ℕ → ℕ → Bool
-stands_at byte unit i = nat_le 2 i && (slice_index unit (i - 2) == 0) && (slice_index unit (i - 1) == 0) && (slice_index unit i == byte)
+stands_at byte unit i =
+    nat_le 2 i && (slice_index unit (i - 2) == 0) && (slice_index unit (i - 1) == 0) && (slice_index unit i == byte)
 
 -- where the emulation prevention bytes of a unit stand: each 03 behind 00 00 (7.3.1.1)
 unfoldable pub removed_of : List ℕ → List ℕ

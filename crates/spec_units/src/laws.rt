@@ -8,7 +8,8 @@ ghost use Rattle.spec_units.specs.Closed.{HasNoUnit, StaysWhenClosed};
 
 /// What the front of an input is told as begins what the whole input is told as, however it goes on.
 pub fn whole_units_stay()
-    ensures { (front : List ℕ) (rest : List ℕ) (ended : Bool) → (later : List Told) × (told_of ended (front ++ rest) ≡ told_of false front ++ later) }
+    ensures { (front : List ℕ) (rest : List ℕ) (ended : Bool)
+        → (later : List Told) × (told_of ended (front ++ rest) ≡ told_of false front ++ later) }
 {}
 
 /// What is written of a payload, with emulation prevention, reads back as the payload, and 00 00 00, 00 00 01 and

@@ -38,7 +38,8 @@ pub(crate) fn gather(planes: &Planes, c: usize, window: &PlaneWindow, bytes: &mu
     requires inside { LiesIn window.now (plane_width planes.now c) (plane_height planes.now c) }
     requires room { window.now.width * window.now.height ≤ length bytes.old }
     ensures count { length bytes.new ≡ length bytes.old }
-    ensures value { take (window.now.width * window.now.height) bytes.new ≡ plane_bytes (samples_of planes.now) c window.now }
+    ensures value { take (window.now.width * window.now.height) bytes.new
+        ≡ plane_bytes (samples_of planes.now) c window.now }
 {
     let width = window.width as usize;
     for row in 0..window.height {

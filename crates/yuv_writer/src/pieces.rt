@@ -35,8 +35,10 @@ fn write_piece<O: Sink>(
     requires inside { LiesIn window.now (plane_width planes.now c) (plane_height planes.now c) }
     requires room { window.now.width * window.now.height ≤ length buffer.old }
     ensures buffer { length buffer.new ≡ length buffer.old }
-    ensures gained { OnOk result (Gains (O.contents out.old) (O.contents out.new) (plane_bytes (samples_of planes.now) c window.now)) }
-    ensures front { OnErr result (GainsPrefix (O.contents out.old) (O.contents out.new) (plane_bytes (samples_of planes.now) c window.now)) }
+    ensures gained { OnOk result
+        (Gains (O.contents out.old) (O.contents out.new) (plane_bytes (samples_of planes.now) c window.now)) }
+    ensures front { OnErr result
+        (GainsPrefix (O.contents out.old) (O.contents out.new) (plane_bytes (samples_of planes.now) c window.now)) }
     ensures quiet { OnOk result (O.faults out.new ≡ O.faults out.old) }
     ensures counted { OnErr result (Rose (O.faults out.old) (O.faults out.new)) }
     ensures grows { O.faults out.old ≤ O.faults out.new }
@@ -60,8 +62,10 @@ pub(crate) fn write_plane<O: Sink>(
     requires inside { LiesIn window.now (plane_width planes.now c) (plane_height planes.now c) }
     requires room { length buffer.old ≡ 65536 }
     ensures buffer { length buffer.new ≡ 65536 }
-    ensures gained { OnOk result (Gains (O.contents out.old) (O.contents out.new) (plane_bytes (samples_of planes.now) c window.now)) }
-    ensures front { OnErr result (GainsPrefix (O.contents out.old) (O.contents out.new) (plane_bytes (samples_of planes.now) c window.now)) }
+    ensures gained { OnOk result
+        (Gains (O.contents out.old) (O.contents out.new) (plane_bytes (samples_of planes.now) c window.now)) }
+    ensures front { OnErr result
+        (GainsPrefix (O.contents out.old) (O.contents out.new) (plane_bytes (samples_of planes.now) c window.now)) }
     ensures quiet { OnOk result (O.faults out.new ≡ O.faults out.old) }
     ensures counted { OnErr result (Rose (O.faults out.old) (O.faults out.new)) }
     ensures grows { O.faults out.old ≤ O.faults out.new }

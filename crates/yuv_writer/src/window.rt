@@ -49,7 +49,8 @@ impl PlaneWindow {
 pub(crate) fn window_of(format: &PictureFormat, c: usize) -> PlaneWindow
     requires { IsPictureFormat format.now }
     ensures value { result ≡ window_of format.now c }
-    ensures lies { LiesIn result (format.now.pic_width_in_luma_samples / luma_samples c) (format.now.pic_height_in_luma_samples / luma_samples c) }
+    ensures lies { LiesIn result (format.now.pic_width_in_luma_samples / luma_samples c)
+        (format.now.pic_height_in_luma_samples / luma_samples c) }
 {
     let width = format.pic_width_in_luma_samples;
     let height = format.pic_height_in_luma_samples;

@@ -15,8 +15,12 @@ use picture_buffer::Picture;
 /// `Failed` where a write failed; a front of these bytes was gained then. It takes no memory.
 #[tactic(auto, unfolding(spec_picture_samples::specs::Output::picture_bytes))]
 pub fn write_picture<O: Sink>(picture: &Picture, out: &mut O) -> Result<(), Failed>
-    ensures gained { OnOk result (Gains (O.contents out.old) (O.contents out.new) (picture_bytes picture.now.format (samples_of picture.now.planes))) }
-    ensures front { OnErr result (GainsPrefix (O.contents out.old) (O.contents out.new) (picture_bytes picture.now.format (samples_of picture.now.planes))) }
+    ensures gained { OnOk result
+        (Gains (O.contents out.old) (O.contents out.new)
+        (picture_bytes picture.now.format (samples_of picture.now.planes))) }
+    ensures front { OnErr result
+        (GainsPrefix (O.contents out.old) (O.contents out.new)
+        (picture_bytes picture.now.format (samples_of picture.now.planes))) }
     ensures quiet { OnOk result (O.faults out.new ≡ O.faults out.old) }
     ensures counted { OnErr result (Rose (O.faults out.old) (O.faults out.new)) }
     ensures grows { O.faults out.old ≤ O.faults out.new }

@@ -13,7 +13,9 @@ returns-then-within-units-clause-none c _ =
     let here : k < length items = c.loop-picture-test.true in
     let count = ap (λ (xs : List PictureRows). length xs) same in
     let at : c.found-item.result ≡ get_or ps k no_picture =
-    c.found-item.is ∙ (get_or_default items k c.found-item.result no_picture here ∙ ap (λ (xs : List PictureRows). get_or xs k no_picture) same) in
+    c.found-item.is
+    ∙ (get_or_default items k c.found-item.result no_picture here
+    ∙ ap (λ (xs : List PictureRows). get_or xs k no_picture) same) in
     let tree = ap tree_units at in
     let units = ap picture_units at in
     past_tree ps c.args.unit k (omega (arith, here, count))

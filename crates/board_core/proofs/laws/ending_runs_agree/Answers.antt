@@ -14,6 +14,8 @@ returns-clause-same c plan flight events ready ended others other_ready other_en
 
 pub returns-clause-counted : goal.returns-clause-counted
 returns-clause-counted c plan flight events ready ended others other_ready other_ended l x line inside before =
-    let same = same_least plan (run plan (opening plan) events).least (run plan (opening plan) others).least (run_ends plan events flight ready ended) (run_ends plan others flight other_ready other_ended) in
+    let same =
+    same_least plan (run plan (opening plan) events).least (run plan (opening plan) others).least
+    (run_ends plan events flight ready ended) (run_ends plan others flight other_ready other_ended) in
     let P : Option ℕ → Type 0 = λ least. IsBefore (unit_of plan l x) least in
     (ended l x line inside before, other_ended l x line inside (subst P same before))

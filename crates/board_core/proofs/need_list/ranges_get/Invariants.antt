@@ -6,4 +6,5 @@ use Rattle.board_core.proofs.need_list.ranges_get.Given as goal
 
 abbrev pub invariant-loop-range : goal.invariant-loop-range
 invariant-loop-range l =
-    slice_get (flat_map (range_needs l.fn.plan) l.ranges) l.index ≡ slice_get (flat_map (range_needs l.fn.plan) (drop l.range-index l.ranges)) l.left
+    slice_get (flat_map (range_needs l.fn.plan) l.ranges) l.index
+    ≡ slice_get (flat_map (range_needs l.fn.plan) (drop l.range-index l.ranges)) l.left

@@ -15,6 +15,7 @@ returns g c marked small =
     let fits : SFits w8 c.qp_y-qp.result = search rules in
     let low : c.qp.result ≤ 127 = omega (arith, small, c.qp.ensures) in
     place_same _ _ _ _ _ _ _ _ _ _
-    (c.left_strength-left.ensures _ _ marked) (c.top_strength-top.ensures _ _ marked) (marked.coded x y c.requires.x c.requires.y)
+    (c.left_strength-left.ensures _ _ marked) (c.top_strength-top.ensures _ _ marked)
+    (marked.coded x y c.requires.x c.requires.y)
     (to_z-of_z w8 _ fits ∙ (c.qp_y-qp.ensures low ∙ ap (λ q. pos q -ℤ pos c.args.sides.now.qp_bd_offset) c.qp.ensures))
     (marked.kept x y c.requires.x c.requires.y)

@@ -15,10 +15,15 @@ loop-k-preserved g c =
     let items = c.args.records.now.items in
     let count = c.loop-k.invariant.count in
     let room : c.loop-k.k < length c.loop-k.places = omega (arith, count, c.loop-k-test.true) in
-    let all = subst (λ (xs : List Item). All IsPlacedItem xs → AreMarked sides.pcm_loop_filter_disabled xs c.marks_of-marks.result) c.items.ensures c.marks_of-marks.ensures in
+    let all =
+    subst
+    (λ (xs : List Item). All IsPlacedItem xs → AreMarked sides.pcm_loop_filter_disabled xs c.marks_of-marks.result)
+    c.items.ensures c.marks_of-marks.ensures in
     record {
       count = length-set _ _ _ ∙ count;
       told = λ each small. filled_more c.loop-k.places c.loop-k.k c.place.result
-          (λ (q : ℕ). unit_place (beside_of sides (g.V.PlaceMotions.motion_at c.args.view.now)) sides.pcm_loop_filter_disabled sides.qp_bd_offset items (q % 16) (q / 16))
-          room (c.loop-k.invariant.told each small) (c.place.ensures (all each) (small (c.loop-k.k % 16) (c.loop-k.k / 16)));
+          (λ (q : ℕ). unit_place (beside_of sides (g.V.PlaceMotions.motion_at c.args.view.now))
+          sides.pcm_loop_filter_disabled sides.qp_bd_offset items (q % 16) (q / 16))
+          room (c.loop-k.invariant.told each small)
+          (c.place.ensures (all each) (small (c.loop-k.k % 16) (c.loop-k.k / 16)));
     }

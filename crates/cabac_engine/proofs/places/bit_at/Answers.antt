@@ -10,5 +10,7 @@ returns c =
     let bit = shr_and_one-bit_of (slice_index c.args.bytes.now (c.args.at / 8)) (7 - c.args.at % 8) in
     record {
       value = bit;
-      next = drop-bits_at c.args.bytes.now c.args.at c.requires.inside ∙ ap (λ b. b ∷ drop (c.args.at + 1) (bits c.args.bytes.now)) (sym bit);
+      next =
+          drop-bits_at c.args.bytes.now c.args.at c.requires.inside
+          ∙ ap (λ b. b ∷ drop (c.args.at + 1) (bits c.args.bytes.now)) (sym bit);
     }

@@ -5,7 +5,9 @@ use Rattle.coding_quadtree.proofs.beside.row.Given as goal
 abbrev pub invariant-loop-k : goal.invariant-loop-k
 invariant-loop-k g l = record {
   count : length l.sides ≡ 16;
-  told : (q : ℕ) → q < l.k → get_or l.sides q no_side ≡ (if nat_lt q l.count then g.V.Picture.side_at l.fn.view (l.x + 4 * q) l.y else no_side);
+  told : (q : ℕ) → q < l.k
+      → get_or l.sides q no_side
+      ≡ (if nat_lt q l.count then g.V.Picture.side_at l.fn.view (l.x + 4 * q) l.y else no_side);
   sides : g.V.Picture.side_at l.view ≡ g.V.Picture.side_at l.fn.view;
   offsets : g.V.Picture.sao_at l.view ≡ g.V.Picture.sao_at l.fn.view;
   samples : g.V.Picture.sample_at l.view ≡ g.V.Picture.sample_at l.fn.view;

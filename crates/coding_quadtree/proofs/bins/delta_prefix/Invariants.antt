@@ -8,6 +8,7 @@ use Rattle.coding_quadtree.proofs.bins.delta_prefix.Given as goal
 
 abbrev pub invariant-loop-i : goal.invariant-loop-i
 invariant-loop-i l = record {
-  told : read (unary (give 5) delta_bin l.i (5 - l.i)) (state_of l.reader) ≡ read (truncated delta_bin 5) (state_of l.fn.reader);
+  told : read (unary (give 5) delta_bin l.i (5 - l.i)) (state_of l.reader)
+      ≡ read (truncated delta_bin 5) (state_of l.fn.reader);
   live : IsLive l.reader.interval;
 }

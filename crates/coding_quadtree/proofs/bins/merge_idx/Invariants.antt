@@ -8,6 +8,7 @@ use Rattle.coding_quadtree.proofs.bins.merge_idx.Given as goal
 
 abbrev pub invariant-loop-i : goal.invariant-loop-i
 invariant-loop-i l = record {
-  told : read (unary (give l.greatest) merge_bin l.i (l.greatest - l.i)) (state_of l.reader) ≡ read (truncated merge_bin l.greatest) (state_of l.fn.reader);
+  told : read (unary (give l.greatest) merge_bin l.i (l.greatest - l.i)) (state_of l.reader)
+      ≡ read (truncated merge_bin l.greatest) (state_of l.fn.reader);
   live : IsLive l.reader.interval;
 }

@@ -21,4 +21,5 @@ returns-then-not-lay_item-clause-value c =
 pub returns-clause-value : goal.returns-clause-value
 unfolding levels_laid
 returns-clause-value c =
-    sym (ap (levels_laid c.loop-k.levels) (drop_all c.loop-k.k c.args.items.now (omega (arith, c.loop-k-test.false)))) ∙ c.loop-k.invariant.told
+    sym (ap (levels_laid c.loop-k.levels) (drop_all c.loop-k.k c.args.items.now (omega (arith, c.loop-k-test.false))))
+    ∙ c.loop-k.invariant.told

@@ -1,9 +1,15 @@
-use Rattle.std.proofs.Common.{◌≡◌, ℕ, ◌+◌, ◌^◌, ◌<◌, ◌==◌, cond, true, false, nat_le, nat_lt, ◌&&◌, slice_index_or, length}
+use Rattle.std.proofs.Common.{◌≡◌, ℕ, ◌+◌, ◌^◌, ◌<◌, ◌==◌, cond, true, false, nat_le, nat_lt, ◌&&◌, slice_index_or}
+use Rattle.std.proofs.Common.{length}
 use Rattle.ctu_build.specs.Held.{cell}
 use Rattle.ctu_build.proofs.lines.mark_lines.Given as goal
 
 abbrev pub invariant-loop-line : goal.invariant-loop-line
 invariant-loop-line l = record {
   count : length l.known ≡ 25155;
-  told : (c i j : ℕ) → c < 3 → i < 129 → j < 65 → slice_index_or l.known (cell c i j) false ≡ cond (c == l.place.c && ((nat_le (l.place.x + 1) i && nat_lt i (l.place.x + 1 + 2 ^ l.place.log2)) && (nat_le (l.place.y + 1) j && nat_lt j (l.place.y + 1 + l.line)))) true (slice_index_or l.fn.known (cell c i j) false);
+  told : (c i j : ℕ) → c < 3 → i < 129 → j < 65
+      → slice_index_or l.known (cell c i j) false
+      ≡ cond (c == l.place.c
+      && ((nat_le (l.place.x + 1) i && nat_lt i (l.place.x + 1 + 2 ^ l.place.log2))
+      && (nat_le (l.place.y + 1) j && nat_lt j (l.place.y + 1 + l.line))))
+      true (slice_index_or l.fn.known (cell c i j) false);
 }

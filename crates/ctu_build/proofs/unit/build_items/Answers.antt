@@ -7,9 +7,14 @@ use Rattle.ctu_build.proofs.unit.build_items.Goals as goal
 pub loop-k-preserved : goal.loop-k-preserved
 loop-k-preserved g c = record {
   mode = c.build_item-coding.ensures.mode;
-  told = λ all each. built_more _ _ _ c.args.items.now c.loop-k.k _ _ (building c.loop-k.coding (held c.loop-k.samples)) _ _ c.loop-k-test.true refl
-      (c.build_item-coding.ensures.value all (each c.loop-k.k _ c.loop-k-test.true) (sound_behind c.args.source.now.format.now c.args.items.now c.loop-k.k each)) (c.loop-k.invariant.told all each);
+  told = λ all each. built_more _ _ _ c.args.items.now c.loop-k.k _ _ (building c.loop-k.coding (held c.loop-k.samples))
+      _ _ c.loop-k-test.true refl
+      (c.build_item-coding.ensures.value all (each c.loop-k.k _ c.loop-k-test.true)
+      (sound_behind c.args.source.now.format.now c.args.items.now c.loop-k.k each))
+      (c.loop-k.invariant.told all each);
 }
 
 pub returns : goal.returns
-returns g c all each = built_all _ _ _ c.args.items.now c.loop-k.k (building c.loop-k.coding (held c.loop-k.samples)) _ (omega (arith, c.loop-k-test.false)) (c.loop-k.invariant.told all each)
+returns g c all each =
+    built_all _ _ _ c.args.items.now c.loop-k.k (building c.loop-k.coding (held c.loop-k.samples)) _
+    (omega (arith, c.loop-k-test.false)) (c.loop-k.invariant.told all each)

@@ -4,4 +4,6 @@ use Rattle.ctu_motion.proofs.fill.fill_block.Given as goal
 
 abbrev pub invariant-loop-row : goal.invariant-loop-row
 invariant-loop-row g l = (i j : ℕ) (d : g.row.T.Denot) → i < 34 → j < 17
-    → slice_index_or l.cells (cell i j) d ≡ cond ((nat_le l.x i && nat_lt i (l.x + l.width)) && (nat_le l.y j && nat_lt j l.row)) l.value (slice_index_or l.fn.cells (cell i j) d)
+    → slice_index_or l.cells (cell i j) d
+    ≡ cond ((nat_le l.x i && nat_lt i (l.x + l.width)) && (nat_le l.y j && nat_lt j l.row)) l.value
+    (slice_index_or l.fn.cells (cell i j) d)

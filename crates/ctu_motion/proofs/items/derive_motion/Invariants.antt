@@ -6,6 +6,8 @@ use Rattle.ctu_motion.proofs.items.derive_motion.Given as goal
 
 abbrev pub invariant-loop-k : goal.invariant-loop-k
 invariant-loop-k l = record {
-  places : All IsPlacedItem l.items → fold (item_derived l.slice (held_beneath l.fn.motion)) (held l.motion) (drop l.k l.items) ≡ fold (item_derived l.slice (held_beneath l.fn.motion)) (held l.fn.motion) l.items;
+  places : All IsPlacedItem l.items
+      → fold (item_derived l.slice (held_beneath l.fn.motion)) (held l.motion) (drop l.k l.items)
+      ≡ fold (item_derived l.slice (held_beneath l.fn.motion)) (held l.fn.motion) l.items;
   beneath : held_beneath l.motion ≡ held_beneath l.fn.motion;
 }

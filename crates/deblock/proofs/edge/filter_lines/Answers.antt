@@ -9,9 +9,11 @@ use Rattle.deblock.proofs.edge.filter_lines.Goals as goal
 
 pub write_line-requires-clause-inside : goal.write_line-requires-clause-inside
 write_line-requires-clause-inside c = λ k low high.
-    let lines : c.side-lines.result * c.args.s ≡ side c.args.pass.now.plane * c.args.s = rw c.side-lines.ensures.value refl in
+    let lines : c.side-lines.result * c.args.s ≡ side c.args.pass.now.plane * c.args.s =
+    rw c.side-lines.ensures.value refl in
     inside_holds c.args.pass.now.behind _ _ (c.requires.low k low) (c.requires.high k high)
-    (omega (arith, lines, c.requires.along.low)) (omega (arith, lines, c.side-lines.ensures.value, c.requires.along.high, c.loop-n-test.true))
+    (omega (arith, lines, c.requires.along.low))
+    (omega (arith, lines, c.side-lines.ensures.value, c.requires.along.high, c.loop-n-test.true))
 
 pub loop-n-init : goal.loop-n-init
 loop-n-init c = record {
@@ -21,10 +23,16 @@ loop-n-init c = record {
 
 pub loop-n-preserved : goal.loop-n-preserved
 loop-n-preserved c = record {
-  value = λ i j h. lines_more (c.side-lines.result * c.args.s) c.loop-n.n j (nat_le (8 * c.args.e - 4 + c.args.kernel.from) i && nat_lt i (8 * c.args.e - 4 + c.args.kernel.to))
-      (λ y. nth (filtered c.args.kernel.filter c.args.kernel.greatest c.args.kernel.tc (across (seen c.args.pass.now.before c.args.samples.now) (8 * c.args.e - 4) y)) (i - (8 * c.args.e - 4))) _ _ _
-      (rw (c.filtered-line.ensures.value, c.read_line-line.ensures.value) at (c.write_line.ensures.value i j h)) (c.loop-n.invariant.value i j h);
-  bounded = λ old. c.write_line.ensures.small c.args.kernel.greatest c.filtered-line.ensures.small (c.loop-n.invariant.bounded old);
+  value = λ i j h. lines_more (c.side-lines.result * c.args.s) c.loop-n.n j
+      (nat_le (8 * c.args.e - 4 + c.args.kernel.from) i && nat_lt i (8 * c.args.e - 4 + c.args.kernel.to))
+      (λ y. nth (filtered c.args.kernel.filter c.args.kernel.greatest c.args.kernel.tc
+      (across (seen c.args.pass.now.before c.args.samples.now) (8 * c.args.e - 4) y))
+      (i - (8 * c.args.e - 4)))
+      _ _ _
+      (rw (c.filtered-line.ensures.value, c.read_line-line.ensures.value) at (c.write_line.ensures.value i j h))
+      (c.loop-n.invariant.value i j h);
+  bounded = λ old. c.write_line.ensures.small c.args.kernel.greatest c.filtered-line.ensures.small
+      (c.loop-n.invariant.bounded old);
 }
 
 pub returns : goal.returns

@@ -10,8 +10,10 @@ use Rattle.deblock.proofs.edge.filter_place.Goals as goal
 
 pub read_line-tail-requires-clause-inside : goal.read_line-tail-requires-clause-inside
 read_line-tail-requires-clause-inside g c = λ k few.
-    let lines : c.side-lines.result * c.args.s ≡ side c.args.pass.now.plane * c.args.s = rw c.side-lines.ensures.value refl in
-    reads_inside c.args.pass.now c.args.e c.args.s k _ c.requires.pass c.requires.across c.requires.along c.requires.edge c.requires.within few
+    let lines : c.side-lines.result * c.args.s ≡ side c.args.pass.now.plane * c.args.s =
+    rw c.side-lines.ensures.value refl in
+    reads_inside c.args.pass.now c.args.e c.args.s k _ c.requires.pass c.requires.across c.requires.along
+    c.requires.edge c.requires.within few
     (omega (arith, lines)) (omega (arith, lines, c.side-lines.ensures.value, c.side-lines.ensures.least))
 
 pub edge_filter-requires-clause-first : goal.edge_filter-requires-clause-first
@@ -27,12 +29,17 @@ edge_filter-requires-clause-last g c =
 pub returns-clause-value : goal.returns-clause-value
 returns-clause-value g c = λ i j h.
     let at = inside_of c.args.pass.now.behind i j h in
-    place_laid c.args.pass.now.plane c.args.pass.now.bit_depth (placed c.args.pass.now.behind.turned (g.V.Places.place_at c.args.view.now)) (seen c.args.pass.now.before c.args.samples.now)
-    c.args.e c.args.s i j c.place-p.result c.args.q.now c.edge_filter.result c.greatest_sample.result c.tc.result c.first_laid.result c.end_laid.result
+    place_laid c.args.pass.now.plane c.args.pass.now.bit_depth
+    (placed c.args.pass.now.behind.turned (g.V.Places.place_at c.args.view.now))
+    (seen c.args.pass.now.before c.args.samples.now)
+    c.args.e c.args.s i j c.place-p.result c.args.q.now c.edge_filter.result c.greatest_sample.result c.tc.result
+    c.first_laid.result c.end_laid.result
     c.args.pass.now.behind.across_first c.args.pass.now.behind.across_end _ _
-    c.requires.edge at.across_first at.across_end c.requires.pass.first (end_whole c.args.pass.now.side c.args.pass.now.behind.across_end c.requires.pass.whole c.requires.pass.end)
+    c.requires.edge at.across_first at.across_end c.requires.pass.first
+    (end_whole c.args.pass.now.side c.args.pass.now.behind.across_end c.requires.pass.whole c.requires.pass.end)
     (rw c.side-lines.ensures.value at c.place-p.ensures) c.requires.place
-    (rw (c.read_line-head.ensures.value, c.read_line-tail.ensures.value, c.side-lines.ensures.value) at c.edge_filter.ensures)
+    (rw (c.read_line-head.ensures.value, c.read_line-tail.ensures.value, c.side-lines.ensures.value) at
+    c.edge_filter.ensures)
     c.greatest_sample.ensures.value c.tc.ensures.value c.first_laid.ensures.value c.end_laid.ensures.value
     (c.requires.same i j h) (c.filter_lines.ensures.value i j h)
 

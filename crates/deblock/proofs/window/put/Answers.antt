@@ -3,4 +3,6 @@ use Rattle.deblock.proofs.Flat.{put_seen, put_bounded}
 use Rattle.deblock.proofs.window.put.Goals as goal
 
 pub returns-clause-value : goal.returns-clause-value
-returns-clause-value c = put_seen c.args.w.now c.args.out.now c.args.a c.args.b c.args.value c.index.result c.index.ensures.value (omega arith) c.requires.inside
+returns-clause-value c =
+    put_seen c.args.w.now c.args.out.now c.args.a c.args.b c.args.value c.index.result c.index.ensures.value
+    (omega arith) c.requires.inside

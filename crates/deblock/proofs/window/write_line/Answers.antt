@@ -10,14 +10,17 @@ loop-k-init c = record {
 
 pub loop-k-preserved : goal.loop-k-preserved
 loop-k-preserved c = record {
-  value = λ i j h. line_more c.args.a c.args.b c.args.from c.loop-k.k i j c.args.line.now _ _ _ _ (omega arith) c.nth.ensures.value (c.put.ensures.value i j h) (c.loop-k.invariant.value i j h);
-  small = λ greatest line old. c.put.ensures.small greatest (c.nth.ensures.small greatest line) (c.loop-k.invariant.small greatest line old);
+  value = λ i j h. line_more c.args.a c.args.b c.args.from c.loop-k.k i j c.args.line.now _ _ _ _ (omega arith)
+      c.nth.ensures.value (c.put.ensures.value i j h) (c.loop-k.invariant.value i j h);
+  small = λ greatest line old. c.put.ensures.small greatest (c.nth.ensures.small greatest line)
+      (c.loop-k.invariant.small greatest line old);
 }
 
 pub returns : goal.returns
 returns c =
     let same : c.loop-k.k ≡ c.args.to = omega arith in
     record {
-      value = λ i j h. line_end c.args.a c.args.b c.args.from c.loop-k.k c.args.to i j _ _ _ same (c.loop-k.invariant.value i j h);
+      value = λ i j h. line_end c.args.a c.args.b c.args.from c.loop-k.k c.args.to i j _ _ _ same
+          (c.loop-k.invariant.value i j h);
       small = c.loop-k.invariant.small;
     }

@@ -7,6 +7,9 @@ use Rattle.deblock.proofs.window.write_line.Given as goal
 
 abbrev pub invariant-loop-k : goal.invariant-loop-k
 invariant-loop-k l = record {
-  value : (i j : ℕ) → holds l.w i j ≡ true → seen l.w l.out i j ≡ cond (j == l.b && (nat_le (l.a + l.from) i && nat_lt i (l.a + l.k))) (nth l.line (i - l.a)) (seen l.w l.fn.out i j);
+  value : (i j : ℕ) → holds l.w i j ≡ true
+      → seen l.w l.out i j
+      ≡ cond (j == l.b && (nat_le (l.a + l.from) i && nat_lt i (l.a + l.k))) (nth l.line (i - l.a))
+      (seen l.w l.fn.out i j);
   small : (greatest : ℕ) → AreSmall greatest l.line → IsBounded greatest l.fn.out → IsBounded greatest l.out;
 }

@@ -10,7 +10,9 @@ loop-place-init c =
     record {
       inside = omega (arith, e);
       room = omega (arith, e);
-      keeps = subst (λ (n : ℕ). Keeps c.args.places.now c.args.pictures.now n c.args.pictures.now) (sym e) (held-first c.args.places.now c.args.pictures.now);
+      keeps =
+          subst (λ (n : ℕ). Keeps c.args.places.now c.args.pictures.now n c.args.pictures.now) (sym e)
+          (held-first c.args.places.now c.args.pictures.now);
     }
 
 pub loop-place-preserved : goal.loop-place-preserved
@@ -19,7 +21,11 @@ loop-place-preserved c =
     record {
       inside = omega (arith, c.loop-place.invariant.inside);
       room = subst (λ (now : List HeldPicture). n - 1 ≤ length now) (sym c.judge_place.ensures)
-          (room-next c.loop-place.pictures n (is_among c.args.places.now (n - 1)) c.loop-place-test.true c.loop-place.invariant.room);
-      keeps = subst (λ (now : List HeldPicture). Keeps c.args.places.now c.args.pictures.now (n - 1) now) (sym c.judge_place.ensures)
-          (held-next c.args.places.now c.args.pictures.now c.loop-place.pictures n (is_among c.args.places.now (n - 1)) c.loop-place-test.true c.loop-place.invariant.inside refl c.loop-place.invariant.keeps);
+          (room-next c.loop-place.pictures n (is_among c.args.places.now (n - 1)) c.loop-place-test.true
+          c.loop-place.invariant.room);
+      keeps =
+          subst (λ (now : List HeldPicture). Keeps c.args.places.now c.args.pictures.now (n - 1) now)
+          (sym c.judge_place.ensures)
+          (held-next c.args.places.now c.args.pictures.now c.loop-place.pictures n (is_among c.args.places.now (n - 1))
+          c.loop-place-test.true c.loop-place.invariant.inside refl c.loop-place.invariant.keeps);
     }

@@ -8,4 +8,5 @@ use Rattle.decoder.proofs.buffer.write_places.Given as goal
 
 abbrev pub invariant-loop-place : goal.invariant-loop-place
 invariant-loop-place g l =
-    Leaves (change_of g.O.Sink.contents g.O.Sink.faults l.fn.out l.out) (out_at (buffer_of l.pictures) l.places) (out_at (buffer_of l.pictures) (drop l.place-index l.places))
+    Leaves (change_of g.O.Sink.contents g.O.Sink.faults l.fn.out l.out) (out_at (buffer_of l.pictures) l.places)
+    (out_at (buffer_of l.pictures) (drop l.place-index l.places))

@@ -7,28 +7,47 @@ use Rattle.decoder.proofs.stream.decode_bytes.Goals as goal
 
 pub units-init : goal.units-init
 units-init g c =
-    reached-first g.O.Sink.contents g.O.Sink.faults c.args.out.now c.in-Ok.framer c.in-Ok-new.decoder c.args.ended c.args.bytes.now c.args.options.ahead c.in-Ok.ensures c.in-Ok-new.ensures
+    reached-first g.O.Sink.contents g.O.Sink.faults c.args.out.now c.in-Ok.framer c.in-Ok-new.decoder c.args.ended
+    c.args.bytes.now c.args.options.ahead c.in-Ok.ensures c.in-Ok-new.ensures
 
 pub units-preserved : goal.units-preserved
 units-preserved g c =
-    reached-next g.O.Sink.contents g.O.Sink.faults c.args.out.now c.units.out c.take_unit.new.out c.units.framer c.take_unit.new.framer c.units.decoder c.take_unit.new.self c.args.ended c.args.bytes.now c.units.invariant
-    (subst (λ (x : Taken). Takes (change_of g.O.Sink.contents g.O.Sink.faults c.units.out c.take_unit.new.out) c.take_unit.new.framer c.units.decoder c.take_unit.new.self c.args.ended c.args.bytes.now c.units.invariant.later (Ok x)) c.in-Ok-Unit.field-0-is
-    (c.in-Ok-Unit.ensures c.args.ended c.args.bytes.now c.units.invariant.later c.units.invariant.tells c.units.invariant.going))
+    reached-next g.O.Sink.contents g.O.Sink.faults c.args.out.now c.units.out c.take_unit.new.out c.units.framer
+    c.take_unit.new.framer c.units.decoder c.take_unit.new.self c.args.ended c.args.bytes.now c.units.invariant
+    (subst (λ (x : Taken). Takes (change_of g.O.Sink.contents g.O.Sink.faults c.units.out c.take_unit.new.out)
+    c.take_unit.new.framer c.units.decoder c.take_unit.new.self c.args.ended c.args.bytes.now c.units.invariant.later
+    (Ok x))
+    c.in-Ok-Unit.field-0-is
+    (c.in-Ok-Unit.ensures c.args.ended c.args.bytes.now c.units.invariant.later c.units.invariant.tells
+    c.units.invariant.going))
 
 pub units-smaller : goal.units-smaller
 units-smaller g c =
-    reached-less g.O.Sink.contents g.O.Sink.faults c.args.out.now c.units.out c.take_unit.new.out c.units.framer c.take_unit.new.framer c.units.decoder c.take_unit.new.self c.args.ended c.args.bytes.now c.units.invariant
-    (subst (λ (x : Taken). Takes (change_of g.O.Sink.contents g.O.Sink.faults c.units.out c.take_unit.new.out) c.take_unit.new.framer c.units.decoder c.take_unit.new.self c.args.ended c.args.bytes.now c.units.invariant.later (Ok x)) c.in-Ok-Unit.field-0-is
-    (c.in-Ok-Unit.ensures c.args.ended c.args.bytes.now c.units.invariant.later c.units.invariant.tells c.units.invariant.going))
+    reached-less g.O.Sink.contents g.O.Sink.faults c.args.out.now c.units.out c.take_unit.new.out c.units.framer
+    c.take_unit.new.framer c.units.decoder c.take_unit.new.self c.args.ended c.args.bytes.now c.units.invariant
+    (subst (λ (x : Taken). Takes (change_of g.O.Sink.contents g.O.Sink.faults c.units.out c.take_unit.new.out)
+    c.take_unit.new.framer c.units.decoder c.take_unit.new.self c.args.ended c.args.bytes.now c.units.invariant.later
+    (Ok x))
+    c.in-Ok-Unit.field-0-is
+    (c.in-Ok-Unit.ensures c.args.ended c.args.bytes.now c.units.invariant.later c.units.invariant.tells
+    c.units.invariant.going))
 
 pub returns-in-Ok-Last : goal.returns-in-Ok-Last
 returns-in-Ok-Last g c =
-    reached-last g.O.Sink.contents g.O.Sink.faults c.args.out.now c.units.out c.take_unit.new.out c.write_rest.new.out c.units.framer c.units.decoder c.take_unit.new.self c.args.ended c.args.bytes.now c.write_rest.result c.units.invariant
-    (subst (λ (x : Taken). Takes (change_of g.O.Sink.contents g.O.Sink.faults c.units.out c.take_unit.new.out) c.take_unit.new.framer c.units.decoder c.take_unit.new.self c.args.ended c.args.bytes.now c.units.invariant.later (Ok x)) c.in-Ok-Last.field-0-is
-    (c.in-Ok-Last.ensures c.args.ended c.args.bytes.now c.units.invariant.later c.units.invariant.tells c.units.invariant.going))
+    reached-last g.O.Sink.contents g.O.Sink.faults c.args.out.now c.units.out c.take_unit.new.out c.write_rest.new.out
+    c.units.framer c.units.decoder c.take_unit.new.self c.args.ended c.args.bytes.now
+    c.write_rest.result c.units.invariant
+    (subst (λ (x : Taken). Takes (change_of g.O.Sink.contents g.O.Sink.faults c.units.out c.take_unit.new.out)
+    c.take_unit.new.framer c.units.decoder c.take_unit.new.self c.args.ended c.args.bytes.now c.units.invariant.later
+    (Ok x))
+    c.in-Ok-Last.field-0-is
+    (c.in-Ok-Last.ensures c.args.ended c.args.bytes.now c.units.invariant.later c.units.invariant.tells
+    c.units.invariant.going))
     c.write_rest.ensures
 
 pub returns-in-Err : goal.returns-in-Err
 returns-in-Err g c =
-    reached-over g.O.Sink.contents g.O.Sink.faults c.args.out.now c.units.out c.take_unit.new.out c.units.framer c.units.decoder c.args.ended c.args.bytes.now c.in-Err.outcome c.units.invariant
-    (c.in-Err.ensures c.args.ended c.args.bytes.now c.units.invariant.later c.units.invariant.tells c.units.invariant.going)
+    reached-over g.O.Sink.contents g.O.Sink.faults c.args.out.now c.units.out c.take_unit.new.out c.units.framer
+    c.units.decoder c.args.ended c.args.bytes.now c.in-Err.outcome c.units.invariant
+    (c.in-Err.ensures c.args.ended c.args.bytes.now c.units.invariant.later c.units.invariant.tells
+    c.units.invariant.going)

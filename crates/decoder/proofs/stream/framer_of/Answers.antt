@@ -7,8 +7,11 @@ use Rattle.decoder.proofs.stream.framer_of.Goals.{then-ended, else-ended}
 pub returns : goal.returns
 returns c =
     elim c.if-ended.branch [
-      | then-ended w ↦ first-tells c.if-ended.framer w.finish.new.self c.args.ended true c.args.bytes.now w.framer-is w.if-ended.true
-          (w.finish.ensures.value (with_piece nothing c.args.bytes.now) (c.in_ok-feed.ensures.ok nothing c.in_ok-framer.ensures))
-      | else-ended w ↦ first-tells c.if-ended.framer c.feed.new.self c.args.ended false c.args.bytes.now w.framer-is w.if-ended.false
+      | then-ended w ↦
+          first-tells c.if-ended.framer w.finish.new.self c.args.ended true c.args.bytes.now w.framer-is w.if-ended.true
+          (w.finish.ensures.value (with_piece nothing c.args.bytes.now)
+          (c.in_ok-feed.ensures.ok nothing c.in_ok-framer.ensures))
+      | else-ended w ↦
+          first-tells c.if-ended.framer c.feed.new.self c.args.ended false c.args.bytes.now w.framer-is w.if-ended.false
           (c.in_ok-feed.ensures.ok nothing c.in_ok-framer.ensures)
     ]

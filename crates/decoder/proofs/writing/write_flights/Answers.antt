@@ -8,12 +8,17 @@ use Rattle.decoder.proofs.writing.write_flights.Goals as goal
 
 pub loop-flight-preserved : goal.loop-flight-preserved
 loop-flight-preserved g c =
-    passes-flight g.O.Sink.contents g.O.Sink.faults c.args.out.now c.loop-flight.out c.write_pictures.new.out (pictures_of c.args.flights) c.loop-flight.left c.next.new.self c.in-Some.flight c.as_slice.result.now
-    (buffer_of c.args.buffer.now) (buffer_of c.loop-flight.buffer) (buffer_of c.write_pictures.new.buffer) c.in-Some.ensures.value c.as_slice.ensures c.loop-flight.invariant c.in_ok-write_pictures.ensures
+    passes-flight g.O.Sink.contents g.O.Sink.faults c.args.out.now c.loop-flight.out c.write_pictures.new.out
+    (pictures_of c.args.flights) c.loop-flight.left c.next.new.self c.in-Some.flight c.as_slice.result.now
+    (buffer_of c.args.buffer.now) (buffer_of c.loop-flight.buffer) (buffer_of c.write_pictures.new.buffer)
+    c.in-Some.ensures.value c.as_slice.ensures c.loop-flight.invariant c.in_ok-write_pictures.ensures
 
 pub returns-in_err-write_pictures : goal.returns-in_err-write_pictures
 returns-in_err-write_pictures g c =
-    subst (WritesFirst (change_of g.O.Sink.contents g.O.Sink.faults c.args.out.now c.write_pictures.new.out) (pictures_of c.args.flights) (buffer_of c.args.buffer.now) (buffer_of c.write_pictures.new.buffer))
+    subst (WritesFirst (change_of g.O.Sink.contents g.O.Sink.faults c.args.out.now c.write_pictures.new.out)
+    (pictures_of c.args.flights) (buffer_of c.args.buffer.now) (buffer_of c.write_pictures.new.buffer))
     (sym (exit-is c.from_residual.result c.in_err-write_pictures.field-0.0 c.from_residual.ensures.1))
-    (over-flight g.O.Sink.contents g.O.Sink.faults c.args.out.now c.loop-flight.out c.write_pictures.new.out (pictures_of c.args.flights) c.loop-flight.left c.next.new.self c.in-Some.flight c.as_slice.result.now (buffer_of c.args.buffer.now) (buffer_of c.loop-flight.buffer) c.in_err-write_pictures.field-0.0
+    (over-flight g.O.Sink.contents g.O.Sink.faults c.args.out.now c.loop-flight.out c.write_pictures.new.out
+    (pictures_of c.args.flights) c.loop-flight.left c.next.new.self c.in-Some.flight c.as_slice.result.now
+    (buffer_of c.args.buffer.now) (buffer_of c.loop-flight.buffer) c.in_err-write_pictures.field-0.0
     c.in-Some.ensures.value c.as_slice.ensures c.loop-flight.invariant c.in_err-write_pictures.ensures)

@@ -7,7 +7,9 @@ use Rattle.decoder.specs.Writing.{Passes}
 use Rattle.decoder.proofs.writing.write_flights.Given as goal
 
 abbrev pub invariant-loop-flight : goal.invariant-loop-flight
-invariant-loop-flight g l = Passes (change_of g.O.Sink.contents g.O.Sink.faults l.fn.out l.out) (pictures_of l.fn.flights) (buffer_of l.fn.buffer) (pictures_of l.left) (buffer_of l.buffer)
+invariant-loop-flight g l =
+    Passes (change_of g.O.Sink.contents g.O.Sink.faults l.fn.out l.out) (pictures_of l.fn.flights)
+    (buffer_of l.fn.buffer) (pictures_of l.left) (buffer_of l.buffer)
 
 abbrev pub decreases-loop-flight : goal.decreases-loop-flight
 decreases-loop-flight g l = length l.left

@@ -7,12 +7,17 @@ use Rattle.decoder.proofs.writing.write_pictures.Goals as goal
 
 pub loop-picture-preserved : goal.loop-picture-preserved
 loop-picture-preserved g c =
-    passes-one g.O.Sink.contents g.O.Sink.faults c.args.out.now c.loop-picture.out c.write_picture.new.out c.args.pictures.now (buffer_of c.args.buffer.now) (buffer_of c.loop-picture.buffer) (buffer_of c.write_picture.new.buffer) c.loop-picture.picture-index c.picture-item.result
+    passes-one g.O.Sink.contents g.O.Sink.faults c.args.out.now c.loop-picture.out c.write_picture.new.out
+    c.args.pictures.now (buffer_of c.args.buffer.now) (buffer_of c.loop-picture.buffer)
+    (buffer_of c.write_picture.new.buffer) c.loop-picture.picture-index c.picture-item.result
     c.loop-picture-test.true c.picture-item.is c.loop-picture.invariant c.in_ok-write_picture.ensures
 
 pub returns-in_err-write_picture : goal.returns-in_err-write_picture
 returns-in_err-write_picture g c =
-    subst (WritesFirst (change_of g.O.Sink.contents g.O.Sink.faults c.args.out.now c.write_picture.new.out) c.args.pictures.now (buffer_of c.args.buffer.now) (buffer_of c.write_picture.new.buffer))
+    subst (WritesFirst (change_of g.O.Sink.contents g.O.Sink.faults c.args.out.now c.write_picture.new.out)
+    c.args.pictures.now (buffer_of c.args.buffer.now) (buffer_of c.write_picture.new.buffer))
     (sym (exit-is c.from_residual.result c.in_err-write_picture.field-0.0 c.from_residual.ensures.1))
-    (over-one g.O.Sink.contents g.O.Sink.faults c.args.out.now c.loop-picture.out c.write_picture.new.out c.args.pictures.now (buffer_of c.args.buffer.now) (buffer_of c.loop-picture.buffer) c.loop-picture.picture-index c.picture-item.result c.in_err-write_picture.field-0.0
+    (over-one g.O.Sink.contents g.O.Sink.faults c.args.out.now c.loop-picture.out c.write_picture.new.out
+    c.args.pictures.now (buffer_of c.args.buffer.now) (buffer_of c.loop-picture.buffer) c.loop-picture.picture-index
+    c.picture-item.result c.in_err-write_picture.field-0.0
     c.loop-picture-test.true c.picture-item.is c.loop-picture.invariant c.in_err-write_picture.ensures)

@@ -6,4 +6,6 @@ use Rattle.decoder.specs.Writing.{Passes}
 use Rattle.decoder.proofs.writing.write_pictures.Given as goal
 
 abbrev pub invariant-loop-picture : goal.invariant-loop-picture
-invariant-loop-picture g l = Passes (change_of g.O.Sink.contents g.O.Sink.faults l.fn.out l.out) l.pictures (buffer_of l.fn.buffer) (drop l.picture-index l.pictures) (buffer_of l.buffer)
+invariant-loop-picture g l =
+    Passes (change_of g.O.Sink.contents g.O.Sink.faults l.fn.out l.out) l.pictures (buffer_of l.fn.buffer)
+    (drop l.picture-index l.pictures) (buffer_of l.buffer)

@@ -10,6 +10,9 @@ returns g c x y m n =
     let left : SFits w32 c.args.first.x = search rules in
     let top : SFits w32 c.args.first.y = search rules in
     c.columns_at.ensures x y m n
-    ∙ joined (g.V.RefWindow.reference_at c.args.view.now c.args.first.picture c.args.first.component) g.row.TAPS c.args.fractions.across c.args.fractions.down c.args.depth c.args.first.x c.args.first.y _ _ c.args.first.width c.args.first.height x y
+    ∙ joined (g.V.RefWindow.reference_at c.args.view.now c.args.first.picture c.args.first.component) g.row.TAPS
+    c.args.fractions.across c.args.fractions.down c.args.depth c.args.first.x c.args.first.y _ _ c.args.first.width
+    c.args.first.height x y
     (omega arith) c.requires.depth m n
-    (λ i j p q. let t = c.gather.ensures.value i j (omega arith) (omega arith) in grind (arith, to_z-of_z, t)) (λ i j p q. c.lines_at.ensures i j p (omega arith))
+    (λ i j p q. let t = c.gather.ensures.value i j (omega arith) (omega arith) in grind (arith, to_z-of_z, t))
+    (λ i j p q. c.lines_at.ensures i j p (omega arith))

@@ -5,5 +5,7 @@ use Rattle.inter_pred.proofs.between.whole.Goals as goal
 
 pub returns : goal.returns
 returns g c x y m n =
-    whole_joined (g.V.RefWindow.reference_at c.args.view.now c.args.first.picture c.args.first.component) g.row.TAPS c.args.depth x y _ c.args.first.x c.args.first.y _ _ _
-    c.requires.taps c.requires.depth (omega (arith, ints)) (omega (arith, ints)) (c.gather.ensures.value x y m n) (c.copy.ensures x y m n)
+    whole_joined (g.V.RefWindow.reference_at c.args.view.now c.args.first.picture c.args.first.component) g.row.TAPS
+    c.args.depth x y _ c.args.first.x c.args.first.y _ _ _
+    c.requires.taps c.requires.depth (omega (arith, ints)) (omega (arith, ints)) (c.gather.ensures.value x y m n)
+    (c.copy.ensures x y m n)

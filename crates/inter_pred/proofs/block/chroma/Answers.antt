@@ -11,6 +11,8 @@ returns g c x y m n =
     let below : SFits w16 c.args.mv.y = search rules in
     let left : SFits w32 c.chroma_first.result = search rules in
     let top : SFits w32 c.chroma_first-2.result = search rules in
-    chroma_joined (g.V.RefWindow.reference_at c.args.view.now c.args.picture c.args.component) c.args.depth c.args.block.x c.args.block.y x y _ _ c.args.mv.x c.args.mv.y _ _ _
+    chroma_joined (g.V.RefWindow.reference_at c.args.view.now c.args.picture c.args.component) c.args.depth
+    c.args.block.x c.args.block.y x y _ _ c.args.mv.x c.args.mv.y _ _ _
     (grind (arith, to_z-of_z, c.eighth.ensures.value)) (grind (arith, to_z-of_z, c.eighth-2.ensures.value))
-    (grind (arith, to_z-of_z, c.chroma_first.ensures.value)) (grind (arith, to_z-of_z, c.chroma_first-2.ensures.value)) (c.interpolate.ensures x y m n)
+    (grind (arith, to_z-of_z, c.chroma_first.ensures.value)) (grind (arith, to_z-of_z, c.chroma_first-2.ensures.value))
+    (c.interpolate.ensures x y m n)

@@ -5,6 +5,8 @@ use Rattle.inter_pred.proofs.down.line.Given as goal
 
 abbrev pub invariant-loop-k : goal.invariant-loop-k
 invariant-loop-k g l = record {
-  value : (q : ℕ) → at_z l.out q ≡ cond (nat_le l.from q && nat_lt q (l.from + l.k)) (down g.row.TAPS g.row.Q l.middle q) (at_z l.fn.out q);
+  value : (q : ℕ)
+      → at_z l.out q
+      ≡ cond (nat_le l.from q && nat_lt q (l.from + l.k)) (down g.row.TAPS g.row.Q l.middle q) (at_z l.fn.out q);
   small : All IsSmall l.out;
 }

@@ -10,4 +10,9 @@ pub returns-then-x-out : goal.returns-then-x-out
 returns-then-x-out c k lt =
     let f : SFits w32 c.args.x = search rules in
     let e : c.args.x ≡ pos (unsigned_abs c.args.x) = omega (arith, ints) in
-    rw e (grind (arith, to_z-of_z, c.copy_line.ensures k lt, clamped_inside (unsigned_abs c.args.x) k (length c.args.line.now)))
+    rw e (grind (
+      arith,
+      to_z-of_z,
+      c.copy_line.ensures k lt,
+      clamped_inside (unsigned_abs c.args.x) k (length c.args.line.now),
+    ))

@@ -16,4 +16,13 @@ returns c =
     let fr : SFits w32 c.rounded.result = search rules in
     let ft : SFits w32 c.offset.result = search rules in
     let fm : SFits w32 c.moved.result = search rules in
-    grind (arith, to_z-of_z, c.clip1.ensures, c.moved.ensures, c.rounded.ensures.value, c.offset.ensures.value, c.product-weighted.ensures.value, c.from.ensures)
+    grind (
+      arith,
+      to_z-of_z,
+      c.clip1.ensures,
+      c.moved.ensures,
+      c.rounded.ensures.value,
+      c.offset.ensures.value,
+      c.product-weighted.ensures.value,
+      c.from.ensures,
+    )

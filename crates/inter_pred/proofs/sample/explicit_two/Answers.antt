@@ -17,4 +17,15 @@ returns c =
     let fb : SFits w32 c.bias.result = search rules in
     let ft : SFits w32 c.total-sum.result = search rules in
     let fs : SFits w32 c.shifted.result = search rules in
-    grind (arith, to_z-of_z, c.clip1.ensures, c.shifted.ensures.value, c.total-sum.ensures.value, c.bias.ensures.value, c.product-first.ensures.value, c.product-second.ensures.value, c.from.ensures, c.from-2.ensures)
+    grind (
+      arith,
+      to_z-of_z,
+      c.clip1.ensures,
+      c.shifted.ensures.value,
+      c.total-sum.ensures.value,
+      c.bias.ensures.value,
+      c.product-first.ensures.value,
+      c.product-second.ensures.value,
+      c.from.ensures,
+      c.from-2.ensures,
+    )

@@ -5,18 +5,22 @@ use Rattle.inter_pred.proofs.Products.{product_is, product_within}
 use Rattle.inter_pred.proofs.sample.stepped.Goals as goal
 
 pub returns-clause-value : goal.returns-clause-value
-returns-clause-value c = product_is c.args.offset c.args.step 128 64 (omega (arith, ints)) (omega (arith, ints)) (omega arith) (omega (arith, ints)) (omega (arith, ints))
+returns-clause-value c =
+    product_is c.args.offset c.args.step 128 64 (omega (arith, ints)) (omega (arith, ints)) (omega arith)
+    (omega (arith, ints)) (omega (arith, ints))
 
 pub returns-clause-low : goal.returns-clause-low
 returns-clause-low c =
     let p : unsigned_abs c.args.offset ≤ 128 = omega (arith, ints) in
     let q : unsigned_abs c.args.step ≤ 64 = omega (arith, ints) in
     let w = product_within c.args.offset c.args.step 128 64 p q in
-    rw (product_is c.args.offset c.args.step 128 64 p q (omega arith) (omega (arith, ints)) (omega (arith, ints))) (omega (arith, ints, w))
+    rw (product_is c.args.offset c.args.step 128 64 p q (omega arith) (omega (arith, ints)) (omega (arith, ints)))
+    (omega (arith, ints, w))
 
 pub returns-clause-high : goal.returns-clause-high
 returns-clause-high c =
     let p : unsigned_abs c.args.offset ≤ 128 = omega (arith, ints) in
     let q : unsigned_abs c.args.step ≤ 64 = omega (arith, ints) in
     let w = product_within c.args.offset c.args.step 128 64 p q in
-    rw (product_is c.args.offset c.args.step 128 64 p q (omega arith) (omega (arith, ints)) (omega (arith, ints))) (omega (arith, ints, w))
+    rw (product_is c.args.offset c.args.step 128 64 p q (omega arith) (omega (arith, ints)) (omega (arith, ints)))
+    (omega (arith, ints, w))

@@ -21,4 +21,5 @@ pub returns-in-6-clause-value : goal.returns-in-6-clause-value
 returns-in-6-clause-value g c = rw (c.in-6.is) (chroma_6 c.args.base c.args.a c.args.b c.args.c c.args.d (omega arith))
 
 pub returns-in_default-clause-value : goal.returns-in_default-clause-value
-returns-in_default-clause-value g c = chroma_7 g.row.Q c.args.base c.args.a c.args.b c.args.c c.args.d (omega arith) (omega arith)
+returns-in_default-clause-value g c =
+    chroma_7 g.row.Q c.args.base c.args.a c.args.b c.args.c c.args.d (omega arith) (omega arith)

@@ -4,4 +4,7 @@ use Rattle.inter_pred.specs.Samples.{sample}
 use Rattle.inter_pred.proofs.weighting.line.Given as goal
 
 abbrev pub invariant-loop-k : goal.invariant-loop-k
-invariant-loop-k g l = (i : ℕ) → at l.out i ≡ cond (nat_le l.from i && nat_lt i (l.from + l.k)) (sample g.row.KIND l.scale.depth l.scale.log2_wd l.scale.first l.scale.second (at_z l.p i) (at_z l.q i)) (at l.fn.out i)
+invariant-loop-k g l = (i : ℕ) → at l.out i
+    ≡ cond (nat_le l.from i && nat_lt i (l.from + l.k))
+    (sample g.row.KIND l.scale.depth l.scale.log2_wd l.scale.first l.scale.second (at_z l.p i) (at_z l.q i))
+    (at l.fn.out i)

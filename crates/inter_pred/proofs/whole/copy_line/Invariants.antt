@@ -5,6 +5,8 @@ use Rattle.inter_pred.proofs.whole.copy_line.Given as goal
 
 abbrev pub invariant-loop-k : goal.invariant-loop-k
 invariant-loop-k l = record {
-  value : (q : ℕ) → at_z l.out q ≡ cond (nat_le l.to q && nat_lt q (l.to + l.k)) (pos (at l.window (l.from + (q - l.to)))) (at_z l.fn.out q);
+  value : (q : ℕ)
+      → at_z l.out q
+      ≡ cond (nat_le l.to q && nat_lt q (l.to + l.k)) (pos (at l.window (l.from + (q - l.to)))) (at_z l.fn.out q);
   small : All IsSmall l.out;
 }

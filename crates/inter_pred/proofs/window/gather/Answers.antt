@@ -7,10 +7,14 @@ use Rattle.inter_pred.proofs.window.gather.Goals as goal
 
 pub loop-j-preserved : goal.loop-j-preserved
 loop-j-preserved g c =
-    let e : to_z w32 (of_z w32 (to_z w32 (of_z w32 c.args.from.y) +ℤ to_z w32 c.loop-j.j)) ≡ to_z w32 (of_z w32 c.args.from.y) +ℤ pos c.loop-j.j = omega (arith, ints) in
+    let e : to_z w32 (of_z w32 (to_z w32 (of_z w32 c.args.from.y) +ℤ to_z w32 c.loop-j.j))
+    ≡ to_z w32 (of_z w32 c.args.from.y) +ℤ pos c.loop-j.j = omega (arith, ints) in
     record {
       value = λ i j h k. line_laid c.args.from.width c.loop-j.j i j c.loop-j.window c.lay_line.new.window
-          (λ i j. 2 ^ (14 - c.args.depth) * g.V.RefWindow.reference_at c.args.view.now c.args.from.picture c.args.from.component (c.args.from.x +ℤ pos i) (c.args.from.y +ℤ pos j))
-          h (omega arith) k (λ q. let t = c.lay_line.ensures.value q in grind (arith, to_z-of_z, e, t)) c.loop-j.invariant.value;
+          (λ i j. 2 ^ (14 - c.args.depth)
+          * g.V.RefWindow.reference_at c.args.view.now c.args.from.picture c.args.from.component
+          (c.args.from.x +ℤ pos i) (c.args.from.y +ℤ pos j))
+          h (omega arith) k (λ q. let t = c.lay_line.ensures.value q in grind (arith, to_z-of_z, e, t))
+          c.loop-j.invariant.value;
       raised = c.lay_line.ensures.raised;
     }

@@ -5,6 +5,9 @@ use Rattle.inter_pred.proofs.window.gather.Given as goal
 
 abbrev pub invariant-loop-j : goal.invariant-loop-j
 invariant-loop-j g l = record {
-  value : (i j : ℕ) → i < l.from.width → j < l.j → at l.window (72 * j + i) ≡ 2 ^ (14 - l.depth) * g.V.RefWindow.reference_at l.view l.from.picture l.from.component (l.from.x +ℤ pos i) (l.from.y +ℤ pos j);
+  value : (i j : ℕ) → i < l.from.width → j < l.j
+      → at l.window (72 * j + i)
+      ≡ 2 ^ (14 - l.depth)
+      * g.V.RefWindow.reference_at l.view l.from.picture l.from.component (l.from.x +ℤ pos i) (l.from.y +ℤ pos j);
   raised : All IsRaised l.window;
 }

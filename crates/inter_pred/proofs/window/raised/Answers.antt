@@ -5,4 +5,6 @@ pub returns-clause-value : goal.returns-clause-value
 returns-clause-value c = raised_is c.args.depth c.args.sample c.requires.depth c.requires.small
 
 pub returns-clause-high : goal.returns-clause-high
-returns-clause-high c = rw (raised_is c.args.depth c.args.sample c.requires.depth c.requires.small) (raised_high c.args.depth c.args.sample c.requires.depth c.requires.small)
+returns-clause-high c =
+    rw (raised_is c.args.depth c.args.sample c.requires.depth c.requires.small)
+    (raised_high c.args.depth c.args.sample c.requires.depth c.requires.small)

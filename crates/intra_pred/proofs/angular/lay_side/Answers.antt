@@ -23,9 +23,12 @@ loop-j-preserved c =
     let room : c.args.n ≤ length c.loop-j.reference = omega (arith, c.loop-j.auto, c.requires.n) in
     record {
       few = omega (arith, c.loop-j-test.true);
-      told = side_more c.args.n c.loop-j.j _ c.args.inverse c.args.side.now c.args.reference.now c.loop-j.reference some below room (ap (at c.args.side.now) c.side_place.ensures) c.loop-j.invariant.told;
+      told =
+          side_more c.args.n c.loop-j.j _ c.args.inverse c.args.side.now c.args.reference.now c.loop-j.reference some
+          below room (ap (at c.args.side.now) c.side_place.ensures) c.loop-j.invariant.told;
     }
 
 pub returns : goal.returns
 returns c =
-    side_end c.args.n c.loop-j.j (c.args.n * c.args.size) c.args.inverse c.args.side.now c.args.reference.now c.loop-j.reference c.loop-j.auto.j c.loop-j-test.false c.loop-j.invariant.few c.loop-j.invariant.told
+    side_end c.args.n c.loop-j.j (c.args.n * c.args.size) c.args.inverse c.args.side.now c.args.reference.now
+    c.loop-j.reference c.loop-j.auto.j c.loop-j-test.false c.loop-j.invariant.few c.loop-j.invariant.told

@@ -5,4 +5,7 @@ use Rattle.intra_pred.proofs.angular.met_line.Given as goal
 
 abbrev pub invariant-loop-x : goal.invariant-loop-x
 invariant-loop-x l = (q : ℕ) → at l.out q
-    ≡ cond (nat_le l.first q && nat_lt q (l.first + l.x)) (between (l.place % 32) (at l.reference (l.place / 32 + (q - l.first) + 1)) (at l.reference (l.place / 32 + (q - l.first) + 2))) (at l.fn.out q)
+    ≡ cond (nat_le l.first q && nat_lt q (l.first + l.x))
+    (between (l.place % 32) (at l.reference (l.place / 32 + (q - l.first) + 1))
+    (at l.reference (l.place / 32 + (q - l.first) + 2)))
+    (at l.fn.out q)

@@ -7,5 +7,6 @@ pub returns : goal.returns
 unfolding beside
 returns g c =
     let room : 4 * c.args.n + 1 ≤ length c.above.offered = omega (arith, c.above.invariant.count, c.requires.n) in
-    taken c.above.offered (4 * c.args.n + 1) None (known_beside (g.V.Border.known c.args.view.now c.args.c) c.args.n c.args.x c.args.y) room
+    taken c.above.offered (4 * c.args.n + 1) None
+    (known_beside (g.V.Border.known c.args.view.now c.args.c) c.args.n c.args.x c.args.y) room
     (λ k h. c.above.invariant.told k (omega (arith, c.above-test.false)))

@@ -7,6 +7,10 @@ pub loop-y-preserved : goal.loop-y-preserved
 loop-y-preserved c =
     let f = λ (i j : ℕ). planar c.args.log2 c.args.edge.now i j in
     record {
-      told = line_more c.columns-n.result c.loop-y.y c.planar_line.new.out c.loop-y.out f c.planar_line.ensures c.loop-y.invariant.told;
-      rest = line_rest c.columns-n.result c.loop-y.y c.planar_line.new.out c.loop-y.out c.args.out.now f c.loop-y-test.true c.planar_line.ensures c.loop-y.invariant.rest;
+      told =
+          line_more c.columns-n.result c.loop-y.y c.planar_line.new.out c.loop-y.out f c.planar_line.ensures
+          c.loop-y.invariant.told;
+      rest =
+          line_rest c.columns-n.result c.loop-y.y c.planar_line.new.out c.loop-y.out c.args.out.now f c.loop-y-test.true
+          c.planar_line.ensures c.loop-y.invariant.rest;
     }

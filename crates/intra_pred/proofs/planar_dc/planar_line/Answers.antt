@@ -9,6 +9,7 @@ loop-x-preserved c =
     let is : c.mean_of.result ≡ planar c.args.log2 c.args.edge.now c.loop-x.x c.args.y =
     rw (c.mean_of.ensures, c.part_way-across.ensures.value, c.part_way-down.ensures.value)
     (planar_is c.args.log2 c.args.n c.loop-x.x c.args.y c.args.edge.now c.requires.n) in
-    let room : c.args.n * c.args.y + c.loop-x.x < length c.loop-x.out = omega (arith, c.requires.out, c.loop-x.auto.out, c.loop-x-test.true) in
+    let room : c.args.n * c.args.y + c.loop-x.x < length c.loop-x.out =
+    omega (arith, c.requires.out, c.loop-x.auto.out, c.loop-x-test.true) in
     one_more (c.args.n * c.args.y) c.loop-x.x c.mean_of.result c.args.out.now c.loop-x.out
     (λ x. planar c.args.log2 c.args.edge.now x c.args.y) room is c.loop-x.invariant

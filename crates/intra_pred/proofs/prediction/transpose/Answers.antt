@@ -7,6 +7,10 @@ pub loop-y-preserved : goal.loop-y-preserved
 loop-y-preserved c =
     let f = λ (i j : ℕ). at c.args.turned.now (c.args.n * i + j) in
     record {
-      told = line_more c.args.n c.loop-y.y c.transpose_line.new.out c.loop-y.out f c.transpose_line.ensures c.loop-y.invariant.told;
-      rest = line_rest c.args.n c.loop-y.y c.transpose_line.new.out c.loop-y.out c.args.out.now f c.loop-y-test.true c.transpose_line.ensures c.loop-y.invariant.rest;
+      told =
+          line_more c.args.n c.loop-y.y c.transpose_line.new.out c.loop-y.out f c.transpose_line.ensures
+          c.loop-y.invariant.told;
+      rest =
+          line_rest c.args.n c.loop-y.y c.transpose_line.new.out c.loop-y.out c.args.out.now f c.loop-y-test.true
+          c.transpose_line.ensures c.loop-y.invariant.rest;
     }

@@ -9,6 +9,8 @@ pub returns : goal.returns
 unfolding smoothed
 returns c =
     let e = c.args.edge.now in
-    let room : length e ≤ length (slice_set c.loop-k.smooth (length e - 1) (slice_index_or e (length e - 1) 0)) = grind (arith, common_steps, c.loop-k.invariant.count, c.requires.few) in
+    let room : length e ≤ length (slice_set c.loop-k.smooth (length e - 1) (slice_index_or e (length e - 1) 0)) =
+    grind (arith, common_steps, c.loop-k.invariant.count, c.requires.few) in
     taken _ (length e) 0 (smoothed_at e) room
-    (λ k h. end_stays e c.loop-k.smooth c.loop-k.k k c.requires.some c.requires.few c.loop-k.invariant.count c.loop-k-test.false c.loop-k.invariant.told h)
+    (λ k h. end_stays e c.loop-k.smooth c.loop-k.k k c.requires.some c.requires.few c.loop-k.invariant.count
+    c.loop-k-test.false c.loop-k.invariant.told h)

@@ -8,10 +8,14 @@ pub returns-in-1-clause-component : goal.returns-in-1-clause-component
 returns-in-1-clause-component c =
     let e : c.args.c ≡ 1 = search rules in
     let q = to_z-of_z w8 c.args.format.now.pps_cb_qp_offset (search rules) in
-    subst (λ r. IsComponent c.args.format.now r) (sym (c.halved.ensures ∙ ap (λ q. halved c.args.format.now (luma_of c.args.format.now c.args.c) q) q)) (cb_is c.args.format.now c.args.c e c.requires.format)
+    subst (λ r. IsComponent c.args.format.now r)
+    (sym (c.halved.ensures ∙ ap (λ q. halved c.args.format.now (luma_of c.args.format.now c.args.c) q) q))
+    (cb_is c.args.format.now c.args.c e c.requires.format)
 
 pub returns-in_default-clause-component : goal.returns-in_default-clause-component
 returns-in_default-clause-component c =
     let e : c.args.c ≡ 2 = search rules in
     let q = to_z-of_z w8 c.args.format.now.pps_cr_qp_offset (search rules) in
-    subst (λ r. IsComponent c.args.format.now r) (sym (c.halved-in_default.ensures ∙ ap (λ q. halved c.args.format.now (luma_of c.args.format.now c.args.c) q) q)) (cr_is c.args.format.now c.args.c e c.requires.format)
+    subst (λ r. IsComponent c.args.format.now r)
+    (sym (c.halved-in_default.ensures ∙ ap (λ q. halved c.args.format.now (luma_of c.args.format.now c.args.c) q) q))
+    (cr_is c.args.format.now c.args.c e c.requires.format)

@@ -14,6 +14,8 @@ loop-line-preserved c =
       width = width_is _ c.args.format.now c.args.component.now c.requires.format sides;
       height = height_is _ c.args.format.now c.args.component.now c.requires.format sides;
       sides = sides;
-      told = lines_more c.args.component.now.c c.args.component.now.width c.args.top c.loop-line.line _ _ c.args.samples.now (samples_of c.args.planes.now) _ _
+      told =
+          lines_more c.args.component.now.c c.args.component.now.width c.args.top c.loop-line.line _ _
+          c.args.samples.now (samples_of c.args.planes.now) _ _
           (omega arith) refl (omega (arith, room, c.requires.room)) c.loop-line.invariant.told c.lay.ensures.samples;
     }

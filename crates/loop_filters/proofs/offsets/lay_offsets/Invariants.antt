@@ -10,7 +10,10 @@ abbrev pub invariant-loop-row : goal.invariant-loop-row
 invariant-loop-row g l = record {
   room : length l.out ≡ l.component.width * l.component.height;
   sides : HasSides l.planes l.format.width l.format.height;
-  told : (x y : ℕ) → x < l.component.width → y < l.component.height → y < l.component.size * l.row → samples_of l.planes l.component.c x y
-      ≡ offset_sample (offset_plane (filters_of l.format (g.V.Places.place_at l.view) (g.V.FilterView.unit_at l.view)) l.component.c) (at l.component.width l.deblocked) x y;
+  told : (x y : ℕ) → x < l.component.width → y < l.component.height → y < l.component.size * l.row
+      → samples_of l.planes l.component.c x y
+      ≡ offset_sample
+      (offset_plane (filters_of l.format (g.V.Places.place_at l.view) (g.V.FilterView.unit_at l.view)) l.component.c)
+      (at l.component.width l.deblocked) x y;
   others : (i x y : ℕ) → (i == l.component.c) ≡ false → samples_of l.planes i x y ≡ samples_of l.fn.planes i x y;
 }

@@ -2,44 +2,64 @@ use Rattle.std.proofs.Common.{rules, ◌≡◌, ◌<◌, ◌≤◌, ◌+◌, ◌
 use Rattle.deblock.specs.Windows.{at}
 use Rattle.spec_loop_filters.specs.Filters.{offset_plane}
 use Rattle.loop_filters.specs.Formats.{columns_of, filters_of}
-use Rattle.loop_filters.proofs.RowParts.{block_is_one, few, has_lines, kept_among, lines_inside, row_begins, row_is_one, sample_among}
+use Rattle.loop_filters.proofs.RowParts.{block_is_one, few, has_lines, kept_among, lines_inside, row_begins, row_is_one}
+use Rattle.loop_filters.proofs.RowParts.{sample_among}
 use Rattle.loop_filters.proofs.offsets.offset_row.Goals as goal
 
 pub overflow_mul-from : goal.overflow_mul-from
 overflow_mul-from g c =
     let k = c.requires.component in
-    let begins = row_begins c.args.component.now.size c.args.row c.args.component.now.rows c.args.component.now.height k.high.1 c.requires.row in
-    let le = lines_inside c.args.component.now.width c.saturating_sub-2.result c.args.component.now.height (omega (arith, begins, c.saturating_sub-2.ensures)) in
+    let begins =
+    row_begins c.args.component.now.size c.args.row c.args.component.now.rows c.args.component.now.height
+    k.high.1 c.requires.row in
+    let le =
+    lines_inside c.args.component.now.width c.saturating_sub-2.result c.args.component.now.height
+    (omega (arith, begins, c.saturating_sub-2.ensures)) in
     let all = few c.args.component.now.width c.args.component.now.height k.is_plane.width.1 k.is_plane.height.1 in
     omega (arith, le, all)
 
 pub offset_bounds-deblocked-from : goal.offset_bounds-deblocked-from
 offset_bounds-deblocked-from g c =
     let k = c.requires.component in
-    let begins = row_begins c.args.component.now.size c.args.row c.args.component.now.rows c.args.component.now.height k.high.1 c.requires.row in
-    let le = lines_inside c.args.component.now.width c.saturating_sub-2.result c.args.component.now.height (omega (arith, begins, c.saturating_sub-2.ensures)) in
+    let begins =
+    row_begins c.args.component.now.size c.args.row c.args.component.now.rows c.args.component.now.height
+    k.high.1 c.requires.row in
+    let le =
+    lines_inside c.args.component.now.width c.saturating_sub-2.result c.args.component.now.height
+    (omega (arith, begins, c.saturating_sub-2.ensures)) in
     let all = few c.args.component.now.width c.args.component.now.height k.is_plane.width.1 k.is_plane.height.1 in
     omega (arith, le, all)
 
 pub slice_bounds-sao_row-count : goal.slice_bounds-sao_row-count
 slice_bounds-sao_row-count g c =
     let k = c.requires.component in
-    let begins = row_begins c.args.component.now.size c.args.row c.args.component.now.rows c.args.component.now.height k.high.1 c.requires.row in
-    let le = lines_inside c.args.component.now.width c.saturating_sub-2.result c.args.component.now.height (omega (arith, begins, c.saturating_sub-2.ensures)) in
+    let begins =
+    row_begins c.args.component.now.size c.args.row c.args.component.now.rows c.args.component.now.height
+    k.high.1 c.requires.row in
+    let le =
+    lines_inside c.args.component.now.width c.saturating_sub-2.result c.args.component.now.height
+    (omega (arith, begins, c.saturating_sub-2.ensures)) in
     omega (arith, le, c.requires.deblocked)
 
 pub slice_bounds-sao_row-start : goal.slice_bounds-sao_row-start
 slice_bounds-sao_row-start g c =
     let k = c.requires.component in
-    let begins = row_begins c.args.component.now.size c.args.row c.args.component.now.rows c.args.component.now.height k.high.1 c.requires.row in
-    let le = lines_inside c.args.component.now.width c.saturating_sub-2.result c.args.component.now.height (omega (arith, begins, c.saturating_sub-2.ensures)) in
-    let fits : c.args.component.now.width * c.saturating_sub-2.result ≤ length c.args.deblocked.now = omega (arith, le, c.requires.deblocked) in
+    let begins =
+    row_begins c.args.component.now.size c.args.row c.args.component.now.rows c.args.component.now.height
+    k.high.1 c.requires.row in
+    let le =
+    lines_inside c.args.component.now.width c.saturating_sub-2.result c.args.component.now.height
+    (omega (arith, begins, c.saturating_sub-2.ensures)) in
+    let fits : c.args.component.now.width * c.saturating_sub-2.result ≤ length c.args.deblocked.now =
+    omega (arith, le, c.requires.deblocked) in
     search rules
 
 pub sao_row-requires-clause-row : goal.sao_row-requires-clause-row
 sao_row-requires-clause-row g c =
     let k = c.requires.component in
-    let begins = row_begins c.args.component.now.size c.args.row c.args.component.now.rows c.args.component.now.height k.high.1 c.requires.row in
+    let begins =
+    row_begins c.args.component.now.size c.args.row c.args.component.now.rows c.args.component.now.height
+    k.high.1 c.requires.row in
     let wide = k.wide in
     record {
       size = (omega (arith, k.size_few.0), k.size_few.1);
@@ -47,40 +67,64 @@ sao_row-requires-clause-row g c =
       height = omega (arith, k.is_plane.height.1);
       depth = subst (λ d. (8 ≤ d) × (d ≤ 14)) refl k.is_plane.depth;
       begins = begins;
-      here = subst (λ n. (c.args.component.now.width ≤ c.args.component.now.size * n) × (c.args.component.now.size * n < c.args.component.now.width + c.args.component.now.size)) (sym c.units-2.ensures.count) wide;
-      above = λ _. subst (λ n. c.args.component.now.width ≤ c.args.component.now.size * n) (sym c.units.ensures.count) wide.0;
-      below = λ _. subst (λ n. c.args.component.now.width ≤ c.args.component.now.size * n) (sym c.units-3.ensures.count) wide.0;
+      here =
+          subst (λ n. (c.args.component.now.width ≤ c.args.component.now.size * n)
+          × (c.args.component.now.size * n < c.args.component.now.width + c.args.component.now.size))
+          (sym c.units-2.ensures.count) wide;
+      above = λ _. subst (λ n. c.args.component.now.width ≤ c.args.component.now.size * n)
+          (sym c.units.ensures.count) wide.0;
+      below = λ _. subst (λ n. c.args.component.now.width ≤ c.args.component.now.size * n)
+          (sym c.units-3.ensures.count) wide.0;
       places = (k.place_few, search rules);
     }
 
 pub sao_row-requires-clause-lines : goal.sao_row-requires-clause-lines
 sao_row-requires-clause-lines g c =
     let k = c.requires.component in
-    let begins = row_begins c.args.component.now.size c.args.row c.args.component.now.rows c.args.component.now.height k.high.1 c.requires.row in
-    has_lines c.args.component.now.width c.args.component.now.height (c.args.component.now.size * c.args.row) c.args.component.now.size c.saturating_sub-2.result c.args.deblocked.now c.requires.deblocked c.saturating_sub-2.ensures begins
+    let begins =
+    row_begins c.args.component.now.size c.args.row c.args.component.now.rows c.args.component.now.height
+    k.high.1 c.requires.row in
+    has_lines c.args.component.now.width c.args.component.now.height (c.args.component.now.size * c.args.row)
+    c.args.component.now.size c.saturating_sub-2.result c.args.deblocked.now c.requires.deblocked
+    c.saturating_sub-2.ensures begins
 
 pub returns : goal.returns
 returns g c =
     let k = c.requires.component in
     let p = c.args.component.now in
     let t : ℕ = c.args.component.now.size * c.args.row in
-    let begins = row_begins c.args.component.now.size c.args.row c.args.component.now.rows c.args.component.now.height k.high.1 c.requires.row in
-    let one : (u : ℕ) → c.args.component.now.size * u < c.args.component.now.width → u < columns_of (g.V.FilterView.shape c.args.view.now) =
+    let begins =
+    row_begins c.args.component.now.size c.args.row c.args.component.now.rows c.args.component.now.height
+    k.high.1 c.requires.row in
+    let one : (u : ℕ) → c.args.component.now.size * u < c.args.component.now.width
+    → u < columns_of (g.V.FilterView.shape c.args.view.now) =
     λ u lt. block_is_one c.args.component.now.size u _ c.args.component.now.width k.wide.0 lt in
     c.sao_row.ensures.picture
-    (offset_plane (filters_of (g.V.FilterView.shape c.args.view.now) (g.V.Places.place_at c.args.view.now) (g.V.FilterView.unit_at c.args.view.now)) c.args.component.now.c)
+    (offset_plane (filters_of (g.V.FilterView.shape c.args.view.now) (g.V.Places.place_at c.args.view.now)
+    (g.V.FilterView.unit_at c.args.view.now))
+    c.args.component.now.c)
     (at c.args.component.now.width c.args.deblocked.now)
     (record {
       width = sym k.width;
       height = sym k.height;
       size = sym k.size;
       depth = sym k.depth;
-      above = λ low u lt. ap (λ v. g.V.FilterView.unit_at c.args.view.now c.args.component.now.c u v) (sym c.saturating_sub.ensures) ∙ sym (c.units.ensures.units u (one u lt));
+      above = λ low u lt. ap (λ v. g.V.FilterView.unit_at c.args.view.now c.args.component.now.c u v)
+          (sym c.saturating_sub.ensures)
+          ∙ sym (c.units.ensures.units u (one u lt));
       here = λ u lt. sym (c.units-2.ensures.units u (one u lt));
       below = λ more u lt.
-          let next = row_is_one c.args.component.now.size c.args.row c.args.component.now.rows c.args.component.now.height k.high.0 more in
+          let next =
+          row_is_one c.args.component.now.size c.args.row c.args.component.now.rows
+          c.args.component.now.height k.high.0 more in
           let is : c.args.row + 1 ≡ c.min.result = omega (arith, next, c.min.ensures) in
-          ap (λ v. g.V.FilterView.unit_at c.args.view.now c.args.component.now.c u v) is ∙ sym (c.units-3.ensures.units u (one u lt));
-      kept = λ x j h l. kept_among c.args.component.now.plane _ c.args.component.now.place_log2 c.args.component.now.places c.args.component.now.size c.args.row c.args.component.now.width c.args.component.now.height x j _ _ _ c.kept.result.now (g.V.Places.place_at c.args.view.now) k.plane k.place_side k.places k.across k.down k.block c.kept.ensures h l;
-      samples = λ x y h l above below. sample_among c.args.component.now.width c.args.component.now.height t c.saturating_sub-2.result x y c.args.deblocked.now c.requires.deblocked c.saturating_sub-2.ensures begins h l above;
+          ap (λ v. g.V.FilterView.unit_at c.args.view.now c.args.component.now.c u v) is
+          ∙ sym (c.units-3.ensures.units u (one u lt));
+      kept = λ x j h l. kept_among c.args.component.now.plane _ c.args.component.now.place_log2
+          c.args.component.now.places c.args.component.now.size c.args.row c.args.component.now.width
+          c.args.component.now.height x j _ _ _ c.kept.result.now (g.V.Places.place_at c.args.view.now) k.plane
+          k.place_side k.places k.across k.down k.block c.kept.ensures h l;
+      samples = λ x y h l above below. sample_among c.args.component.now.width c.args.component.now.height t
+          c.saturating_sub-2.result x y c.args.deblocked.now c.requires.deblocked
+          c.saturating_sub-2.ensures begins h l above;
     })

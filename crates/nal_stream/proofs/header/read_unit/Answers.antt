@@ -5,10 +5,12 @@ use Rattle.spec_units.specs.Judged.{places, stands_at, payload_of, removed_of}
 use Rattle.nal_stream.proofs.PlacesBelow.{places-apart}
 use Rattle.nal_stream.proofs.header.read_unit.Goals as goal
 
-sized : (unit payload removed : List ℕ) → payload ≡ payload_of unit → removed ≡ removed_of unit → length payload + length removed ≤ length unit
+sized : (unit payload removed : List ℕ) → payload ≡ payload_of unit → removed ≡ removed_of unit
+    → length payload + length removed ≤ length unit
 unfolding payload_of removed_of
 sized unit payload removed p r =
-    let a = ap length p ∙ length-map (places (λ i. nat_le 2 i && not (stands_at 3 unit i)) (length unit)) (slice_index unit) in
+    let a =
+    ap length p ∙ length-map (places (λ i. nat_le 2 i && not (stands_at 3 unit i)) (length unit)) (slice_index unit) in
     let b = ap length r in
     omega (arith, a, b, places-apart (stands_at 3 unit) (length unit))
 

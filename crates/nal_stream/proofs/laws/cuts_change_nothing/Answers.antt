@@ -22,8 +22,10 @@ unfolding first
 remains h (next.Unit u) is = record { rest = Whole (unit_of u) ∷ is.0; told = is.1; answer = refl }
 remains h (next.Fault f) is = record { rest = Broken f ∷ []; told = is; answer = refl }
 remains h (next.Limit l) is = record { rest = Met l ∷ []; told = is; answer = refl }
-remains h next.More is = record { rest = []; told = ap (λ b. told_of b h.fed) is.0 ∙ is.1 ∙ sym (append-nil h.given); answer = refl }
-remains h next.End is = record { rest = []; told = ap (λ b. told_of b h.fed) is.0 ∙ is.1 ∙ sym (append-nil h.given); answer = refl }
+remains h next.More is =
+    record { rest = []; told = ap (λ b. told_of b h.fed) is.0 ∙ is.1 ∙ sym (append-nil h.given); answer = refl }
+remains h next.End is =
+    record { rest = []; told = ap (λ b. told_of b h.fed) is.0 ∙ is.1 ∙ sym (append-nil h.given); answer = refl }
 
 same_front : (a b x y : List Told) → length a ≡ length b → a ++ x ≡ b ++ y → (a ≡ b) × (x ≡ y)
 same_front [] [] x y l e = (refl, e)

@@ -4,4 +4,6 @@ use Rattle.nal_stream.proofs.padding.skip_padding.Given as goal
 
 abbrev pub invariant-loop-i : goal.invariant-loop-i
 invariant-loop-i l =
-    (l.before ≤ 2) × ((ended : Bool) (rest : List ℕ) → parts ended (Padding l.fn.zeros) (l.bytes ++ rest) ≡ parts ended (Padding l.before) (drop l.i l.bytes ++ rest))
+    (l.before ≤ 2)
+    × ((ended : Bool) (rest : List ℕ)
+    → parts ended (Padding l.fn.zeros) (l.bytes ++ rest) ≡ parts ended (Padding l.before) (drop l.i l.bytes ++ rest))

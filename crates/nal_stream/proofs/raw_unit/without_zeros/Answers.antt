@@ -5,7 +5,8 @@ use Rattle.nal_stream.proofs.raw_unit.without_zeros.Goals as goal
 
 pub returns-then-bytes-len-ne0 : goal.returns-then-bytes-len-ne0
 returns-then-bytes-len-ne0 c =
-    sym (trimmed-take c.args.bytes.now (c.loop-len.len - 1) c.loop-len.len (omega arith) (omega arith) (λ z. omega arith) c.loop-len.invariant.1)
+    sym (trimmed-take c.args.bytes.now (c.loop-len.len - 1) c.loop-len.len (omega arith) (omega arith)
+    (λ z. omega arith) c.loop-len.invariant.1)
 
 pub returns : goal.returns
 returns c =

@@ -7,7 +7,8 @@ use Rattle.param_sets.proofs.reference_sets.read_candidates.Given as goal
 
 abbrev pub invariant-loop : goal.invariant-loop
 invariant-loop l = record {
-  at : IsBehind l.fn.reader l.reader l.candidates (repeated (l.count - l.counter) (long_term_candidate l.lsb_bits)) (repeated l.count (long_term_candidate l.lsb_bits));
+  at : IsBehind l.fn.reader l.reader l.candidates (repeated (l.count - l.counter) (long_term_candidate l.lsb_bits))
+      (repeated l.count (long_term_candidate l.lsb_bits));
   len : length l.candidates ≡ l.counter;
   in_range : All (λ (c : LongTermCandidate). c.lt_ref_pic_poc_lsb_sps < 2 ^ l.lsb_bits) l.candidates;
 }

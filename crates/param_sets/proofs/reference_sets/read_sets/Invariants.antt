@@ -6,7 +6,8 @@ use Rattle.param_sets.proofs.reference_sets.read_sets.Given as goal
 
 abbrev pub invariant-loop-index : goal.invariant-loop-index
 invariant-loop-index l = record {
-  at : IsBefore l.fn.reader l.reader (sets_behind (l.count - l.index) l.count l.greatest l.sets) (sets_behind l.count l.count l.greatest []);
+  at : IsBefore l.fn.reader l.reader (sets_behind (l.count - l.index) l.count l.greatest l.sets)
+      (sets_behind l.count l.count l.greatest []);
   len : length l.sets ≡ l.index;
   in_range : All (IsStRps (14 + l.index)) l.sets;
 }

@@ -7,7 +7,8 @@ use Rattle.param_sets.proofs.sub_layers.read_orderings.Given as goal
 
 abbrev pub invariant-loop : goal.invariant-loop
 invariant-loop l = record {
-  at : IsBehind l.fn.reader l.reader l.orderings (repeated (l.count - l.counter) sub_layer_ordering) (repeated l.count sub_layer_ordering);
+  at : IsBehind l.fn.reader l.reader l.orderings (repeated (l.count - l.counter) sub_layer_ordering)
+      (repeated l.count sub_layer_ordering);
   len : length l.orderings ≡ l.counter;
   in_range : All IsSubLayerOrdering l.orderings;
 }

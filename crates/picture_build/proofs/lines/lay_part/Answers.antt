@@ -18,11 +18,15 @@ loop-line-preserved c =
     let fits : c.loop-line.line < c.args.part.height - c.args.part.y = search rules in
     let narrow : c.min-columns.result ≤ c.args.part.side = search rules in
     let within : c.min-columns.result ≤ c.args.part.width - c.args.part.x = search rules in
-    let all : (c.args.part.side ≤ c.min-columns.result) ⊎ (c.args.part.width - c.args.part.x ≤ c.min-columns.result) = search rules in
+    let all : (c.args.part.side ≤ c.min-columns.result) ⊎ (c.args.part.width - c.args.part.x ≤ c.min-columns.result) =
+    search rules in
     record {
       width = part_width _ _ _ _ c.requires.part (c.lay.ensures.sides _ _ c.loop-line.invariant.sides);
       height = part_height _ _ _ _ c.requires.part (c.lay.ensures.sides _ _ c.loop-line.invariant.sides);
       sides = c.lay.ensures.sides _ _ c.loop-line.invariant.sides;
-      told = laid_more c.args.part (held c.args.samples.now) c.loop-line.line c.min-columns.result c.line-built.result.now _ _ _ narrow within all
-          c.requires.room.small c.requires.room.inside fits c.line-built.ensures.count c.line-built.ensures.value c.loop-line.invariant.told c.lay.ensures.samples;
+      told =
+          laid_more c.args.part (held c.args.samples.now) c.loop-line.line c.min-columns.result c.line-built.result.now
+          _ _ _ narrow within all
+          c.requires.room.small c.requires.room.inside fits c.line-built.ensures.count c.line-built.ensures.value
+          c.loop-line.invariant.told c.lay.ensures.samples;
     }

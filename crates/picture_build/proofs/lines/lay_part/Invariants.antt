@@ -10,7 +10,9 @@ invariant-loop-line l = record {
   height : plane_height l.planes l.part.c ≡ l.part.height;
   sides : HasSides l.planes (4 * l.unit.layout.across) (4 * l.unit.layout.down);
   told : (i j k : ℕ) → samples_of l.planes i j k
-      ≡ (if i == l.part.c && ((nat_le l.part.x j && (nat_lt j (l.part.x + l.part.side) && nat_lt j l.part.width)) && (nat_le l.part.y k && (nat_lt k (l.part.y + l.line) && nat_lt k l.part.height)))
+      ≡ (if i == l.part.c
+      && ((nat_le l.part.x j && (nat_lt j (l.part.x + l.part.side) && nat_lt j l.part.width))
+      && (nat_le l.part.y k && (nat_lt k (l.part.y + l.line) && nat_lt k l.part.height)))
       then unwrap_or (held l.samples i (j - l.part.x + 1) (k - l.part.y + 1)) 0
       else samples_of l.fn.planes i j k);
 }

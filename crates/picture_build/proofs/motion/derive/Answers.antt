@@ -21,8 +21,11 @@ returns-in-Some-clause-last c = λ number placed.
     let motions : Motions = motions_of c.args.motion.now.field in
     let e : collocated_entry s.header.slice (slice_start p s).lists ≡ Some c.in-Some.entry = search rules in
     c.derive_over.ensures.last placed
-    ∙ ap (λ (q : PicturePlan). known_over (pictures c.in-Some.entry.place) q s c.args.address c.args.records.now.items motions) c.requires
-    ∙ known_joins pictures p s (tree_unit number c.args.address c.args.records.now) (pictures c.in-Some.entry.place) motions (collocated_some pictures p s c.in-Some.entry _ e refl)
+    ∙ ap (λ (q : PicturePlan). known_over (pictures c.in-Some.entry.place) q s c.args.address
+    c.args.records.now.items motions)
+    c.requires
+    ∙ known_joins pictures p s (tree_unit number c.args.address c.args.records.now) (pictures c.in-Some.entry.place)
+    motions (collocated_some pictures p s c.in-Some.entry _ e refl)
 
 pub returns-in-Some-clause-value : goal.returns-in-Some-clause-value
 returns-in-Some-clause-value c = λ number placed.
@@ -32,8 +35,11 @@ returns-in-Some-clause-value c = λ number placed.
     let motions : Motions = motions_of c.args.motion.now.field in
     let e : collocated_entry s.header.slice (slice_start p s).lists ≡ Some c.in-Some.entry = search rules in
     c.derive_over.ensures.value placed
-    ∙ ap (λ (q : PicturePlan). derived_over (pictures c.in-Some.entry.place) q s c.args.address c.args.records.now.items motions) c.requires
-    ∙ added_joins pictures p s (tree_unit number c.args.address c.args.records.now) (pictures c.in-Some.entry.place) motions (collocated_some pictures p s c.in-Some.entry _ e refl)
+    ∙ ap (λ (q : PicturePlan). derived_over (pictures c.in-Some.entry.place) q s c.args.address
+    c.args.records.now.items motions)
+    c.requires
+    ∙ added_joins pictures p s (tree_unit number c.args.address c.args.records.now) (pictures c.in-Some.entry.place)
+    motions (collocated_some pictures p s c.in-Some.entry _ e refl)
 
 pub returns-in-None-clause-last : goal.returns-in-None-clause-last
 returns-in-None-clause-last c = λ number placed.
@@ -44,7 +50,8 @@ returns-in-None-clause-last c = λ number placed.
     let e : collocated_entry s.header.slice (slice_start p s).lists ≡ None = search rules in
     c.derive.ensures.last placed
     ∙ ap (λ (q : PicturePlan). known_over no_motions q s c.args.address c.args.records.now.items motions) c.requires
-    ∙ known_joins pictures p s (tree_unit number c.args.address c.args.records.now) no_motions motions (collocated_none pictures p s e)
+    ∙ known_joins pictures p s (tree_unit number c.args.address c.args.records.now) no_motions motions
+    (collocated_none pictures p s e)
 
 pub returns-in-None-clause-value : goal.returns-in-None-clause-value
 returns-in-None-clause-value c = λ number placed.
@@ -55,4 +62,5 @@ returns-in-None-clause-value c = λ number placed.
     let e : collocated_entry s.header.slice (slice_start p s).lists ≡ None = search rules in
     c.derive.ensures.value placed
     ∙ ap (λ (q : PicturePlan). derived_over no_motions q s c.args.address c.args.records.now.items motions) c.requires
-    ∙ added_joins pictures p s (tree_unit number c.args.address c.args.records.now) no_motions motions (collocated_none pictures p s e)
+    ∙ added_joins pictures p s (tree_unit number c.args.address c.args.records.now) no_motions motions
+    (collocated_none pictures p s e)

@@ -8,15 +8,19 @@ pub into_picture-requires : goal.into_picture-requires
 into_picture-requires g c =
     let told = c.in-Ok-read_picture.ensures.value [] c.in-Ok.ensures.built in
     built_in_range (buffer_of g.B.Buffer.pictures) c.args.plan.now c.read_picture.new.trees told.0
-    (built_all (buffer_of g.B.Buffer.pictures) c.args.plan.now c.read_picture.new.trees told.0 told.1 c.new.ensures.sps c.units_that_are_read_are_sound.ensures.read told.2)
+    (built_all (buffer_of g.B.Buffer.pictures) c.args.plan.now c.read_picture.new.trees told.0 told.1 c.new.ensures.sps
+    c.units_that_are_read_are_sound.ensures.read told.2)
     c.built_samples_are_in_range.ensures.whole
 
 pub returns-in-Ok-read_picture : goal.returns-in-Ok-read_picture
 returns-in-Ok-read_picture g c =
     let told = c.in-Ok-read_picture.ensures.value [] c.in-Ok.ensures.built in
     decoded_all (buffer_of g.B.Buffer.pictures) c.args.plan.now c.read_picture.new.trees told.0
-    (built_all (buffer_of g.B.Buffer.pictures) c.args.plan.now c.read_picture.new.trees told.0 told.1 c.new.ensures.sps c.units_that_are_read_are_sound.ensures.read told.2)
+    (built_all (buffer_of g.B.Buffer.pictures) c.args.plan.now c.read_picture.new.trees told.0 told.1 c.new.ensures.sps
+    c.units_that_are_read_are_sound.ensures.read told.2)
     ∙ ap (λ d. Ok d) (sym c.into_picture.ensures)
 
 pub returns-in-Err : goal.returns-in-Err
-returns-in-Err g c = decoding_fails (buffer_of g.B.Buffer.pictures) c.args.plan.now c.in-Err.error _ (c.in-Err.ensures.value [] c.in-Ok.ensures.built)
+returns-in-Err g c =
+    decoding_fails (buffer_of g.B.Buffer.pictures) c.args.plan.now c.in-Err.error _
+    (c.in-Err.ensures.value [] c.in-Ok.ensures.built)

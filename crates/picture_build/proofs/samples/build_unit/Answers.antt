@@ -20,11 +20,16 @@ pub returns : goal.returns
 returns c = λ number motions sound known.
     let p : PicturePlan = c.args.on.now.source.plan.now in
     let s : SegmentPlan = c.args.on.now.source.segment.now in
-    let built : InterUnit → Known = λ inter. unit_built c.args.on.now.format.now inter c.args.records.now.items (held c.args.samples.now) in
-    let slice : c.slice_motion-slice.result ≡ slice_motion p s c.args.on.now.unit.address = c.slice_motion-slice.ensures ∙ ap (slice_motion p s) c.of_motion.ensures.address in
+    let built : InterUnit → Known =
+    λ inter. unit_built c.args.on.now.format.now inter c.args.records.now.items (held c.args.samples.now) in
+    let slice : c.slice_motion-slice.result ≡ slice_motion p s c.args.on.now.unit.address =
+    c.slice_motion-slice.ensures ∙ ap (slice_motion p s) c.of_motion.ensures.address in
     let weighting : c.slice_weighting-weighting.result ≡ slice_weighting s.header.slice.inter = search rules in
     c.build_ctu.ensures.value sound
-    ∙ ap (λ (b : List HeldPicture). built (inter_unit (motion_held c.unit_motion.result.now) c.slice_motion-slice.result c.slice_weighting-weighting.result (pictures_of (buffer_of b)) c.first_column.result c.args.on.now.row)) c.new-view.ensures.value
+    ∙ ap (λ (b : List HeldPicture). built (inter_unit (motion_held c.unit_motion.result.now) c.slice_motion-slice.result
+    c.slice_weighting-weighting.result (pictures_of (buffer_of b)) c.first_column.result c.args.on.now.row))
+    c.new-view.ensures.value
     ∙ ap built
-    (inter_is (buffer_of c.args.on.now.source.bases.now) p s (tree_unit number c.args.on.now.unit.address c.args.records.now) motions _ _ _ _ _
+    (inter_is (buffer_of c.args.on.now.source.bases.now) p s
+    (tree_unit number c.args.on.now.unit.address c.args.records.now) motions _ _ _ _ _
     (ap motion_held c.unit_motion.ensures ∙ known) slice weighting (search rules) (search rules))

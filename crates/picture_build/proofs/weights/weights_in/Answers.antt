@@ -12,7 +12,9 @@ loop-k-preserved c =
       told = below_more _ _
           (λ q h. let ne : q ≢ c.loop-k.k = omega arith in rw get_or-set_other (c.loop-k.invariant.told q h))
           (get_or-set_same c.loop-k.all c.loop-k.k _ _ lt ∙ c.weights_at.ensures.value);
-      range = All-set AreWeights c.loop-k.all c.loop-k.k c.weights_at.result c.weights_at.ensures.range c.loop-k.invariant.range;
+      range =
+          All-set AreWeights c.loop-k.all c.loop-k.k c.weights_at.result c.weights_at.ensures.range
+          c.loop-k.invariant.range;
     }
 
 pub returns-clause-value : goal.returns-clause-value

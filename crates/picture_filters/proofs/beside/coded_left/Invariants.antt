@@ -7,5 +7,7 @@ use Rattle.picture_filters.proofs.beside.coded_left.Given as goal
 abbrev pub invariant-loop-k : goal.invariant-loop-k
 invariant-loop-k l = record {
   count : length l.coded ≡ 16;
-  told : (q : ℕ) → q < l.k → slice_index_or l.coded q false ≡ coded_near l.unit.layout l.unit.address (coded_part (places_of l.places)) 0 (q + 1);
+  told : (q : ℕ) → q < l.k
+      → slice_index_or l.coded q false
+      ≡ coded_near l.unit.layout l.unit.address (coded_part (places_of l.places)) 0 (q + 1);
 }

@@ -6,4 +6,5 @@ use Rattle.picture_filters.proofs.layers.lay_places.Goals as goal
 
 pub returns-clause-value : goal.returns-clause-value
 returns-clause-value c i j =
-    laid_rows c.args.unit.now c.block_of-block.result c.args.slice (read_place c.args.read.now) (places_of c.args.field.now) (places_of c.loop-row.field) i j c.block_of-block.ensures.block (search rules)
+    laid_rows c.args.unit.now c.block_of-block.result c.args.slice (read_place c.args.read.now)
+    (places_of c.args.field.now) (places_of c.loop-row.field) i j c.block_of-block.ensures.block (search rules)

@@ -41,7 +41,8 @@ filter_picture-requires-clause-sides c =
 
 pub filter_picture-requires-clause-bounded : goal.filter_picture-requires-clause-bounded
 filter_picture-requires-clause-bounded c = λ i x y lt.
-    subst (λ (f : FilterFormat). samples_of c.args.planes.now i x y ≤ 2 ^ depth_of f i - 1) (sym c.filter_format-format.ensures.value) (c.requires.bounded i x y lt)
+    subst (λ (f : FilterFormat). samples_of c.args.planes.now i x y ≤ 2 ^ depth_of f i - 1)
+    (sym c.filter_format-format.ensures.value) (c.requires.bounded i x y lt)
 
 pub filter_picture-requires-clause-room : goal.filter_picture-requires-clause-room
 filter_picture-requires-clause-room c =
@@ -53,9 +54,13 @@ pub returns-clause-value : goal.returns-clause-value
 returns-clause-value c = λ i x y lt column row.
     let f = c.filter_format-format in
     let k = is_planned c.args.plan.now f.result f.ensures.value f.ensures.in_range in
-    let sides : HasSides c.args.planes.now f.result.width f.result.height = of_sides (HasSides c.args.planes.now) _ _ _ _ k.width k.height c.requires.sides in
-    c.filter_picture.ensures.value i x y lt (subst (λ n. x < n) (plane_widths c.args.planes.now f.result i lt sides) column) (subst (λ n. y < n) (plane_heights c.args.planes.now f.result i lt sides) row)
-    ∙ viewed_filtered c.args.plan.now f.result c.new-view.result c.args.places.now c.args.units.now (samples_of c.args.planes.now) i x y f.ensures.value c.new-view.ensures
+    let sides : HasSides c.args.planes.now f.result.width f.result.height =
+    of_sides (HasSides c.args.planes.now) _ _ _ _ k.width k.height c.requires.sides in
+    c.filter_picture.ensures.value i x y lt
+    (subst (λ n. x < n) (plane_widths c.args.planes.now f.result i lt sides) column)
+    (subst (λ n. y < n) (plane_heights c.args.planes.now f.result i lt sides) row)
+    ∙ viewed_filtered c.args.plan.now f.result c.new-view.result c.args.places.now c.args.units.now
+    (samples_of c.args.planes.now) i x y f.ensures.value c.new-view.ensures
 
 pub returns-clause-sides : goal.returns-clause-sides
 returns-clause-sides c =

@@ -5,4 +5,5 @@ use Rattle.picture_motion.proofs.beneath.gather_beneath.Goals as goal
 
 pub returns-clause-beneath : goal.returns-clause-beneath
 returns-clause-beneath c = λ none.
-    blocks_gathered c.args.unit.now.layout c.args.unit.now.address (motions_of c.args.collocated.now) _ _ none (search rules)
+    blocks_gathered c.args.unit.now.layout c.args.unit.now.address (motions_of c.args.collocated.now) _
+    _ none (search rules)

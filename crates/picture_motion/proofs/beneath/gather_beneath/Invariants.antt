@@ -7,5 +7,8 @@ use Rattle.picture_motion.proofs.beneath.gather_beneath.Given as goal
 abbrev pub invariant-loop-row : goal.invariant-loop-row
 invariant-loop-row l = record {
   places : held l.motion ≡ held l.fn.motion;
-  beneath : (i j : ℕ) → held_beneath l.motion i j ≡ cond (nat_lt i 5 && nat_lt j l.row) (beneath_unit l.unit.layout l.unit.address (motions_of l.collocated) i j) (held_beneath l.fn.motion i j);
+  beneath : (i j : ℕ)
+      → held_beneath l.motion i j
+      ≡ cond (nat_lt i 5 && nat_lt j l.row) (beneath_unit l.unit.layout l.unit.address (motions_of l.collocated) i j)
+      (held_beneath l.fn.motion i j);
 }

@@ -7,5 +7,8 @@ use Rattle.picture_motion.proofs.beneath.gather_row.Given as goal
 abbrev pub invariant-loop-column : goal.invariant-loop-column
 invariant-loop-column l = record {
   places : held l.motion ≡ held l.fn.motion;
-  beneath : (i j : ℕ) → held_beneath l.motion i j ≡ cond (j == l.row && nat_lt i l.column) (beneath_unit l.unit.layout l.unit.address (motions_of l.collocated) i l.row) (held_beneath l.fn.motion i j);
+  beneath : (i j : ℕ)
+      → held_beneath l.motion i j
+      ≡ cond (j == l.row && nat_lt i l.column)
+      (beneath_unit l.unit.layout l.unit.address (motions_of l.collocated) i l.row) (held_beneath l.fn.motion i j);
 }

@@ -6,6 +6,8 @@ use Rattle.picture_motion.proofs.beside.gather_above.Given as goal
 
 abbrev pub invariant-loop-column : goal.invariant-loop-column
 invariant-loop-column l = record {
-  places : (i j : ℕ) → held l.motion i j ≡ cond (j == 0 && nat_lt i l.column) (at_border l.unit (motions_of l.field) i 0) (held l.fn.motion i j);
+  places : (i j : ℕ)
+      → held l.motion i j
+      ≡ cond (j == 0 && nat_lt i l.column) (at_border l.unit (motions_of l.field) i 0) (held l.fn.motion i j);
   beneath : held_beneath l.motion ≡ held_beneath l.fn.motion;
 }

@@ -4,4 +4,5 @@ use Rattle.picture_motion.proofs.beside.gather_beside.Goals as goal
 
 pub returns-clause-places : goal.returns-clause-places
 returns-clause-places c =
-    gathered c.args.unit.now (motions_of c.args.field.now) _ _ _ c.restart.ensures.places c.gather_above.ensures.places c.gather_left.ensures.places
+    gathered c.args.unit.now (motions_of c.args.field.now) _ _ _ c.restart.ensures.places c.gather_above.ensures.places
+    c.gather_left.ensures.places

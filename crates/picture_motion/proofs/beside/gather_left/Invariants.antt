@@ -6,6 +6,9 @@ use Rattle.picture_motion.proofs.beside.gather_left.Given as goal
 
 abbrev pub invariant-loop-row : goal.invariant-loop-row
 invariant-loop-row l = record {
-  places : (i j : ℕ) → held l.motion i j ≡ cond (i == 0 && (nat_le 1 j && nat_lt j l.row)) (at_border l.unit (motions_of l.field) 0 j) (held l.fn.motion i j);
+  places : (i j : ℕ)
+      → held l.motion i j
+      ≡ cond (i == 0 && (nat_le 1 j && nat_lt j l.row)) (at_border l.unit (motions_of l.field) 0 j)
+      (held l.fn.motion i j);
   beneath : held_beneath l.motion ≡ held_beneath l.fn.motion;
 }

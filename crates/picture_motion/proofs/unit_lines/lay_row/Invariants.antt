@@ -7,5 +7,8 @@ use Rattle.picture_motion.proofs.unit_lines.lay_row.Given as goal
 abbrev pub invariant-loop-column : goal.invariant-loop-column
 invariant-loop-column l = record {
   sides : HasPlaces l.field l.fn.field.across l.fn.field.down;
-  places : (i j : ℕ) → motions_of l.field i j ≡ cond (j == l.block.y + l.row && (nat_le l.block.x i && nat_lt i (l.block.x + l.column))) (pointing_motion l.slice (held l.motion (i - l.block.x + 1) (l.row + 1))) (motions_of l.fn.field i j);
+  places : (i j : ℕ)
+      → motions_of l.field i j
+      ≡ cond (j == l.block.y + l.row && (nat_le l.block.x i && nat_lt i (l.block.x + l.column)))
+      (pointing_motion l.slice (held l.motion (i - l.block.x + 1) (l.row + 1))) (motions_of l.fn.field i j);
 }

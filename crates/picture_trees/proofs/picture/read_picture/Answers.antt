@@ -9,7 +9,12 @@ loop-number-init g c =
     let P : PictureShape → Type 0 = λ l. IsKept l 0 c.in-Ok.reading.beside [] in
     record {
       inside = omega arith;
-      told = λ given tells. (given, tells, (reached_first c.args.plan.now c.in-Ok.reading given (subst P c.new.ensures c.in-Ok.ensures.kept) c.in-Ok.ensures.before));
+      told = λ given tells. (
+        given,
+        tells,
+        (reached_first c.args.plan.now c.in-Ok.reading given (subst P c.new.ensures c.in-Ok.ensures.kept)
+            c.in-Ok.ensures.before),
+      );
     }
 
 pub returns-in-Err : goal.returns-in-Err
@@ -23,9 +28,13 @@ returns-in-Err g c =
       value = λ given tells.
           let t = c.loop-number.invariant.told given tells in
           let w = t.2 in
-          reached_end c.args.plan.now number c.loop-number.first (segment.result.shape.first + segment.result.shape.count) c.loop-number.reading c.read_segment.new.self
+          reached_end c.args.plan.now number c.loop-number.first
+          (segment.result.shape.first + segment.result.shape.count) c.loop-number.reading c.read_segment.new.self
           t.0 (g.T.Trees.tells c.read_segment.new.trees c.args.plan.now) _ s segment.result c.in-Err.error e lt w
-          (c.in-Err.ensures c.args.plan.now w.units t.0 (kept_for c.args.plan.now number c.loop-number.first c.loop-number.reading w.units s segment.result e segment.ensures.first w.kept) t.1);
+          (c.in-Err.ensures c.args.plan.now w.units t.0
+          (kept_for c.args.plan.now number c.loop-number.first c.loop-number.reading w.units s segment.result e
+          segment.ensures.first w.kept)
+          t.1);
     }
 
 pub loop-number-preserved : goal.loop-number-preserved
@@ -40,10 +49,15 @@ loop-number-preserved g c =
       told = λ given tells.
           let t = c.loop-number.invariant.told given tells in
           let w = t.2 in
-          let got = c.in_default-read_segment.ensures c.args.plan.now w.units t.0 (kept_for c.args.plan.now number c.loop-number.first c.loop-number.reading w.units s segment.result e segment.ensures.first w.kept) t.1 in (
+          let got =
+          c.in_default-read_segment.ensures c.args.plan.now w.units t.0
+          (kept_for c.args.plan.now number c.loop-number.first c.loop-number.reading w.units s segment.result e
+          segment.ensures.first w.kept)
+          t.1 in (
             got.0,
             got.1,
-            (rw c.behind-first.ensures.value (reached_more c.args.plan.now number c.loop-number.first c.loop-number.reading c.read_segment.new.self
+            (rw c.behind-first.ensures.value
+                (reached_more c.args.plan.now number c.loop-number.first c.loop-number.reading c.read_segment.new.self
                 t.0 got.0 _ s segment.result e lt segment.ensures.behind w got.2)),
           );
     }
@@ -51,6 +65,10 @@ loop-number-preserved g c =
 pub returns : goal.returns
 returns g c = record {
   value = λ given tells.
-      let t = c.loop-number.invariant.told given tells in
-      (t.0, t.1, (reached_last c.args.plan.now c.loop-number.number c.loop-number.first c.loop-number.reading t.0 _ (omega (arith, c.loop-number-test.false)) t.2));
+      let t = c.loop-number.invariant.told given tells in (
+        t.0,
+        t.1,
+        (reached_last c.args.plan.now c.loop-number.number c.loop-number.first c.loop-number.reading t.0 _
+            (omega (arith, c.loop-number-test.false)) t.2),
+      );
 }

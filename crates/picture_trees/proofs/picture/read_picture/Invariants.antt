@@ -9,5 +9,6 @@ abbrev pub invariant-loop-number : goal.invariant-loop-number
 invariant-loop-number g l = record {
   inside : l.first ≤ size_in_ctbs l.plan.sps;
   told : (given : List TreeUnit) → g.T.Trees.tells l.fn.trees l.plan given
-      → Told (g.T.Trees.tells l.trees l.plan) (λ more. IsReached l.plan l.number l.first l.reading more (picture_read l.plan given));
+      → Told (g.T.Trees.tells l.trees l.plan)
+      (λ more. IsReached l.plan l.number l.first l.reading more (picture_read l.plan given));
 }

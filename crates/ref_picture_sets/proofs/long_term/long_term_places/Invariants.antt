@@ -8,5 +8,6 @@ invariant-loop-i l =
     record {
       cycle : l.cycle ≡ msb_cycle_before l.long l.i;
       small : l.cycle ≤ l.i * 2 ^ 32;
-      told : l.places ≡ map (λ i. place_of (long_term_name l.current.kind l.long l.current.poc i) l.counts) (range_with_len 0 l.i);
+      told : l.places
+          ≡ map (λ i. place_of (long_term_name l.current.kind l.long l.current.poc i) l.counts) (range_with_len 0 l.i);
     }

@@ -13,6 +13,9 @@ pub loop-k-preserved : goal.loop-k-preserved
 loop-k-preserved c =
     let test : ℕ → Bool = λ k. is_sought c.args.name (slice_index_or c.args.counts.now k None) in
     elim c.if-is_sought.branch [
-      | then-is_sought w ↦ w.found-is ∙ sym (greatest_here test c.loop-k.k c.is_sought.result c.is_sought.ensures w.if-is_sought.true)
-      | else-is_sought w ↦ w.found-is ∙ c.loop-k.invariant ∙ sym (greatest_other test c.loop-k.k c.is_sought.result c.is_sought.ensures w.if-is_sought.false)
+      | then-is_sought w ↦
+          w.found-is ∙ sym (greatest_here test c.loop-k.k c.is_sought.result c.is_sought.ensures w.if-is_sought.true)
+      | else-is_sought w ↦
+          w.found-is ∙ c.loop-k.invariant
+          ∙ sym (greatest_other test c.loop-k.k c.is_sought.result c.is_sought.ensures w.if-is_sought.false)
     ]

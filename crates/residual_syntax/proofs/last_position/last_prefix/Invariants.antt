@@ -8,6 +8,8 @@ use Rattle.residual_syntax.proofs.last_position.last_prefix.Given as goal
 
 abbrev pub invariant-loop-i : goal.invariant-loop-i
 invariant-loop-i l = record {
-  told : read (unary (give l.most) (λ i. decision (l.base + prefix_context l.block i)) l.i (l.most - l.i)) (state_of l.reader) ≡ read (last_prefix l.base l.block) (state_of l.fn.reader);
+  told : read (unary (give l.most) (λ i. decision (l.base + prefix_context l.block i)) l.i (l.most - l.i))
+      (state_of l.reader)
+      ≡ read (last_prefix l.base l.block) (state_of l.fn.reader);
   live : IsLive l.reader.interval;
 }

@@ -7,7 +7,8 @@ use Rattle.residual_syntax.proofs.remaining.greater1_flags.Given as goal
 
 abbrev pub invariant-loop-j : goal.invariant-loop-j
 invariant-loop-j l = record {
-  told : read (times l.j (l.most - l.j) (greater1_flag l.block l.set) l.flags) (state_of l.reader) ≡ read (greater1_flags l.block l.set l.count) (state_of l.fn.reader);
+  told : read (times l.j (l.most - l.j) (greater1_flag l.block l.set) l.flags) (state_of l.reader)
+      ≡ read (greater1_flags l.block l.set l.count) (state_of l.fn.reader);
   live : IsLive l.reader.interval;
   context : l.flags.context ≤ 3;
 }

@@ -8,11 +8,15 @@ use Rattle.residual_syntax.proofs.remaining.levels_from.Goals as goal
 pub returns-in_err-level_at-clause-value : goal.returns-in_err-level_at-clause-value
 returns-in_err-level_at-clause-value c =
     let p = err_from_is_err_and c.from_residual.result c.from_residual.ensures.1 in
-    rw (p.1, p.2) (ap (λ r. bind r (λ done t. Ok (done.1, t))) (times_ends (level_at c.args.block c.args.sub c.args.indices.now.items c.args.signs) c.loop-j.j _ _ _ c.in_err-level_at.field-0.0 _ c.loop-j-test.true c.in_err-level_at.ensures.value c.loop-j.invariant.told))
+    rw (p.1, p.2) (ap (λ r. bind r (λ done t. Ok (done.1, t)))
+    (times_ends (level_at c.args.block c.args.sub c.args.indices.now.items c.args.signs) c.loop-j.j _ _ _
+    c.in_err-level_at.field-0.0 _ c.loop-j-test.true c.in_err-level_at.ensures.value c.loop-j.invariant.told))
 
 pub loop-j-preserved : goal.loop-j-preserved
 loop-j-preserved c = record {
-  told = times_goes_on (level_at c.args.block c.args.sub c.args.indices.now.items c.args.signs) c.loop-j.j _ _ _ _ _ _ c.loop-j-test.true c.in_ok-level_at.ensures.value.0 c.loop-j.invariant.told;
+  told =
+      times_goes_on (level_at c.args.block c.args.sub c.args.indices.now.items c.args.signs) c.loop-j.j _ _ _ _ _ _
+      c.loop-j-test.true c.in_ok-level_at.ensures.value.0 c.loop-j.invariant.told;
   live = c.in_ok-level_at.ensures.value.1;
   rice = c.in_ok-level_at.ensures.rice;
   sum = c.in_ok-level_at.ensures.sum;
@@ -20,5 +24,9 @@ loop-j-preserved c = record {
 }
 
 pub returns-clause-value : goal.returns-clause-value
-returns-clause-value c =
-    (ap (λ r. bind r (λ done t. Ok (done.1, t))) (times_done (level_at c.args.block c.args.sub c.args.indices.now.items c.args.signs) c.loop-j.j _ _ _ _ c.loop-j-test.false c.loop-j.invariant.told), c.loop-j.invariant.live)
+returns-clause-value c = (
+  ap (λ r. bind r (λ done t. Ok (done.1, t)))
+      (times_done (level_at c.args.block c.args.sub c.args.indices.now.items c.args.signs) c.loop-j.j _ _ _ _
+      c.loop-j-test.false c.loop-j.invariant.told),
+  c.loop-j.invariant.live,
+)

@@ -7,7 +7,8 @@ use Rattle.residual_syntax.proofs.significance.sig_coeffs.Given as goal
 
 abbrev pub invariant-loop-i : goal.invariant-loop-i
 invariant-loop-i l = record {
-  told : read (times l.i (l.from - l.i) (λ i. sig_coeff l.block l.sub l.flagged (l.from - 1 - i)) l.indices.items) (state_of l.reader)
+  told : read (times l.i (l.from - l.i) (λ i. sig_coeff l.block l.sub l.flagged (l.from - 1 - i)) l.indices.items)
+      (state_of l.reader)
       ≡ read (sig_coeffs l.block l.sub l.flagged l.from l.fn.indices.items) (state_of l.fn.reader);
   live : IsLive l.reader.interval;
   room : length l.indices.items ≤ length l.fn.indices.items + l.i;

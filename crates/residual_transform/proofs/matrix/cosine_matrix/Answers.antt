@@ -8,4 +8,5 @@ unfolding entry
 returns-clause-value c = refl
 
 pub returns-clause-matrix : goal.returns-clause-matrix
-returns-clause-matrix c = cosines_of_size c.args.log2 c.size_of-size.result c.size_of-size.ensures.value c.requires.0 c.requires.1
+returns-clause-matrix c =
+    cosines_of_size c.args.log2 c.size_of-size.result c.size_of-size.ensures.value c.requires.0 c.requires.1

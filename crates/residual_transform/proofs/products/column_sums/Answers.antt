@@ -13,7 +13,8 @@ pub add_row-requires-clause-sums : goal.add_row-requires-clause-sums
 add_row-requires-clause-sums c j h =
     let inside : j < c.args.matrix.now.size = omega (arith, h, c.row.ensures.count) in
     is_partial_sum c.loop-k.k c.args.matrix.now.size _ _ (c.loop-k.invariant.told j inside)
-    (column_within c.args.matrix.now.entries.now c.args.values.now c.args.matrix.now.stride c.args.matrix.now.size c.loop-k.k j c.args.column
+    (column_within c.args.matrix.now.entries.now c.args.values.now c.args.matrix.now.stride c.args.matrix.now.size
+    c.loop-k.k j c.args.column
     c.requires.matrix c.requires.values c.requires.count (omega arith) inside c.requires.column)
     c.loop-k-test.true c.requires.matrix.few
 
@@ -21,6 +22,7 @@ pub returns-clause-small : goal.returns-clause-small
 returns-clause-small c j inside =
     let few = c.requires.matrix.few in
     is_sum c.loop-k.k _ _ (c.loop-k.invariant.told j inside)
-    (column_within c.args.matrix.now.entries.now c.args.values.now c.args.matrix.now.stride c.args.matrix.now.size c.loop-k.k j c.args.column
+    (column_within c.args.matrix.now.entries.now c.args.values.now c.args.matrix.now.stride c.args.matrix.now.size
+    c.loop-k.k j c.args.column
     c.requires.matrix c.requires.values c.requires.count (omega arith) inside c.requires.column)
     (omega arith)

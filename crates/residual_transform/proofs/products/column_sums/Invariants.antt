@@ -5,6 +5,9 @@ use Rattle.residual_transform.proofs.products.column_sums.Given as goal
 
 abbrev pub invariant-loop-k : goal.invariant-loop-k
 invariant-loop-k l = record {
-  told : (j : ℕ) → j < l.matrix.size → at l.sums j ≡ sum_below l.k (λ k. matrix_in l.matrix.entries.now l.matrix.stride k j *ℤ at l.values (l.matrix.size * k + l.column));
+  told : (j : ℕ) → j < l.matrix.size
+      → at l.sums j
+      ≡ sum_below l.k
+      (λ k. matrix_in l.matrix.entries.now l.matrix.stride k j *ℤ at l.values (l.matrix.size * k + l.column));
   long : length l.sums ≡ 32;
 }

@@ -23,4 +23,5 @@ loop-i-preserved c =
     }
 
 pub returns-clause-small : goal.returns-clause-small
-returns-clause-small c = All-from_get_or IsResidual c.loop-i.out (pos 0) (λ k h. c.loop-i.invariant.small k (search rules))
+returns-clause-small c =
+    All-from_get_or IsResidual c.loop-i.out (pos 0) (λ k h. c.loop-i.invariant.small k (search rules))

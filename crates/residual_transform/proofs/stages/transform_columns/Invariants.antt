@@ -7,6 +7,8 @@ use Rattle.residual_transform.proofs.stages.transform_columns.Given as goal
 
 abbrev pub invariant-loop-column : goal.invariant-loop-column
 invariant-loop-column l = record {
-  told : (x y : ℕ) → x < l.column → y < l.matrix.size → block_in l.matrix.size l.out y x ≡ first_stage (matrix_in l.matrix.entries.now l.matrix.stride) l.matrix.size (block_in l.matrix.size l.d) x y;
+  told : (x y : ℕ) → x < l.column → y < l.matrix.size
+      → block_in l.matrix.size l.out y x
+      ≡ first_stage (matrix_in l.matrix.entries.now l.matrix.stride) l.matrix.size (block_in l.matrix.size l.d) x y;
   small : All Is16 l.out;
 }

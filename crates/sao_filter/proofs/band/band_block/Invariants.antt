@@ -5,4 +5,6 @@ use Rattle.sao_filter.specs.Row.{samples_of, top}
 use Rattle.sao_filter.proofs.band.band_block.Given as goal
 
 abbrev pub invariant-loop-line : goal.invariant-loop-line
-invariant-loop-line l = LaysLines l.row.width l.line l.block.from l.block.to (λ i j. band_moved l.row.depth l.position l.offsets (samples_of l.row l.lines i (top l.row + j))) l.fn.out l.out
+invariant-loop-line l =
+    LaysLines l.row.width l.line l.block.from l.block.to
+    (λ i j. band_moved l.row.depth l.position l.offsets (samples_of l.row l.lines i (top l.row + j))) l.fn.out l.out

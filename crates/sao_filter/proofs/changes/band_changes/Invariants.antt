@@ -5,5 +5,6 @@ use Rattle.sao_filter.proofs.changes.band_changes.Given as goal
 abbrev pub invariant-loop-k : goal.invariant-loop-k
 invariant-loop-k l = record {
   length : length l.table ≡ 32;
-  told : (q : ℕ) → q < l.k → slice_index_or l.table q (pos 0) ≡ offset_value l.depth l.offsets (band_index l.position q);
+  told : (q : ℕ) → q < l.k
+      → slice_index_or l.table q (pos 0) ≡ offset_value l.depth l.offsets (band_index l.position q);
 }

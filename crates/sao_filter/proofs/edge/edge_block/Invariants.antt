@@ -5,4 +5,8 @@ use Rattle.sao_filter.specs.Row.{plane_of, samples_of, top}
 use Rattle.sao_filter.proofs.edge.edge_block.Given as goal
 
 abbrev pub invariant-loop-line : goal.invariant-loop-line
-invariant-loop-line l = LaysLines l.row.width l.line l.block.from l.block.to (λ i j. edge_sample (plane_of l.row) (samples_of l.row l.lines) l.offsets (first_column l.class) (first_line l.class) i (top l.row + j)) l.fn.out l.out
+invariant-loop-line l =
+    LaysLines l.row.width l.line l.block.from l.block.to
+    (λ i j. edge_sample (plane_of l.row) (samples_of l.row l.lines) l.offsets (first_column l.class)
+    (first_line l.class) i (top l.row + j))
+    l.fn.out l.out

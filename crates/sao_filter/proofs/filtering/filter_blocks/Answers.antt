@@ -10,8 +10,12 @@ pub loop-k-preserved : goal.loop-k-preserved
 loop-k-preserved c =
     let row = c.args.row.now in
     row_more row.width row.size c.loop-k.k (lines_of row) c.filter_block.new.out c.loop-k.out
-    (λ (i j : ℕ). sample_by (plane_of row) (samples_of row c.args.lines.now) (unit_in row.here.now c.loop-k.k).offset i (top row + j))
-    (λ (i j : ℕ). sample_by (plane_of row) (samples_of row c.args.lines.now) (unit_at (plane_of row) i (top row + j)).offset i (top row + j))
+    (λ (i j : ℕ). sample_by (plane_of row) (samples_of row c.args.lines.now)
+    (unit_in row.here.now c.loop-k.k).offset i (top row + j))
+    (λ (i j : ℕ). sample_by (plane_of row) (samples_of row c.args.lines.now)
+    (unit_at (plane_of row) i (top row + j)).offset i (top row + j))
     c.filter_block.ensures
-    (λ i j low high line. ap (λ (u : OffsetUnit). sample_by (plane_of row) (samples_of row c.args.lines.now) u.offset i (top row + j)) (sym (unit_is row i j c.loop-k.k low high (omega arith))))
+    (λ i j low high line. ap
+    (λ (u : OffsetUnit). sample_by (plane_of row) (samples_of row c.args.lines.now) u.offset i (top row + j))
+    (sym (unit_is row i j c.loop-k.k low high (omega arith))))
     c.loop-k.invariant

@@ -4,4 +4,7 @@ use Rattle.sao_filter.specs.Row.{at, lines_of, plane_of, samples_of, top}
 use Rattle.sao_filter.proofs.filtering.filter_blocks.Given as goal
 
 abbrev pub invariant-loop-k : goal.invariant-loop-k
-invariant-loop-k l = (i j : ℕ) → i < l.row.width → j < lines_of l.row → i < l.row.size * l.k → at l.out (l.row.width * j + i) ≡ sample_by (plane_of l.row) (samples_of l.row l.lines) (unit_at (plane_of l.row) i (top l.row + j)).offset i (top l.row + j)
+invariant-loop-k l = (i j : ℕ) → i < l.row.width → j < lines_of l.row → i < l.row.size * l.k
+    → at l.out (l.row.width * j + i)
+    ≡ sample_by (plane_of l.row) (samples_of l.row l.lines)
+    (unit_at (plane_of l.row) i (top l.row + j)).offset i (top l.row + j)

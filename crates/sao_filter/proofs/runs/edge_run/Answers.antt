@@ -6,6 +6,9 @@ use Rattle.sao_filter.proofs.runs.edge_run.Goals as goal
 
 pub loop-k-preserved : goal.loop-k-preserved
 loop-k-preserved c = λ offsets table.
-    let room : c.args.run.first + c.loop-k.k < length c.loop-k.out = omega (arith, c.requires.out, c.loop-k.auto.out, c.loop-k-test.true) in
+    let room : c.args.run.first + c.loop-k.k < length c.loop-k.out =
+    omega (arith, c.requires.out, c.loop-k.auto.out, c.loop-k-test.true) in
     one_more c.args.run.first c.loop-k.k c.edge_moved.result c.args.out.now c.loop-k.out
-    (λ (k : ℕ). edge_moved c.args.depth offsets (at c.args.lines.now (c.args.run.from + k)) (at c.args.lines.now (c.args.beside.first + k)) (at c.args.lines.now (c.args.beside.second + k))) room (c.edge_moved.ensures offsets table) (c.loop-k.invariant offsets table)
+    (λ (k : ℕ). edge_moved c.args.depth offsets (at c.args.lines.now (c.args.run.from + k))
+    (at c.args.lines.now (c.args.beside.first + k)) (at c.args.lines.now (c.args.beside.second + k)))
+    room (c.edge_moved.ensures offsets table) (c.loop-k.invariant offsets table)

@@ -5,4 +5,9 @@ use Rattle.sao_filter.specs.Units.{IsEdgeTable}
 use Rattle.sao_filter.proofs.runs.edge_run.Given as goal
 
 abbrev pub invariant-loop-k : goal.invariant-loop-k
-invariant-loop-k l = (offsets : List ℤ) → IsEdgeTable l.depth offsets l.table → (q : ℕ) → at l.out q ≡ cond (nat_le l.run.first q && nat_lt q (l.run.first + l.k)) (edge_moved l.depth offsets (at l.lines (l.run.from + (q - l.run.first))) (at l.lines (l.beside.first + (q - l.run.first))) (at l.lines (l.beside.second + (q - l.run.first)))) (at l.fn.out q)
+invariant-loop-k l = (offsets : List ℤ) → IsEdgeTable l.depth offsets l.table → (q : ℕ)
+    → at l.out q
+    ≡ cond (nat_le l.run.first q && nat_lt q (l.run.first + l.k))
+    (edge_moved l.depth offsets (at l.lines (l.run.from + (q - l.run.first)))
+    (at l.lines (l.beside.first + (q - l.run.first))) (at l.lines (l.beside.second + (q - l.run.first))))
+    (at l.fn.out q)

@@ -5,8 +5,10 @@ use Rattle.spec_boundary_strengths.proofs.laws.equal_motion_has_no_strength.Goal
 
 pub returns-clause-left : goal.returns-clause-left
 unfolding left_strength
-returns-clause-left c beside items x y motion p q none_p none_q = none_either _ _ (strength_self _ _ _ motion (none_coded _ _ _ none_p none_q) p q)
+returns-clause-left c beside items x y motion p q none_p none_q =
+    none_either _ _ (strength_self _ _ _ motion (none_coded _ _ _ none_p none_q) p q)
 
 pub returns-clause-top : goal.returns-clause-top
 unfolding top_strength
-returns-clause-top c beside items x y motion p q none_p none_q = none_either _ _ (strength_self _ _ _ motion (none_coded _ _ _ none_p none_q) p q)
+returns-clause-top c beside items x y motion p q none_p none_q =
+    none_either _ _ (strength_self _ _ _ motion (none_coded _ _ _ none_p none_q) p q)

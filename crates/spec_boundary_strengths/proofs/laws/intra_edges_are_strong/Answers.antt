@@ -5,7 +5,8 @@ use Rattle.spec_boundary_strengths.proofs.laws.intra_edges_are_strong.Goals as g
 
 pub returns-clause-left : goal.returns-clause-left
 unfolding left_strength
-returns-clause-left c beside items x y intra filtered edge = if_both _ _ _ _ _ filtered edge (strength_intra _ _ _ intra)
+returns-clause-left c beside items x y intra filtered edge =
+    if_both _ _ _ _ _ filtered edge (strength_intra _ _ _ intra)
 
 pub returns-clause-top : goal.returns-clause-top
 unfolding top_strength

@@ -15,5 +15,6 @@ unfolding mean_qp edge_qp tc step_place
 returns-clause-tc c = refl
 
 pub returns-clause-line : goal.returns-clause-line
-unfolding mean_qp edge_qp beta tc is_flat luma_filter edge_filter held strong filtered filtered_line step_place step_sample smoothed
+unfolding mean_qp edge_qp beta tc is_flat luma_filter edge_filter held strong filtered filtered_line step_place
+    step_sample smoothed
 returns-clause-line c = refl

@@ -7,4 +7,5 @@ use Rattle.spec_decoder.proofs.Units.{has_all_units}
 use Rattle.spec_decoder.proofs.laws.decoded_pictures_have_all_units.Goals as goal
 
 pub returns : goal.returns
-returns c = λ ended bytes. All-weaker IsPlan HasAllUnits has_all_units (planned_of ended bytes).pictures (planned_in_range ended bytes)
+returns c = λ ended bytes. All-weaker IsPlan HasAllUnits has_all_units (planned_of ended bytes).pictures
+    (planned_in_range ended bytes)

@@ -17,4 +17,6 @@ returns-clause-product c =
     let inside : c.from.result - 11 < 15 = omega (arith, c.from.ensures, c.requires.high) in
     let here : 9 + (c.from.result - 11) ≡ c.args.mode - 2 = omega (arith, c.from.ensures, c.requires.low) in
     let is : c.from-2.result ≡ get_or INVERSE_ANGLE (c.from.result - 11) 0 = c.from-2.ensures in
-    rw is (subst (λ (i : ℕ). unsigned_abs (get_or INTRA_PRED_ANGLE i (pos 0)) * get_or INVERSE_ANGLE (c.from.result - 11) 0 ≤ 8208) here (product_greatest (c.from.result - 11) inside))
+    rw is (subst
+    (λ (i : ℕ). unsigned_abs (get_or INTRA_PRED_ANGLE i (pos 0)) * get_or INVERSE_ANGLE (c.from.result - 11) 0 ≤ 8208)
+    here (product_greatest (c.from.result - 11) inside))

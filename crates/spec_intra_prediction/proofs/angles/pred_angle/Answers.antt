@@ -23,6 +23,7 @@ returns-clause-negative c neg =
     let inside : c.from.result - 2 < 33 = omega (arith, c.from.ensures, c.requires.high) in
     let least = angle_least (c.from.result - 2) inside in
     let greatest = angle_greatest (c.from.result - 2) inside in
-    let below : get_or INTRA_PRED_ANGLE (c.from.result - 2) (pos 0) <ℤ pos 0 = omega (arith, ints, c.from-2.ensures, neg) in
+    let below : get_or INTRA_PRED_ANGLE (c.from.result - 2) (pos 0) <ℤ pos 0 =
+    omega (arith, ints, c.from-2.ensures, neg) in
     let between = negative_between (c.from.result - 2) inside below in
     (omega (arith, between.0, c.from.ensures), omega (arith, between.1, c.from.ensures))

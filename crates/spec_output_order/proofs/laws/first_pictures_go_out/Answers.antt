@@ -2,4 +2,9 @@ use Rattle.spec_output_order.proofs.FirstForOutput.{bumps, is_next, none_needed_
 use Rattle.spec_output_order.proofs.laws.first_pictures_go_out.Goals as goal
 
 pub returns : goal.returns
-returns c = record { next = λ pictures n is. (is_next pictures n is).first; count = λ pictures n is. (is_next pictures n is).poc; none = none_needed_next; bumping = bumps }
+returns c = record {
+  next = λ pictures n is. (is_next pictures n is).first;
+  count = λ pictures n is. (is_next pictures n is).poc;
+  none = none_needed_next;
+  bumping = bumps;
+}

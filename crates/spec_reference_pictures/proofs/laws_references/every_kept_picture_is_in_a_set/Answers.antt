@@ -2,12 +2,14 @@ use Rattle.std.proofs.Common.{◌∙◌, length, ap, sym, subst}
 use Rattle.header_types.specs.declared.reference_pictures.Mark.TheVariants as mark
 use Rattle.header_types.specs.declared.reference_pictures.Rps.{Rps}
 use Rattle.spec_reference_pictures.specs.ReferencePictureSet.{IsLongTerm, IsMarked, IsShortTerm, named_sets}
-use Rattle.spec_reference_pictures.proofs.DerivedSets.{long_marked, marked_long, marked_short, marks_length, set_is, short_marked}
+use Rattle.spec_reference_pictures.proofs.DerivedSets.{long_marked, marked_long, marked_short, marks_length, set_is}
+use Rattle.spec_reference_pictures.proofs.DerivedSets.{short_marked}
 use Rattle.spec_reference_pictures.proofs.laws_references.every_kept_picture_is_in_a_set.Goals as goal
 
 pub returns-clause-marks : goal.returns-clause-marks
 returns-clause-marks c kind fields poc dpb rps e =
-    ap (λ (r : Rps). length r.marks) (set_is kind fields poc dpb rps e) ∙ marks_length (named_sets kind fields poc dpb) (length dpb)
+    ap (λ (r : Rps). length r.marks) (set_is kind fields poc dpb rps e)
+    ∙ marks_length (named_sets kind fields poc dpb) (length dpb)
 
 pub returns-clause-long : goal.returns-clause-long
 returns-clause-long c kind fields poc dpb rps e k =

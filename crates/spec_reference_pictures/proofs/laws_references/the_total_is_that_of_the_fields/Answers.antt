@@ -7,5 +7,7 @@ use Rattle.spec_reference_pictures.proofs.laws_references.the_total_is_that_of_t
 
 pub returns : goal.returns
 returns c kind fields poc dpb rps other e =
-    let P : Rps → Type 0 = λ r. length r.st_curr_before + length r.st_curr_after + length r.lt_curr ≡ num_pic_total_curr fields in
-    subst P (sym (set_is kind fields poc dpb rps e)) (total_found kind fields poc dpb (length dpb) (none_missing kind fields poc dpb rps other e))
+    let P : Rps → Type 0 =
+    λ r. length r.st_curr_before + length r.st_curr_after + length r.lt_curr ≡ num_pic_total_curr fields in
+    subst P (sym (set_is kind fields poc dpb rps e))
+    (total_found kind fields poc dpb (length dpb) (none_missing kind fields poc dpb rps other e))

@@ -5,6 +5,8 @@ use Rattle.spec_slice_data.proofs.laws.coding_tree_unit_is_spelled.Goals as goal
 
 pub returns : goal.returns
 returns c = record {
-  read_as_spelled = λ syntax left above is_last ends_subset ctu. agree bin_at (unit_and_end syntax left above is_last ends_subset ctu);
-  read_again = λ syntax left above is_last ends_subset ctu x words s t writes has. again bin_at (unit_and_end syntax left above is_last ends_subset ctu) x words s t writes has;
+  read_as_spelled = λ syntax left above is_last ends_subset ctu. agree bin_at
+      (unit_and_end syntax left above is_last ends_subset ctu);
+  read_again = λ syntax left above is_last ends_subset ctu x words s t writes has. again bin_at
+      (unit_and_end syntax left above is_last ends_subset ctu) x words s t writes has;
 }

@@ -6,5 +6,12 @@ use Rattle.yuv_writer.proofs.gathering.lay_row.Goals as goal
 
 pub returns : goal.returns
 returns c =
-    let w : Window = record { left = c.window.inside.left; top = c.window.inside.top; width = c.window.inside.width; height = c.window.inside.height } in
-    rw (← c.window.view_is) (row_filled (samples_of c.args.planes.now) c.args.c w c.args.row _ (plane_width c.args.planes.now c.args.c) c.row-samples.result.now _ c.row-samples.ensures.count (search rules) (search rules) c.narrow.ensures.count c.narrow.ensures.value c.row-samples.ensures.samples)
+    let w : Window = record {
+      left = c.window.inside.left;
+      top = c.window.inside.top;
+      width = c.window.inside.width;
+      height = c.window.inside.height;
+    } in
+    rw (← c.window.view_is) (row_filled (samples_of c.args.planes.now) c.args.c w c.args.row _
+    (plane_width c.args.planes.now c.args.c) c.row-samples.result.now _ c.row-samples.ensures.count (search rules)
+    (search rules) c.narrow.ensures.count c.narrow.ensures.value c.row-samples.ensures.samples)

@@ -13,12 +13,15 @@ loop-done-init g c = record {
 
 pub returns-in_err-write_piece-clause-front : goal.returns-in_err-write_piece-clause-front
 returns-in_err-write_piece-clause-front g c = on_err c.from_residual.result
-    (rows_cut _ _ _ (samples_of c.args.planes.now) c.args.c c.args.window.now c.below.result c.loop-done.done c.min-count.result c.below.ensures (search rules) c.loop-done.invariant.gained c.in_err-write_piece.ensures.front)
+    (rows_cut _ _ _ (samples_of c.args.planes.now) c.args.c c.args.window.now c.below.result c.loop-done.done
+    c.min-count.result c.below.ensures (search rules) c.loop-done.invariant.gained c.in_err-write_piece.ensures.front)
 
 pub loop-done-preserved : goal.loop-done-preserved
 loop-done-preserved g c = record {
   within = search rules;
   room = search rules;
-  gained = rows_written _ _ _ (samples_of c.args.planes.now) c.args.c c.args.window.now c.below.result c.loop-done.done c.min-count.result c.below.ensures c.loop-done.invariant.gained c.in_ok-write_piece.ensures.gained;
+  gained =
+      rows_written _ _ _ (samples_of c.args.planes.now) c.args.c c.args.window.now c.below.result c.loop-done.done
+      c.min-count.result c.below.ensures c.loop-done.invariant.gained c.in_ok-write_piece.ensures.gained;
   quiet = c.in_ok-write_piece.ensures.quiet ∙ c.loop-done.invariant.quiet;
 }

@@ -9,7 +9,8 @@ abbrev pub invariant-loop-done : goal.invariant-loop-done
 invariant-loop-done g l = record {
   within : l.done ≤ l.window.height;
   room : length l.buffer ≡ 65536;
-  gained : Gains (g.O.Sink.contents l.fn.out) (g.O.Sink.contents l.out) (plane_bytes (samples_of l.planes) l.c (upper l.window l.done));
+  gained : Gains (g.O.Sink.contents l.fn.out) (g.O.Sink.contents l.out)
+      (plane_bytes (samples_of l.planes) l.c (upper l.window l.done));
   quiet : g.O.Sink.faults l.out ≡ g.O.Sink.faults l.fn.out;
 }
 

@@ -6,14 +6,16 @@ pub returns-then-not-is_above_counted : goal.returns-then-not-is_above_counted
 returns-then-not-is_above_counted c =
     let a = c.args in (
       λ t. let e : false ≡ true = t in cc,
-      λ all. sym c.if-not-is_above_counted.true ∙ c.is_above_counted.ensures.1 (build_above a.self.now.plan a.self.now.state a.line a.x all),
+      λ all. sym c.if-not-is_above_counted.true
+          ∙ c.is_above_counted.ensures.1 (build_above a.self.now.plan a.self.now.state a.line a.x all),
     )
 
 pub returns-then-not-is_collocated_counted : goal.returns-then-not-is_collocated_counted
 returns-then-not-is_collocated_counted c =
     let a = c.args in (
       λ t. let e : false ≡ true = t in cc,
-      λ all. sym c.if-not-is_collocated_counted.true ∙ c.is_collocated_counted.ensures.1 (build_row a.self.now.plan a.self.now.state a.line a.x all),
+      λ all. sym c.if-not-is_collocated_counted.true
+          ∙ c.is_collocated_counted.ensures.1 (build_row a.self.now.plan a.self.now.state a.line a.x all),
     )
 
 pub returns : goal.returns

@@ -12,8 +12,10 @@ returns-then-is_span_counted c =
     let second = span_needs plan c.filter_rows-rows.result.1 in
     let e = c.filter_rows-rows.ensures plan in
     let first_counted : AreCounted plan s first = c.is_span_counted.ensures.0 c.if-is_span_counted.true in (
-      λ t. subst (AreCounted plan s) e (both_all plan s first second first_counted (c.is_span_counted-then-is_span_counted.ensures.0 t)),
-      λ all. c.is_span_counted-then-is_span_counted.ensures.1 (both_right plan s first second (subst (AreCounted plan s) (sym e) all)),
+      λ t. subst (AreCounted plan s) e
+          (both_all plan s first second first_counted (c.is_span_counted-then-is_span_counted.ensures.0 t)),
+      λ all. c.is_span_counted-then-is_span_counted.ensures.1
+          (both_right plan s first second (subst (AreCounted plan s) (sym e) all)),
     )
 
 pub returns-else-is_span_counted : goal.returns-else-is_span_counted

@@ -20,7 +20,8 @@ returns-then-not-is_range_counted c =
     let P : Line × ℕ → Type 0 = λ need. need.1 ≤ count_of plan s need.0 in (
       λ t. let e : false ≡ true = t in cc,
       λ all.
-          let here = pieces_each P (range_needs plan) c.args.ranges.now all c.loop-range.range-index none c.loop-range-test.true in
+          let here =
+          pieces_each P (range_needs plan) c.args.ranges.now all c.loop-range.range-index none c.loop-range-test.true in
           sym c.if-not-is_range_counted.true ∙ c.is_range_counted.ensures.1 here,
     )
 
@@ -34,8 +35,11 @@ loop-range-preserved c k d inside =
     elim (cases_lt k i) [
       | inl lower ↦ c.loop-range.invariant k d lower
       | inr upper ↦ let same : i ≡ k = omega arith in
-          let now : Each (get_or c.args.ranges.now i none) = c.is_range_counted.ensures.0 c.if-not-is_range_counted.false in
-          let e : get_or c.args.ranges.now i none ≡ get_or c.args.ranges.now k d = get_or_default c.args.ranges.now i none d c.loop-range-test.true ∙ ap (λ n. get_or c.args.ranges.now n d) same in
+          let now : Each (get_or c.args.ranges.now i none) =
+          c.is_range_counted.ensures.0 c.if-not-is_range_counted.false in
+          let e : get_or c.args.ranges.now i none ≡ get_or c.args.ranges.now k d =
+          get_or_default c.args.ranges.now i none d c.loop-range-test.true
+          ∙ ap (λ n. get_or c.args.ranges.now n d) same in
           subst Each e now
     ]
 
@@ -43,5 +47,7 @@ pub returns : goal.returns
 returns c =
     let plan = c.args.self.now.plan in
     let s = c.args.self.now.state in
-    let P : Line × ℕ → Type 0 = λ need. need.1 ≤ count_of plan s need.0 in
-    (λ t. pieces_all P (range_needs plan) c.args.ranges.now (λ k d inside. c.loop-range.invariant k d (omega arith)), λ all. refl)
+    let P : Line × ℕ → Type 0 = λ need. need.1 ≤ count_of plan s need.0 in (
+      λ t. pieces_all P (range_needs plan) c.args.ranges.now (λ k d inside. c.loop-range.invariant k d (omega arith)),
+      λ all. refl,
+    )

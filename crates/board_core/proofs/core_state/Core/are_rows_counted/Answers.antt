@@ -15,9 +15,14 @@ returns-then-count-full_count_at c =
     let rows = ap (λ (p : FlightRows). (picture_at p a.rows.picture).rows) c.plan-plan.ensures in (
       λ t. let e : false ≡ true = t in cc,
       λ all.
-          let each = rows_each plan s a.rows.phase a.rows.picture a.rows.first a.rows.last all c.loop-row.row (omega arith) (omega (arith, rows)) in
-          let count : c.count.result ≡ count_of plan s at = c.count.ensures ∙ ap (count_of plan s) c.line_of-line.ensures in
+          let each =
+          rows_each plan s a.rows.phase a.rows.picture a.rows.first a.rows.last all c.loop-row.row (omega arith)
+          (omega (arith, rows)) in
+          let count : c.count.result ≡ count_of plan s at =
+          c.count.ensures ∙ ap (count_of plan s) c.line_of-line.ensures in
           let full : c.full_count_at.result ≡ full_count plan at =
-          c.full_count_at.ensures.value ∙ (ap (λ (p : FlightRows). full_count p c.line_of-line.result) c.plan-plan.ensures ∙ ap (full_count plan) c.line_of-line.ensures) in
+          c.full_count_at.ensures.value
+          ∙ (ap (λ (p : FlightRows). full_count p c.line_of-line.result) c.plan-plan.ensures
+          ∙ ap (full_count plan) c.line_of-line.ensures) in
           absurd (omega (arith, full, each, count, c.if-count-full_count_at.true)),
     )

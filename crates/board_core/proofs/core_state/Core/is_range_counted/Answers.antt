@@ -12,7 +12,9 @@ returns-in-Flight c =
     let s = c.args.self.now.state in
     let range = c.args.range in
     let is : range.picture ≡ Flight c.in-Flight.picture = c.in-Flight.is in
-    let e = ap (λ (r : PhaseRows). rows_needs plan r.phase r.picture r.first r.last) c.final_rows.ensures ∙ sym (ap (λ (r : Reference). reference_needs plan r range.first range.last) is) in (
+    let e =
+    ap (λ (r : PhaseRows). rows_needs plan r.phase r.picture r.first r.last) c.final_rows.ensures
+    ∙ sym (ap (λ (r : Reference). reference_needs plan r range.first range.last) is) in (
       λ t. subst (AreCounted plan s) e (c.are_rows_counted.ensures.0 t),
       λ all. c.are_rows_counted.ensures.1 (subst (AreCounted plan s) (sym e) all),
     )

@@ -11,6 +11,8 @@ invariant-loop-picture l =
       lines : l.lines ≡ sum_by picture_lines (take l.picture-index l.picture-items);
       units : l.units ≡ sum_by picture_units (take l.picture-index l.picture-items);
       few : l.lines ≤ 2048 * l.picture-index;
-      line_table : (k : ℕ) → k < l.picture-index → slice_index l.first_lines.items k ≡ sum_by picture_lines (take k l.picture-items);
-      unit_table : (k : ℕ) → k < l.picture-index → slice_index l.first_units.items k ≡ sum_by picture_units (take k l.picture-items);
+      line_table : (k : ℕ) → k < l.picture-index
+          → slice_index l.first_lines.items k ≡ sum_by picture_lines (take k l.picture-items);
+      unit_table : (k : ℕ) → k < l.picture-index
+          → slice_index l.first_units.items k ≡ sum_by picture_units (take k l.picture-items);
     }

@@ -7,6 +7,7 @@ use Rattle.cabac_contexts.proofs.bin_reader.BinReader.ones.Given as goal
 
 abbrev pub invariant-loop-i : goal.invariant-loop-i
 invariant-loop-i l = record {
-  told : read (unary (refuse l.too_great) (λ i. bypass) l.i (32 - l.i)) (state_of l.self) ≡ read (ones l.too_great) (state_of l.fn.self);
+  told : read (unary (refuse l.too_great) (λ i. bypass) l.i (32 - l.i)) (state_of l.self)
+      ≡ read (ones l.too_great) (state_of l.fn.self);
   live : IsLive l.self.interval;
 }

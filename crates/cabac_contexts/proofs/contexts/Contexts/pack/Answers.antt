@@ -6,4 +6,6 @@ use Rattle.cabac_contexts.proofs.contexts.Contexts.pack.Goals as goal
 
 pub returns : goal.returns
 unfolding packed
-returns c = fill_by_all (λ k. from_le_bytes w64 (eight_from c.args.self.now (8 * k))) c.loop-k.words 20 0 c.loop-k.invariant.count (λ k h. c.loop-k.invariant.told k (omega arith))
+returns c =
+    fill_by_all (λ k. from_le_bytes w64 (eight_from c.args.self.now (8 * k))) c.loop-k.words 20 0
+    c.loop-k.invariant.count (λ k h. c.loop-k.invariant.told k (omega arith))

@@ -8,11 +8,13 @@ pub of-requires : goal.of-requires
 unfolding unpacked
 of-requires c =
     let all : c.loop-i.values ≡ unpacked c.args.words =
-    fill_by_all (λ i. slice_index (to_le_bytes w64 (slice_index c.args.words (i / 8))) (i % 8)) c.loop-i.values 154 0 c.loop-i.invariant.count (λ k h. c.loop-i.invariant.told k (omega arith)) in
+    fill_by_all (λ i. slice_index (to_le_bytes w64 (slice_index c.args.words (i / 8))) (i % 8)) c.loop-i.values 154 0
+    c.loop-i.invariant.count (λ k h. c.loop-i.invariant.told k (omega arith)) in
     subst (All (λ value. value < 126)) (sym all) c.requires
 
 pub returns : goal.returns
 unfolding unpacked
 returns c =
     c.of.ensures
-    ∙ fill_by_all (λ i. slice_index (to_le_bytes w64 (slice_index c.args.words (i / 8))) (i % 8)) c.loop-i.values 154 0 c.loop-i.invariant.count (λ k h. c.loop-i.invariant.told k (omega arith))
+    ∙ fill_by_all (λ i. slice_index (to_le_bytes w64 (slice_index c.args.words (i / 8))) (i % 8)) c.loop-i.values 154 0
+    c.loop-i.invariant.count (λ k h. c.loop-i.invariant.told k (omega arith))

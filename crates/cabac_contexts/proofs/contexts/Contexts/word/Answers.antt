@@ -7,5 +7,6 @@ use Rattle.cabac_contexts.proofs.contexts.Contexts.word.Goals as goal
 pub returns : goal.returns
 returns c =
     let all : c.loop-j.bytes ≡ eight_from c.args.self.now c.args.first =
-    fill_by_all (λ j. slice_index c.args.self.now (c.args.first + j)) c.loop-j.bytes 8 0 c.loop-j.invariant.count (λ j h. c.loop-j.invariant.told j (omega arith)) in
+    fill_by_all (λ j. slice_index c.args.self.now (c.args.first + j)) c.loop-j.bytes 8 0 c.loop-j.invariant.count
+    (λ j h. c.loop-j.invariant.told j (omega arith)) in
     c.from_le_bytes.ensures ∙ ap (from_le_bytes w64) all

@@ -4,4 +4,5 @@ use Rattle.ctu_motion.proofs.unit_motion.UnitMotion.lay.Goals as goal
 
 pub returns-clause-places : goal.returns-clause-places
 returns-clause-places c =
-    held_over _ _ c.self.inside.places _ c.args.block c.args.motion _ _ _ _ (search rules) refl c.from.ensures c.from-2.ensures c.from-3.ensures c.from-4.ensures c.requires.x c.requires.y c.fill_block.ensures
+    held_over _ _ c.self.inside.places _ c.args.block c.args.motion _ _ _ _ (search rules) refl c.from.ensures
+    c.from-2.ensures c.from-3.ensures c.from-4.ensures c.requires.x c.requires.y c.fill_block.ensures

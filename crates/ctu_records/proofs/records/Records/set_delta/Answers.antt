@@ -1,6 +1,7 @@
 use Rattle.std.proofs.Common.{rules, arith}
 use Rattle.ctu_records.specs.declared.item.Item.TheVariants.{Delta}
-use Rattle.ctu_records.specs.Tree.{coding_at, coding_laid, no_coding, no_codings, not_read, luma_mode_at, luma_mode_laid, no_mode, qp_at, qp_laid}
+use Rattle.ctu_records.specs.Tree.{coding_at, coding_laid, no_coding, no_codings, not_read, luma_mode_at}
+use Rattle.ctu_records.specs.Tree.{luma_mode_laid, no_mode, qp_at, qp_laid}
 use Rattle.ctu_records.proofs.Held.{held_by, held_laid}
 use Rattle.ctu_records.proofs.records.Records.set_delta.Goals as goal
 
@@ -16,5 +17,7 @@ invariant_of-self c =
       enough = omega (arith, c.put.ensures.capacity, c.self.invariant.enough);
       coding = held_by no_coding coding_laid no_codings _ items _ (Delta c.args.delta) e c.self.invariant.coding;
       mode = held_by 1 luma_mode_laid no_mode _ items _ (Delta c.args.delta) e c.self.invariant.mode;
-      qp = held_by 0 qp_laid not_read _ items _ (Delta c.args.delta) e (held_laid 0 _ _ _ _ c.self.inside.qps _ (qp_at items) c.self.invariant.qp (search rules) (search rules));
+      qp =
+          held_by 0 qp_laid not_read _ items _ (Delta c.args.delta) e
+          (held_laid 0 _ _ _ _ c.self.inside.qps _ (qp_at items) c.self.invariant.qp (search rules) (search rules));
     }

@@ -6,6 +6,9 @@ use Rattle.decoder.proofs.stream.Decoder.write_rest.Goals as goal
 
 pub returns : goal.returns
 returns g c =
-    rest-by (change_of g.O.Sink.contents g.O.Sink.faults c.args.out.now c.write_last.new.out) c.args.self.now.planner (buffer_of c.args.self.now.buffer) c.args.ended false c.write_last.result c.if-ended.false
-    (rest-halted (change_of g.O.Sink.contents g.O.Sink.faults c.args.out.now c.write_last.new.out) c.args.self.now.planner c.halt.new.self (buffer_of c.args.self.now.buffer) c.halt.result.flights c.halt.result.last c.halt.result.stop c.write_last.result
+    rest-by (change_of g.O.Sink.contents g.O.Sink.faults c.args.out.now c.write_last.new.out) c.args.self.now.planner
+    (buffer_of c.args.self.now.buffer) c.args.ended false c.write_last.result c.if-ended.false
+    (rest-halted (change_of g.O.Sink.contents g.O.Sink.faults c.args.out.now c.write_last.new.out)
+    c.args.self.now.planner c.halt.new.self (buffer_of c.args.self.now.buffer) c.halt.result.flights c.halt.result.last
+    c.halt.result.stop c.write_last.result
     c.halt.ensures.value c.halt.ensures.stop c.write_last.ensures)

@@ -8,7 +8,13 @@ invariant_of-self-2 c =
     let ps = c.self.inside.pictures.items in
     let unit = c.args.unit in
     let flight = c.self.invariant.0 in
-    let is : IsTreeUnit ps unit = subst (λ (f : FlightRows). IsTreeUnit f.pictures unit) (sym c.self.view_is) c.requires in
+    let is : IsTreeUnit ps unit =
+    subst (λ (f : FlightRows). IsTreeUnit f.pictures unit) (sym c.self.view_is) c.requires in
     let more : IsFlight (record { pictures = ps; bad = c.self.inside.bad.items ++ unit ∷ [] }) =
-    record { few = flight.few; sizes = flight.sizes; earlier = flight.earlier; bad = All-push (IsTreeUnit ps) c.self.inside.bad.items unit flight.bad is } in
+    record {
+      few = flight.few;
+      sizes = flight.sizes;
+      earlier = flight.earlier;
+      bad = All-push (IsTreeUnit ps) c.self.inside.bad.items unit flight.bad is;
+    } in
     rw c.in_ok-push.ensures.items (more, c.self.invariant.1, c.self.invariant.2)

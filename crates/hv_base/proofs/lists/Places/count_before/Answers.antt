@@ -9,6 +9,8 @@ pub returns : goal.returns
 returns c =
     let up : IsStrictlyIncreasing c.as_slice.result.now = rw c.as_slice.ensures.value c.self.invariant in
     let parted = IsPartitionedBy-ltb (λ r. r) _ c.args.place (rising _ up) in
-    let point = IsPartitionPoint-from_clause (λ r. nat_lt r c.args.place) _ _ c.partition_point.ensures.partitioned parted (λ a r q k. search rules) in
+    let point =
+    IsPartitionPoint-from_clause (λ r. nat_lt r c.args.place) _ _ c.partition_point.ensures.partitioned parted
+    (λ a r q k. search rules) in
     let count = count_to (λ r. nat_lt r c.args.place) c.as_slice.result.now _ c.partition_point.ensures.bound point in
     sym count ∙ ap (count_by (λ r. nat_lt r c.args.place)) (c.as_slice.ensures.value ∙ c.self.view_is)

@@ -13,8 +13,10 @@ invariant_of-self-else-self-eq7 c =
 
 pub returns-then-self-eq7 : goal.returns-then-self-eq7
 returns-then-self-eq7 c =
-    bit_at_place c.self.inside.bytes.now c.self.inside.byte c.self.inside.bit _ _ c.self.view_is c.requires c.self.invariant.0 (omega arith)
+    bit_at_place c.self.inside.bytes.now c.self.inside.byte c.self.inside.bit _ _ c.self.view_is c.requires
+    c.self.invariant.0 (omega arith)
 
 pub returns-else-self-eq7 : goal.returns-else-self-eq7
 returns-else-self-eq7 c =
-    bit_at_place c.self.inside.bytes.now c.self.inside.byte c.self.inside.bit _ _ c.self.view_is c.requires c.self.invariant.0 (omega arith)
+    bit_at_place c.self.inside.bytes.now c.self.inside.byte c.self.inside.bit _ _ c.self.view_is c.requires
+    c.self.invariant.0 (omega arith)

@@ -4,7 +4,9 @@ use Rattle.hv_bits.proofs.Writing.{length-Holds, bytes_filled}
 use Rattle.hv_bits.proofs.bit_writer.BitWriter.bytes.Goals as goal
 
 pub returns-clause-value : goal.returns-clause-value
-returns-clause-value c = ap bits c.deref.ensures.value ∙ bytes_filled c.self.inside.bytes.items c.self.inside.free _ _ c.self.invariant c.self.view_is
+returns-clause-value c =
+    ap bits c.deref.ensures.value
+    ∙ bytes_filled c.self.inside.bytes.items c.self.inside.free _ _ c.self.invariant c.self.view_is
 
 pub returns-clause-count : goal.returns-clause-count
 returns-clause-count c =

@@ -12,4 +12,6 @@ pub invariant_of-self-2 : goal.invariant_of-self-2
 invariant_of-self-2 c = Holds-written _ _ _ (c.in_ok-self-inside.ensures.ok _ c.self.invariant)
 
 pub returns-clause-ok : goal.returns-clause-ok
-returns-clause-ok c = written-Holds _ _ _ (c.in_ok-self-inside.ensures.ok _ c.self.invariant) ∙ ap (λ bs. bs ++ u_bits c.args.n c.args.v) c.self.view_is
+returns-clause-ok c =
+    written-Holds _ _ _ (c.in_ok-self-inside.ensures.ok _ c.self.invariant)
+    ∙ ap (λ bs. bs ++ u_bits c.args.n c.args.v) c.self.view_is

@@ -2,4 +2,5 @@ use Rattle.nal_stream.proofs.Framers.{next-value}
 use Rattle.nal_stream.proofs.framer.Framer.next.Goals as goal
 
 pub returns-clause-value : goal.returns-clause-value
-returns-clause-value c = λ h s. next-value c.answer.result _ c.reach_unit.new.self _ h c.reach_unit.ensures.goes c.answer.ensures.value s
+returns-clause-value c =
+    λ h s. next-value c.answer.result _ c.reach_unit.new.self _ h c.reach_unit.ensures.goes c.answer.ensures.value s

@@ -23,52 +23,100 @@ use Rattle.picture_build.proofs.builder.PictureBuilder.build.Goals as goal
 
 pub returns-in-Some-clause-value : goal.returns-in-Some-clause-value
 returns-in-Some-clause-value g c = λ number.
-    let old : Building = record { plan = c.self.inside.plan.now; planes = c.self.inside.planes; motion = c.self.inside.motion; filters = c.self.inside.filters } in
+    let old : Building = record {
+      plan = c.self.inside.plan.now;
+      planes = c.self.inside.planes;
+      motion = c.self.inside.motion;
+      filters = c.self.inside.filters;
+    } in
     let unit : TreeUnit = tree_unit number c.args.address c.args.records.now in
     let bases : c.self.inside.bases.now ≡ g.B.Buffer.pictures = search rules in
-    let layout : c.self.inside.layout ≡ picture_shape c.self.inside.plan.now.sps c.self.inside.plan.now.pps = search rules in
-    let format : c.set_slice.new.format ≡ unit_format c.self.inside.plan.now.sps c.self.inside.plan.now.pps c.args.segment.now.header.slice = search rules in
-    let Q : Building → Type 0 = λ b. AreSound (unit_format b.plan.sps b.plan.pps c.args.segment.now.header.slice) c.args.records.now.items
-    → record { samples = samples_of c.lay_unit.new.planes; motions = motions_of c.derive.new.motion.field } ≡ unit_added (buffer_of g.B.Buffer.pictures) b.plan c.args.segment.now unit (built_by b) in
+    let layout : c.self.inside.layout ≡ picture_shape c.self.inside.plan.now.sps c.self.inside.plan.now.pps =
+    search rules in
+    let format : c.set_slice.new.format
+    ≡ unit_format c.self.inside.plan.now.sps c.self.inside.plan.now.pps c.args.segment.now.header.slice =
+    search rules in
+    let Q : Building → Type 0 =
+    λ b. AreSound (unit_format b.plan.sps b.plan.pps c.args.segment.now.header.slice) c.args.records.now.items
+    → record { samples = samples_of c.lay_unit.new.planes; motions = motions_of c.derive.new.motion.field }
+    ≡ unit_added (buffer_of g.B.Buffer.pictures) b.plan c.args.segment.now unit (built_by b) in
     subst Q c.self.view_is (λ sound.
-    unit_is c.self.inside.bases.now g.B.Buffer.pictures c.self.inside.plan.now c.args.segment.now unit c.self.inside.layout c.slice_address.result c.set_slice.new.format
-    (held c.gather.new.samples) (held c.build_unit.new.samples) (built_by old) (samples_of c.lay_unit.new.planes) (motion_held c.derive.new.motion.last) (motions_of c.derive.new.motion.field)
-    bases layout c.slice_address.ensures format sound (c.derive.ensures.last number) (c.derive.ensures.value number) c.gather.ensures
+    unit_is c.self.inside.bases.now g.B.Buffer.pictures c.self.inside.plan.now c.args.segment.now unit
+    c.self.inside.layout c.slice_address.result c.set_slice.new.format
+    (held c.gather.new.samples) (held c.build_unit.new.samples) (built_by old) (samples_of c.lay_unit.new.planes)
+    (motion_held c.derive.new.motion.last) (motions_of c.derive.new.motion.field)
+    bases layout c.slice_address.ensures format sound (c.derive.ensures.last number)
+    (c.derive.ensures.value number) c.gather.ensures
     (c.build_unit.ensures number (motions_of c.self.inside.motion.field)) c.lay_unit.ensures.value)
 
 pub returns-in_default-clause-value : goal.returns-in_default-clause-value
 returns-in_default-clause-value g c = λ number.
-    let old : Building = record { plan = c.self.inside.plan.now; planes = c.self.inside.planes; motion = c.self.inside.motion; filters = c.self.inside.filters } in
+    let old : Building = record {
+      plan = c.self.inside.plan.now;
+      planes = c.self.inside.planes;
+      motion = c.self.inside.motion;
+      filters = c.self.inside.filters;
+    } in
     let unit : TreeUnit = tree_unit number c.args.address c.args.records.now in
     let bases : c.self.inside.bases.now ≡ g.B.Buffer.pictures = search rules in
-    let layout : c.self.inside.layout ≡ picture_shape c.self.inside.plan.now.sps c.self.inside.plan.now.pps = search rules in
+    let layout : c.self.inside.layout ≡ picture_shape c.self.inside.plan.now.sps c.self.inside.plan.now.pps =
+    search rules in
     let past : c.self.inside.layout.down ≤ first_row c.self.inside.layout c.args.address = search rules in
-    let Q : Building → Type 0 = λ b. AreSound (unit_format b.plan.sps b.plan.pps c.args.segment.now.header.slice) c.args.records.now.items
-    → record { samples = samples_of c.self.inside.planes; motions = motions_of c.derive.new.motion.field } ≡ unit_added (buffer_of g.B.Buffer.pictures) b.plan c.args.segment.now unit (built_by b) in
+    let Q : Building → Type 0 =
+    λ b. AreSound (unit_format b.plan.sps b.plan.pps c.args.segment.now.header.slice) c.args.records.now.items
+    → record { samples = samples_of c.self.inside.planes; motions = motions_of c.derive.new.motion.field }
+    ≡ unit_added (buffer_of g.B.Buffer.pictures) b.plan c.args.segment.now unit (built_by b) in
     subst Q c.self.view_is (λ sound.
-    unit_below c.self.inside.bases.now g.B.Buffer.pictures c.self.inside.plan.now c.args.segment.now unit c.self.inside.layout (built_by old) (motions_of c.derive.new.motion.field)
+    unit_below c.self.inside.bases.now g.B.Buffer.pictures c.self.inside.plan.now c.args.segment.now unit
+    c.self.inside.layout (built_by old) (motions_of c.derive.new.motion.field)
     bases layout sound (c.derive.ensures.value number) c.in_default.ensures.shape past)
 
 pub returns-in-Some-clause-behind : goal.returns-in-Some-clause-behind
 returns-in-Some-clause-behind g c = λ number.
-    let old : Building = record { plan = c.self.inside.plan.now; planes = c.self.inside.planes; motion = c.self.inside.motion; filters = c.self.inside.filters } in
+    let old : Building = record {
+      plan = c.self.inside.plan.now;
+      planes = c.self.inside.planes;
+      motion = c.self.inside.motion;
+      filters = c.self.inside.filters;
+    } in
     let unit : TreeUnit = tree_unit number c.args.address c.args.records.now in
-    let format : UnitFormat = unit_format c.self.inside.plan.now.sps c.self.inside.plan.now.pps c.args.segment.now.header.slice in
-    let depth : IsDepth format.luma_depth = subst (λ (f : UnitFormat). IsDepth f.luma_depth) (c.self.invariant.5 c.args.segment.now.header.slice) c.self.invariant.4.luma in
-    let Q : Building → Type 0 = λ b. AreSound (unit_format b.plan.sps b.plan.pps c.args.segment.now.header.slice) c.args.records.now.items
-    → record { motions = motions_of c.derive.new.motion.field; gathered = data_of c.add.new.self } ≡ added_in (motions_at (buffer_of g.B.Buffer.pictures)) b.plan (Some c.args.segment.now) unit (behind_by b) in
+    let format : UnitFormat =
+    unit_format c.self.inside.plan.now.sps c.self.inside.plan.now.pps c.args.segment.now.header.slice in
+    let depth : IsDepth format.luma_depth =
+    subst (λ (f : UnitFormat). IsDepth f.luma_depth) (c.self.invariant.5 c.args.segment.now.header.slice)
+    c.self.invariant.4.luma in
+    let Q : Building → Type 0 =
+    λ b. AreSound (unit_format b.plan.sps b.plan.pps c.args.segment.now.header.slice) c.args.records.now.items
+    → record { motions = motions_of c.derive.new.motion.field; gathered = data_of c.add.new.self }
+    ≡ added_in (motions_at (buffer_of g.B.Buffer.pictures)) b.plan (Some c.args.segment.now) unit (behind_by b) in
     subst Q c.self.view_is (λ sound.
-    behind_unit c.self.inside.bases.now g.B.Buffer.pictures c.self.inside.plan.now c.self.inside.filters.plan c.args.segment.now unit format (behind_by old) (motions_of c.derive.new.motion.field) (motions_of c.field.result.now) (data_of c.add.new.self)
-    c.self.invariant.8 c.self.invariant.7 (ap motions_of c.field.ensures) depth sound (c.derive.ensures.value number) c.add.ensures.value)
+    behind_unit c.self.inside.bases.now g.B.Buffer.pictures c.self.inside.plan.now c.self.inside.filters.plan
+    c.args.segment.now unit format (behind_by old) (motions_of c.derive.new.motion.field)
+    (motions_of c.field.result.now) (data_of c.add.new.self)
+    c.self.invariant.8 c.self.invariant.7 (ap motions_of c.field.ensures) depth sound (c.derive.ensures.value number)
+    c.add.ensures.value)
 
 pub returns-in_default-clause-behind : goal.returns-in_default-clause-behind
 returns-in_default-clause-behind g c = λ number.
-    let old : Building = record { plan = c.self.inside.plan.now; planes = c.self.inside.planes; motion = c.self.inside.motion; filters = c.self.inside.filters } in
+    let old : Building = record {
+      plan = c.self.inside.plan.now;
+      planes = c.self.inside.planes;
+      motion = c.self.inside.motion;
+      filters = c.self.inside.filters;
+    } in
     let unit : TreeUnit = tree_unit number c.args.address c.args.records.now in
-    let format : UnitFormat = unit_format c.self.inside.plan.now.sps c.self.inside.plan.now.pps c.args.segment.now.header.slice in
-    let depth : IsDepth format.luma_depth = subst (λ (f : UnitFormat). IsDepth f.luma_depth) (c.self.invariant.5 c.args.segment.now.header.slice) c.self.invariant.4.luma in
-    let Q : Building → Type 0 = λ b. AreSound (unit_format b.plan.sps b.plan.pps c.args.segment.now.header.slice) c.args.records.now.items
-    → record { motions = motions_of c.derive.new.motion.field; gathered = data_of c.add.new.self } ≡ added_in (motions_at (buffer_of g.B.Buffer.pictures)) b.plan (Some c.args.segment.now) unit (behind_by b) in
+    let format : UnitFormat =
+    unit_format c.self.inside.plan.now.sps c.self.inside.plan.now.pps c.args.segment.now.header.slice in
+    let depth : IsDepth format.luma_depth =
+    subst (λ (f : UnitFormat). IsDepth f.luma_depth) (c.self.invariant.5 c.args.segment.now.header.slice)
+    c.self.invariant.4.luma in
+    let Q : Building → Type 0 =
+    λ b. AreSound (unit_format b.plan.sps b.plan.pps c.args.segment.now.header.slice) c.args.records.now.items
+    → record { motions = motions_of c.derive.new.motion.field; gathered = data_of c.add.new.self }
+    ≡ added_in (motions_at (buffer_of g.B.Buffer.pictures)) b.plan (Some c.args.segment.now) unit (behind_by b) in
     subst Q c.self.view_is (λ sound.
-    behind_unit c.self.inside.bases.now g.B.Buffer.pictures c.self.inside.plan.now c.self.inside.filters.plan c.args.segment.now unit format (behind_by old) (motions_of c.derive.new.motion.field) (motions_of c.field.result.now) (data_of c.add.new.self)
-    c.self.invariant.8 c.self.invariant.7 (ap motions_of c.field.ensures) depth sound (c.derive.ensures.value number) c.add.ensures.value)
+    behind_unit c.self.inside.bases.now g.B.Buffer.pictures c.self.inside.plan.now c.self.inside.filters.plan
+    c.args.segment.now unit format (behind_by old) (motions_of c.derive.new.motion.field)
+    (motions_of c.field.result.now) (data_of c.add.new.self)
+    c.self.invariant.8 c.self.invariant.7 (ap motions_of c.field.ensures) depth sound (c.derive.ensures.value number)
+    c.add.ensures.value)

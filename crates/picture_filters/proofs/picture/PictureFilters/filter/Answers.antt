@@ -14,4 +14,5 @@ filter_planned-requires-clause-places c =
 pub filter_planned-requires-clause-units : goal.filter_planned-requires-clause-units
 unfolding picture_shape
 filter_planned-requires-clause-units c =
-    subst (λ (q : PictureShape). HasUnits c.self.inside.units q.width (height_in_ctbs c.self.inside.plan.now.sps)) c.self.invariant.0 c.self.invariant.2
+    subst (λ (q : PictureShape). HasUnits c.self.inside.units q.width (height_in_ctbs c.self.inside.plan.now.sps))
+    c.self.invariant.0 c.self.invariant.2

@@ -5,4 +5,5 @@ use Rattle.picture_filters.proofs.picture.PictureFilters.new.Goals as goal
 
 pub returns-clause-value : goal.returns-clause-value
 returns-clause-value c =
-    nothing (places_of c.in_ok-places.places) (units_of c.in_ok-units.units) c.in_ok-places.ensures.places c.in_ok-units.ensures.units
+    nothing (places_of c.in_ok-places.places) (units_of c.in_ok-units.units) c.in_ok-places.ensures.places
+    c.in_ok-units.ensures.units

@@ -7,13 +7,23 @@ use Rattle.picture_motion.proofs.picture.PictureMotion.derive.Goals as goal
 
 pub returns-clause-last : goal.returns-clause-last
 returns-clause-last c = λ each.
-    known_is no_motions c.args.self.now.plan _ c.args.segment.now c.args.address c.args.records.now.items (motions_of c.args.self.now.field) _ c.unit_of-unit.result (held c.gather_beside.new.motion) (held_beneath c.gather_beside.new.motion) (held c.derive_gathered.new.self.last)
-    (search rules) (search rules) c.unit_of-unit.ensures.layout c.unit_of-unit.ensures.slice c.unit_of-unit.ensures.address c.gather_beside.ensures.places (none_beneath _ _ _ c.gather_beside.ensures.beneath) (c.derive_gathered.ensures.last each)
+    known_is no_motions c.args.self.now.plan _ c.args.segment.now c.args.address c.args.records.now.items
+    (motions_of c.args.self.now.field) _ c.unit_of-unit.result (held c.gather_beside.new.motion)
+    (held_beneath c.gather_beside.new.motion) (held c.derive_gathered.new.self.last)
+    (search rules) (search rules) c.unit_of-unit.ensures.layout c.unit_of-unit.ensures.slice
+    c.unit_of-unit.ensures.address c.gather_beside.ensures.places (none_beneath _ _ _ c.gather_beside.ensures.beneath)
+    (c.derive_gathered.ensures.last each)
 
 pub returns-clause-value : goal.returns-clause-value
 returns-clause-value c = λ each.
-    laid_is no_motions c.args.self.now.plan _ c.args.segment.now c.args.address c.args.records.now.items (motions_of c.args.self.now.field) _ (motions_of c.derive_gathered.new.self.field) c.unit_of-unit.result (held c.derive_gathered.new.self.last)
+    laid_is no_motions c.args.self.now.plan _ c.args.segment.now c.args.address c.args.records.now.items
+    (motions_of c.args.self.now.field) _ (motions_of c.derive_gathered.new.self.field) c.unit_of-unit.result
+    (held c.derive_gathered.new.self.last)
     (search rules) (search rules) c.unit_of-unit.ensures.layout c.unit_of-unit.ensures.address
-    (known_is no_motions c.args.self.now.plan _ c.args.segment.now c.args.address c.args.records.now.items (motions_of c.args.self.now.field) _ c.unit_of-unit.result (held c.gather_beside.new.motion) (held_beneath c.gather_beside.new.motion) (held c.derive_gathered.new.self.last)
-    (search rules) (search rules) c.unit_of-unit.ensures.layout c.unit_of-unit.ensures.slice c.unit_of-unit.ensures.address c.gather_beside.ensures.places (none_beneath _ _ _ c.gather_beside.ensures.beneath) (c.derive_gathered.ensures.last each))
+    (known_is no_motions c.args.self.now.plan _ c.args.segment.now c.args.address c.args.records.now.items
+    (motions_of c.args.self.now.field) _ c.unit_of-unit.result (held c.gather_beside.new.motion)
+    (held_beneath c.gather_beside.new.motion) (held c.derive_gathered.new.self.last)
+    (search rules) (search rules) c.unit_of-unit.ensures.layout c.unit_of-unit.ensures.slice
+    c.unit_of-unit.ensures.address c.gather_beside.ensures.places (none_beneath _ _ _ c.gather_beside.ensures.beneath)
+    (c.derive_gathered.ensures.last each))
     c.derive_gathered.ensures.value

@@ -4,4 +4,6 @@ use Rattle.picture_plan.proofs.state.State.plan_sps.Goals as goal
 
 pub returns-clause-value : goal.returns-clause-value
 returns-clause-value c =
-    c.close_then.ensures.value (λ t. behind_read c.args.nal.now.index (sequence_parameter_set_of c.args.nal.now.rbsp) (put_sps t)) (λ t e. c.in_ok-change.ensures.value t)
+    c.close_then.ensures.value
+    (λ t. behind_read c.args.nal.now.index (sequence_parameter_set_of c.args.nal.now.rbsp) (put_sps t))
+    (λ t e. c.in_ok-change.ensures.value t)

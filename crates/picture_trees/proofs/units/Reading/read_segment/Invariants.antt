@@ -10,6 +10,8 @@ abbrev pub invariant-loop-address : goal.invariant-loop-address
 invariant-loop-address g l = record {
   high : l.address ≤ l.segment.shape.first + l.segment.shape.count;
   live : l.address < l.segment.shape.first + l.segment.shape.count → MayGoOn l.segment l.address l.self;
-  told : (p : PicturePlan) (units : List Ctu) (given : List TreeUnit) → IsKept l.segment.picture l.segment.shape.first l.fn.self.beside units → g.T.Trees.tells l.fn.trees p given
-      → Told (g.T.Trees.tells l.trees p) (λ more. IsWithin l.segment l.address l.self more (segment_read l.segment (progress_of l.fn.self units given)));
+  told : (p : PicturePlan) (units : List Ctu) (given : List TreeUnit)
+      → IsKept l.segment.picture l.segment.shape.first l.fn.self.beside units → g.T.Trees.tells l.fn.trees p given
+      → Told (g.T.Trees.tells l.trees p)
+      (λ more. IsWithin l.segment l.address l.self more (segment_read l.segment (progress_of l.fn.self units given)));
 }
