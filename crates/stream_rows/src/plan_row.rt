@@ -65,7 +65,9 @@ fn answer_of(
         bytes: input.as_slice(),
         piece,
     };
-    let plan = plan_of(alloc, stream)?;
+    let Ok(plan) = plan_of(alloc, stream) else {
+        return Ok(Some(format!(in alloc; "pieces of {piece}: memory")?));
+    };
     let stop = stop_text(alloc, plan.stop)?;
     let is_last = last.is_none_or(|text| text == plan.last.as_str());
     if plan.pictures == pictures && stop.as_str() == told && is_last {
