@@ -6,21 +6,17 @@ use Rattle.hv_base.specs.declared.breach.Breach.TheVariants as breach
 use Rattle.hv_base.specs.declared.refusal.Stop.{Stop}
 use Rattle.hv_base.specs.declared.refusal.Stop.TheVariants as stop
 use Rattle.header_types.specs.declared.former.Former.{Former}
-use Rattle.header_types.specs.declared.reference_pictures.DpbPicture.{DpbPicture}
 use Rattle.plan_types.specs.declared.picture_plan.PicturePlan.{PicturePlan}
 use Rattle.plan_types.specs.declared.segment_plan.SegmentPlan.{SegmentPlan}
 use Rattle.plan_types.specs.declared.between.Between.{Between}
 use Rattle.spec_formats.specs.Fields.{Parses}
 use Rattle.spec_units.specs.Judged.{NalUnit}
-use Rattle.slice_types.specs.declared.slice.SliceHeaderFields.{SliceHeaderFields}
-use Rattle.spec_pictures.specs.Steps.{Stepped, begun, close, continuing, put_pps, put_sps, segment_of, sequence_end}
-use Rattle.spec_pictures.specs.Steps.{stop_at}
+use Rattle.spec_pictures.specs.Steps.{Stepped, begun, close, continuing, put_pps, put_sps, sequence_end, stop_at}
 use Rattle.picture_plan.specs.Bounds.{IsWithin}
 use Rattle.picture_plan.specs.declared.change.Change.{Change}
 use Rattle.picture_plan.specs.declared.change.Change.TheVariants as change
 use Rattle.picture_plan.specs.declared.change.Closing.{Closing}
 use Rattle.picture_plan.specs.declared.change.Closing.TheVariants as closing
-use Rattle.picture_plan.specs.declared.opening.Parts.{Parts}
 
 abbrev pub pictures_in : Option PicturePlan → List PicturePlan
 pictures_in None = []
@@ -53,20 +49,6 @@ abbrev pub Stops : ℕ → Refusal → Stop → Type 0
 Stops nal refusal.Memory e = ⊥
 Stops nal (refusal.Fault kind) e = e ≡ stop_at nal (breach.Fault kind)
 Stops nal (refusal.Limit kind) e = e ≡ stop_at nal (breach.Limit kind)
-
--- the picture that has these parts, and this unit and header as its first slice segment, and before which the buffer
--- has these pictures
-abbrev pub begun_by : List DpbPicture → NalUnit → SliceHeaderFields → Parts → PicturePlan
-begun_by dpb u header parts = record {
-  nal = u.index;
-  kind = header.kind;
-  sps = parts.sps;
-  pps = parts.pps;
-  poc = parts.poc;
-  rps = parts.rps;
-  outputs = parts.outputs;
-  segments = segment_of [] dpb parts.rps u header ∷ [];
-}
 
 -- a picture with one more segment
 abbrev pub one_more : PicturePlan → SegmentPlan → PicturePlan

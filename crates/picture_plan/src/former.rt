@@ -3,7 +3,8 @@
 ghost use Rattle.std.specs.Prelude.{◌≡◌, IfOk};
 ghost use Rattle.spec_pictures.specs.Pictures.{former_after, prev_after};
 ghost use Rattle.spec_pictures.specs.UnitKinds.{is_order_base};
-ghost use Rattle.picture_plan.specs.Bounds.{IsWithin, IsWithinSize};
+ghost use Rattle.picture_headers.specs.Bounds.{IsWithinSize};
+ghost use Rattle.picture_plan.specs.Bounds.{IsWithin};
 
 use crate::unit_kinds::{is_radl, is_rasl, is_sub_layer_non_reference};
 use header_types::Former;

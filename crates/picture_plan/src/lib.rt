@@ -3,16 +3,11 @@
 #![tactic(auto)]
 
 mod change;
-mod closing;
 mod ending;
 mod flight;
 mod former;
 mod gathering;
-mod headers;
-mod opening;
-mod outputs;
 mod planner;
-mod segments;
 mod slices;
 mod state;
 mod step;

@@ -1,21 +1,22 @@
 //! Slice segments.
 
-ghost use Rattle.std.specs.Prelude.{◌≡◌, [], None, Some, IfSome, Ok, IfOk, OnOk, OnErr};
+ghost use Rattle.std.specs.Prelude.{◌≡◌, ◌≤◌, [], None, Some, IfSome, Ok, IfOk, OnOk, OnErr, length};
 ghost use Rattle.plan_types.specs.declared.picture_plan.PicturePlan.{PicturePlan};
 ghost use Rattle.spec_units.specs.Judged.{unit_of};
 ghost use Rattle.plan_types.specs.declared.between.Between.{Between};
 ghost use Rattle.spec_pictures.specs.Steps.{close, closing, first_flag, goes_on, slice_judged, slice_step};
-ghost use Rattle.picture_plan.specs.Bounds.{ChangesFew, KeepsFew};
+ghost use Rattle.picture_headers.specs.Bounds.{KeepsFew};
+ghost use Rattle.picture_plan.specs.Bounds.{ChangesFew};
 ghost use Rattle.picture_plan.specs.Changes.{Closes, IsNextSegment, applied, one_more};
 ghost use Rattle.picture_plan.specs.Taken.{left_by, taken};
 
 use crate::change::{Change, Closing, stop_at};
-use crate::headers::{first_flag, judge_header};
-use crate::segments::segment_of;
 use crate::state::State;
 use crate::step::Step;
 use crate::unit_kinds::is_rasl;
+use header_types::Former;
 use hv_base::{Nal, Refusal};
+use picture_headers::{first_flag, judge_header, open_picture, segment_of};
 use plan_types::{PicturePlan, SegmentPlan};
 use std::alloc::AllocError;
 
@@ -104,6 +105,21 @@ impl State {
             Closing::Nothing => self.judge_opening(&self.between.former, nal),
             Closing::Broken(_) => Ok(Change::Nothing),
             Closing::Over(former) => self.judge_opening(former, nal),
+        }
+    }
+
+    /// Judges a slice segment while no picture is open, and this is left to its picture.
+    #[tactic(auto, unfolding(spec_pictures::specs::Steps::slice_judged))]
+    pub(crate) fn judge_opening(&self, former: &Former, nal: Nal) -> Result<Change, AllocError>
+        requires few { length former.now.dpb ≤ 16 }
+        ensures value { IfOk result (λ change. (t : Between) → t.sets ≡ self.now.between.sets → t.former ≡ former.now
+            → t.picture ≡ None → applied t change ≡ slice_judged (unit_of nal) t) }
+        ensures few { IfOk result ChangesFew }
+    {
+        let index = nal.index;
+        match open_picture(self.alloc, &self.between.sets, former, nal) {
+            Ok(picture) => Ok(Change::Opened(picture)),
+            Err(refusal) => Ok(Change::Stop(stop_at(index, refusal)?)),
         }
     }
 }

@@ -11,12 +11,12 @@ ghost use Rattle.picture_plan.specs.Flights.{waiting, with_pictures};
 ghost use Rattle.picture_plan.specs.Taken.{changed_behind, ended_by, left_by, taken};
 
 use crate::change::{Change, Closing, apply};
-use crate::closing::broken_at_closing;
 use crate::flight::{Ended, Flight};
 use crate::former::former_after;
 use crate::state::State;
 use header_types::Former;
 use hv_base::Stop;
+use picture_headers::broken_at_closing;
 use plan_types::PicturePlan;
 use std::alloc::{AllocError, Global};
 

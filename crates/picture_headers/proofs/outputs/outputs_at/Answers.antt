@@ -1,6 +1,6 @@
 use Rattle.std.proofs.Common.{of_z, to_z, w32}
-use Rattle.picture_plan.proofs.KeptPictures.{outputs_fit}
-use Rattle.picture_plan.proofs.outputs.outputs_at.Goals as goal
+use Rattle.picture_headers.proofs.KeptPictures.{outputs_fit}
+use Rattle.picture_headers.proofs.outputs.outputs_at.Goals as goal
 
 pub returns-clause-fits : goal.returns-clause-fits
 returns-clause-fits c =

@@ -1,6 +1,6 @@
 use Rattle.std.proofs.Common.{arith}
-use Rattle.picture_plan.proofs.FirstFlags.{first_of_none, first_of_some}
-use Rattle.picture_plan.proofs.headers.first_flag.Goals as goal
+use Rattle.picture_headers.proofs.FirstFlags.{first_of_none, first_of_some}
+use Rattle.picture_headers.proofs.headers.first_flag.Goals as goal
 
 pub returns-in-empty : goal.returns-in-empty
 returns-in-empty c = first_of_none c.args.payload.now (omega arith)

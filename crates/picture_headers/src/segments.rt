@@ -16,7 +16,7 @@ use std::alloc::{AllocError, Global};
 
 /// A slice segment behind these of its picture, before which the buffer has these pictures, and whose reference picture
 /// set this is.
-pub(crate) fn segment_of(
+pub fn segment_of(
     alloc: Global,
     before: &[SegmentPlan],
     dpb: &[DpbPicture],

@@ -6,7 +6,7 @@ ghost use Rattle.spec_output_order.specs.CurrentPictures.{current_picture};
 ghost use Rattle.spec_output_order.specs.OutputOrder.{outputs_of};
 ghost use Rattle.spec_reference_pictures.specs.PictureOrderCount.{begins_anew};
 ghost use Rattle.spec_reference_pictures.specs.ReferencePictureSet.{is_reference};
-ghost use Rattle.picture_plan.specs.Bounds.{Fits};
+ghost use Rattle.picture_headers.specs.Bounds.{Fits};
 
 use header_types::{Former, Rps, Sps};
 use output_order::{current_picture, outputs_of};

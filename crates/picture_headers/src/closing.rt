@@ -3,7 +3,7 @@
 ghost use Rattle.std.specs.Prelude.{◌≡◌, ◌-◌, ◌/◌, ◌≤◌, None, length, nat_lt, sum};
 ghost use Rattle.header_types.specs.SequenceParameterSets.{highest_ordering};
 ghost use Rattle.spec_output_order.specs.OutputOrder.{size_of};
-ghost use Rattle.picture_plan.specs.Bounds.{IsWithinSize, KeepsFew};
+ghost use Rattle.picture_headers.specs.Bounds.{IsWithinSize, KeepsFew};
 ghost use Rattle.plan_types.specs.Segments.{address_of, begins_at};
 ghost use Rattle.spec_pictures.specs.Closing.{
   broken_at,
@@ -26,7 +26,7 @@ use slice_headers::data_size;
 
 /// The first rule that a picture breaks as it is closed: of those on its slice segments, and then that the decoded
 /// picture buffer has room for it (`DpbFull`), told at its first slice segment.
-pub(crate) fn broken_at_closing(picture: &PicturePlan) -> Option<Fault>
+pub fn broken_at_closing(picture: &PicturePlan) -> Option<Fault>
     ensures value { result ≡ broken_at_closing picture.now }
     ensures room { KeepsFew picture.now → result ≡ None → IsWithinSize picture.now }
 {

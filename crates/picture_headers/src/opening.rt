@@ -4,19 +4,16 @@ ghost use Rattle.std.specs.Prelude.{◌≡◌, ◌<◌, ◌≤◌, ◌∷◌, []
 ghost use Rattle.std.specs.List.{count_by};
 ghost use Rattle.slice_types.specs.SliceHeaders.{IsReferenceFields};
 ghost use Rattle.spec_formats.specs.Fields.{Parses};
-ghost use Rattle.plan_types.specs.declared.between.Between.{Between};
-ghost use Rattle.spec_pictures.specs.Steps.{opening, picture_of, segment_of, slice_judged, with_order};
+ghost use Rattle.spec_pictures.specs.Steps.{opening, picture_of, segment_of, with_order};
 ghost use Rattle.spec_reference_pictures.specs.PictureOrderCount.{begins_anew, pic_order_cnt_val};
 ghost use Rattle.spec_reference_pictures.specs.ReferencePictureSet.{GivesSet, is_reference, reference_picture_set};
 ghost use Rattle.spec_units.specs.Judged.{NalUnit, unit_of};
-ghost use Rattle.picture_plan.specs.Bounds.{ChangesFew, Fits, KeepsFew};
-ghost use Rattle.picture_plan.specs.Changes.{applied, begun_by};
+ghost use Rattle.picture_headers.specs.Bounds.{Fits, KeepsFew};
+ghost use Rattle.picture_headers.specs.Parts.{begun_by};
 
-use crate::change::{Change, stop_at};
 use crate::headers::judge_header;
 use crate::outputs::outputs_at;
 use crate::segments::segment_of;
-use crate::state::State;
 use header_types::{DpbPicture, FieldList, Former, Pps, Rps, Sets, Shared, Sps};
 use hv_base::{FaultKind, Nal, Refusal};
 use plan_types::{Outputs, PicturePlan, SegmentPlan};
@@ -227,30 +224,19 @@ fn picture_of(
     Ok(picture_with(alloc, dpb, nal, header, parts)?)
 }
 
-/// The picture that a slice segment opens while none is open.
+/// The picture that a slice segment opens while none is open, under the accepted parameter sets and what the pictures
+/// before left (8.1, 8.3). The error is the first rule that it breaks or limit that it meets, or want of memory.
 #[tactic(auto, unfolding(spec_pictures::specs::Steps::opening))]
-fn open(alloc: Global, sets: &Sets, former: &Former, nal: Nal) -> Result<PicturePlan, Refusal>
+pub fn open_picture(
+    alloc: Global,
+    sets: &Sets,
+    former: &Former,
+    nal: Nal,
+) -> Result<PicturePlan, Refusal>
     requires { length former.now.dpb ≤ 16 }
     ensures value { Parses (λ x. x) result (opening sets.now former.now (unit_of nal)) }
     ensures few { IfOk result KeepsFew }
 {
     let header = judge_header(alloc, sets, former, &[], &nal)?;
     picture_of(alloc, sets, former, nal, header)
-}
-
-impl State {
-    /// Judges a slice segment while no picture is open, and this is left to its picture.
-    #[tactic(auto, unfolding(spec_pictures::specs::Steps::slice_judged))]
-    pub(crate) fn judge_opening(&self, former: &Former, nal: Nal) -> Result<Change, AllocError>
-        requires few { length former.now.dpb ≤ 16 }
-        ensures value { IfOk result (λ change. (t : Between) → t.sets ≡ self.now.between.sets → t.former ≡ former.now
-            → t.picture ≡ None → applied t change ≡ slice_judged (unit_of nal) t) }
-        ensures few { IfOk result ChangesFew }
-    {
-        let index = nal.index;
-        match open(self.alloc, &self.between.sets, former, nal) {
-            Ok(picture) => Ok(Change::Opened(picture)),
-            Err(refusal) => Ok(Change::Stop(stop_at(index, refusal)?)),
-        }
-    }
 }

@@ -17,7 +17,7 @@ use Rattle.spec_output_order.specs.CurrentPictures.{current_picture}
 use Rattle.spec_output_order.specs.OutputOrder.{outputs_of}
 use Rattle.spec_output_order.proofs.Anew.{anew_marks_none}
 use Rattle.spec_output_order.proofs.Room.{fits}
-use Rattle.picture_plan.specs.Bounds.{Fits}
+use Rattle.picture_headers.specs.Bounds.{Fits}
 
 -- a picture that begins anew keeps none, by what a call answered
 pub set_begins_anew : (kind : PictureKind) (references : ReferenceFields) (poc : ℤ) (dpb : List DpbPicture)

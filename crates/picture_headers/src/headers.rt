@@ -18,7 +18,7 @@ use std::alloc::Global;
 const MAX_SEGMENTS: usize = 4096;
 
 /// first_slice_segment_in_pic_flag, where the payload has it.
-pub(crate) fn first_flag(payload: &[u8]) -> Option<bool>
+pub fn first_flag(payload: &[u8]) -> Option<bool>
     ensures { result ≡ first_flag (bits payload.now) }
 {
     match payload {
@@ -31,7 +31,7 @@ pub(crate) fn first_flag(payload: &[u8]) -> Option<bool>
 /// `FirstPicture` where a sequence doesn't begin with an intra random access point, the limit `Segments` where the
 /// picture is full, and else as `read_slice_header` says.
 #[tactic(auto, unfolding(spec_pictures::specs::Steps::judged_header))]
-pub(crate) fn judge_header(
+pub fn judge_header(
     alloc: Global,
     sets: &Sets,
     former: &Former,

@@ -1,0 +1,2 @@
+pub mod FirstFlags
+pub mod KeptPictures
