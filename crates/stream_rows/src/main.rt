@@ -3,7 +3,6 @@
 #![tactic(auto)]
 
 mod byte_text;
-mod picture_text;
 mod plan_row;
 mod row_error;
 mod run_row;

@@ -4,13 +4,13 @@
 ghost use Rattle.std.specs.Prelude.{◌≡◌, ◌<◌, false};
 
 use crate::byte_text::{UnitNames, number_of};
-use crate::picture_text::picture_text;
 use crate::row_error::RowError;
 use crate::run_row::is_note;
 use crate::tally::Tally;
 use hv_base::Stop;
 use nal_stream::{Framer, Next};
 use picture_plan::{Flight, Planned, Planner};
+use plan_text::picture_text;
 use std::alloc::{AllocError, Global};
 
 /// The sizes of pieces in which a stream comes.
