@@ -1,6 +1,6 @@
 //! The pictures that long-term entries name (8.3.2).
 
-ghost use Rattle.std.specs.Prelude.{◌≡◌, ◌+◌, ◌*◌, ◌^◌, ◌<◌, ◌≤◌, map, pos, negsuc, ◌+ℤ◌, ◌-ℤ◌, ◌≤ℤ◌, length};
+ghost use Rattle.std.specs.Prelude.{◌≡◌, ◌+◌, ◌*◌, ◌^◌, ◌<◌, ◌≤◌, map, pos, ◌+ℤ◌, ◌-ℤ◌, nat_abs, length};
 ghost use Rattle.std.specs.Prelude.{slice_index_or, IfOk};
 ghost use Rattle.std.specs.List.{range_with_len};
 ghost use Rattle.spec_reference_pictures.specs.PictureOrderCount.{lsb_of};
@@ -71,28 +71,25 @@ fn poc_lt(max_lsb: u32, poc: i32, cycle: u64, lsb: u32) -> i64
     requires cycle { cycle < 2 ^ 41 }
     ensures { result ≡ poc -ℤ pos (cycle * max_lsb) -ℤ pos (lsb_of max_lsb poc) +ℤ pos lsb }
 {
-    moved(msb_part(max_lsb, poc), scaled(cycle, max_lsb), lsb)
+    let back = further_back(poc, scaled(cycle, max_lsb));
+    with_lsb(back, lsb_of(max_lsb, poc), lsb)
 }
 
-/// An order count without its least significant bits.
-fn msb_part(max_lsb: u32, poc: i32) -> i64
-    requires max_lsb_low { 1 ≤ max_lsb }
-    requires max_lsb_high { max_lsb ≤ 65536 }
-    ensures value { result ≡ poc -ℤ pos (lsb_of max_lsb poc) }
-    ensures low { negsuc 2147549183 ≤ℤ result }
-    ensures high { result ≤ℤ pos 2147483647 }
+/// An order count so many order counts further back.
+fn further_back(poc: i32, back: u64) -> i64
+    requires { back < 2 ^ 57 }
+    ensures value { result ≡ poc -ℤ pos back }
+    ensures near { nat_abs result ≤ 2 ^ 58 }
 {
-    i64::from(poc) - i64::from(lsb_of(max_lsb, poc))
+    i64::from(poc) - back as i64
 }
 
-/// An order count without its least significant bits, so many order counts further back, with these bits.
-fn moved(msb: i64, back: u64, lsb: u32) -> i64
-    requires low { negsuc 2147549183 ≤ℤ msb }
-    requires high { msb ≤ℤ pos 2147483647 }
-    requires back { back < 2 ^ 57 }
-    ensures { result ≡ msb -ℤ pos back +ℤ pos lsb }
+/// An order count with `lsb` in place of its least significant bits `own`.
+fn with_lsb(poc: i64, own: u32, lsb: u32) -> i64
+    requires { nat_abs poc ≤ 2 ^ 58 }
+    ensures { result ≡ poc -ℤ pos own +ℤ pos lsb }
 {
-    msb - back as i64 + i64::from(lsb)
+    poc - i64::from(own) + i64::from(lsb)
 }
 
 /// The order counts of `cycle` cycles.

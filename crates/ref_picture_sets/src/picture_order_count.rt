@@ -1,6 +1,7 @@
 //! Picture order count (8.3.1).
 
-ghost use Rattle.std.specs.Prelude.{◌≡◌, ◌<◌, ◌≤◌, pos, negsuc, ◌≤ℤ◌, ◌<ℤ◌};
+ghost use Rattle.std.specs.Prelude.{◌≡◌, ◌-◌, ◌/◌, ◌<◌, ◌≤◌, ◌&&◌, if◌then◌else◌, nat_lt, nat_le, pos, negsuc, ◌+ℤ◌};
+ghost use Rattle.std.specs.Prelude.{◌-ℤ◌, ◌≤ℤ◌, ◌<ℤ◌};
 ghost use Rattle.spec_reference_pictures.specs.PictureOrderCount.{begins_anew, in_range, is_idr, is_irap, lsb_of};
 ghost use Rattle.spec_reference_pictures.specs.PictureOrderCount.{pic_order_cnt_msb, pic_order_cnt_val};
 
@@ -66,14 +67,53 @@ fn msb_of(max_lsb: u32, lsb: u32, prev: i32) -> i64
     ensures high { result ≤ℤ pos 2147614719 }
 {
     let prev_lsb = lsb_of(max_lsb, prev);
-    let prev_msb = i64::from(prev) - i64::from(prev_lsb);
-    if lsb < prev_lsb && prev_lsb - lsb >= max_lsb / 2 {
+    let later = is_cycle_later(max_lsb, lsb, prev_lsb);
+    let earlier = is_cycle_earlier(max_lsb, lsb, prev_lsb);
+    msb_beside(max_lsb, msb_part(prev, prev_lsb), later, earlier)
+}
+
+/// PicOrderCntMsb in the cycle behind that of prevTid0Pic, or before it, or in the same (8-1).
+fn msb_beside(max_lsb: u32, prev_msb: i64, later: bool, earlier: bool) -> i64
+    requires max_lsb { max_lsb ≤ 65536 }
+    requires low { negsuc 2147549183 ≤ℤ prev_msb }
+    requires high { prev_msb ≤ℤ pos 2147483647 }
+    ensures value { result
+        ≡ (if later then prev_msb +ℤ pos max_lsb else (if earlier then prev_msb -ℤ pos max_lsb else prev_msb)) }
+    ensures low { negsuc 2147614719 ≤ℤ result }
+    ensures high { result ≤ℤ pos 2147614719 }
+{
+    if later {
         prev_msb + i64::from(max_lsb)
-    } else if prev_lsb < lsb && lsb - prev_lsb > max_lsb / 2 {
+    } else if earlier {
         prev_msb - i64::from(max_lsb)
     } else {
         prev_msb
     }
+}
+
+/// Whether a picture with these least significant bits is in the cycle of `max_lsb` order counts behind that of
+/// prevTid0Pic (8-1).
+fn is_cycle_later(max_lsb: u32, lsb: u32, prev_lsb: u32) -> bool
+    ensures { result ≡ (nat_lt lsb prev_lsb && nat_le (max_lsb / 2) (prev_lsb - lsb)) }
+{
+    lsb < prev_lsb && prev_lsb - lsb >= max_lsb / 2
+}
+
+/// Whether it is in the cycle before that of prevTid0Pic (8-1).
+fn is_cycle_earlier(max_lsb: u32, lsb: u32, prev_lsb: u32) -> bool
+    ensures { result ≡ (nat_lt prev_lsb lsb && nat_lt (max_lsb / 2) (lsb - prev_lsb)) }
+{
+    prev_lsb < lsb && lsb - prev_lsb > max_lsb / 2
+}
+
+/// An order count without its least significant bits `lsb`.
+fn msb_part(poc: i32, lsb: u32) -> i64
+    requires { lsb ≤ 65536 }
+    ensures value { result ≡ poc -ℤ pos lsb }
+    ensures low { negsuc 2147549183 ≤ℤ result }
+    ensures high { result ≤ℤ pos 2147483647 }
+{
+    i64::from(poc) - i64::from(lsb)
 }
 
 /// An order count modulo `max_lsb`.

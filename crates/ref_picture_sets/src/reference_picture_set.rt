@@ -1,21 +1,28 @@
 //! Reference picture sets (8.3.2).
 
-ghost use Rattle.std.specs.Prelude.{◌≡◌, ◌+◌, ◌^◌, ◌<◌, ◌≤◌, map, length, is_none, All, IfOk};
+ghost use Rattle.std.specs.Prelude.{◌≡◌, ◌+◌, ◌++◌, ◌^◌, ◌<◌, ◌≤◌, true, false, not, ◌&&◌, if◌then◌else◌, map};
+ghost use Rattle.std.specs.Prelude.{length, is_none, Ok, Err, All, IfOk};
 ghost use Rattle.std.specs.List.{count_by, list_any, range_with_len};
+ghost use Rattle.hv_base.specs.declared.fault.FaultKind.TheVariants.{MissingReference};
 ghost use Rattle.header_types.specs.declared.short_term_set.ShortTermRef.{ShortTermRef};
 ghost use Rattle.header_types.specs.declared.reference_pictures.LongTermRef.{LongTermRef};
+ghost use Rattle.spec_reference_pictures.specs.PictureOrderCount.{is_irap};
 ghost use Rattle.spec_reference_pictures.specs.ReferencePictureSet.{GivesSet, found, found_set, is_among};
-ghost use Rattle.spec_reference_pictures.specs.ReferencePictureSet.{lacks_current, mark_after, named_sets};
-ghost use Rattle.spec_reference_pictures.specs.ReferencePictureSet.{num_pic_total_curr, reference_picture_set};
+ghost use Rattle.spec_reference_pictures.specs.ReferencePictureSet.{lacks_current, long_term_places, long_term_set};
+ghost use Rattle.spec_reference_pictures.specs.ReferencePictureSet.{mark_after, named_sets, num_pic_total_curr};
+ghost use Rattle.spec_reference_pictures.specs.ReferencePictureSet.{reference_picture_set, short_term_set};
 
 use crate::long_term::{CurrentPicture, long_term_places, long_term_set};
 use crate::picture_order_count::is_irap;
 use crate::search::is_among;
-use crate::short_term_places::{reference_pocs, short_term_pocs, short_term_set};
-use header_types::{DpbPicture, FieldList, LongTermRef, Mark, NamedSets, Rps, ShortTermRef};
+use crate::short_term_places::{add_short_term, reference_pocs, short_term_pocs, short_term_set};
+use header_types::{DpbPicture, FieldList, LongTermRef, Mark, NamedSets, Rps, ShortTermRef, StRps};
 use hv_base::{FaultKind, Refusal};
-use slice_types::{PictureKind, ReferenceFields};
+use slice_types::{LongTermRefs, PictureKind, ReferenceFields};
 use std::alloc::{AllocError, Global};
+
+/// The places of the pictures that entries name, `None` where the buffer has no such picture.
+type Places = FieldList<Option<u32>>;
 
 /// The reference picture set of a picture with these fields and this order count, where `dpb` are the pictures of the
 /// decoded picture buffer in decoding order (8.3.2). `MissingReference` exactly where the picture isn't an intra random
@@ -35,14 +42,30 @@ pub fn derive_rps(
     ensures { GivesSet result (reference_picture_set kind references.now poc dpb.now) }
 {
     let sets = named_sets(alloc, CurrentPicture { kind, poc }, references, dpb)?;
-    if !is_irap(kind.nal_type) && lacks_current(&sets) {
+    found_or_missing(alloc, kind, &sets, dpb.len())
+}
+
+/// The set of the pictures that were found in a buffer of `size` pictures. `MissingReference` where the picture isn't
+/// an intra random access point and one lacks that it may use itself.
+fn found_or_missing(
+    alloc: Global,
+    kind: PictureKind,
+    sets: &NamedSets,
+    size: usize,
+) -> Result<Rps, Refusal>
+    requires { size < 2 ^ 32 }
+    ensures { GivesSet result
+        (if not (is_irap kind.nal_type) && lacks_current sets.now then Err MissingReference
+        else Ok (found_set sets.now size)) }
+{
+    if !is_irap(kind.nal_type) && lacks_current(sets) {
         return Err(Refusal::Fault(FaultKind::MissingReference));
     }
-    Ok(found_set(alloc, &sets, dpb.len())?)
+    Ok(found_set(alloc, sets, size)?)
 }
 
 /// The five lists of the set as the entries name them.
-#[tactic(auto, unfolding(spec_reference_pictures::specs::ReferencePictureSet::named_sets, spec_reference_pictures::specs::ReferencePictureSet::long_term_places))]
+#[tactic(auto, unfolding(spec_reference_pictures::specs::ReferencePictureSet::named_sets))]
 fn named_sets(
     alloc: Global,
     picture: CurrentPicture,
@@ -55,24 +78,78 @@ fn named_sets(
     requires few { length dpb.now < 2 ^ 32 }
     ensures { IfOk result (λ sets. sets ≡ named_sets picture.kind references.now picture.poc dpb.now) }
 {
-    let marked = reference_pocs(alloc, picture.kind, dpb)?;
-    let long = long_term_places(alloc, picture, &references.long_term, marked.as_slice())?;
+    let long = marked_places(alloc, picture, &references.long_term, dpb)?;
     let counts = short_term_pocs(alloc, picture.kind, long.as_slice(), dpb)?;
-    let counts = counts.as_slice();
-    let before = references.short_term_ref_pic_set.negative.as_slice();
-    let after = references.short_term_ref_pic_set.positive.as_slice();
     let entries = references.long_term.entries.as_slice();
-    let mut st_foll = short_term_set(alloc, counts, picture, false, before)?;
-    st_foll.append(&mut short_term_set(alloc, counts, picture, false, after)?)?;
+    let (lt_curr, lt_foll) = long_term_sets(alloc, long.as_slice(), entries)?;
+    let set = &references.short_term_ref_pic_set;
+    let counts = counts.as_slice();
+    let (st_curr_before, st_curr_after, st_foll) = short_term_sets(alloc, counts, picture, set)?;
     Ok(NamedSets {
-        st_curr_before: FieldList::from_items(short_term_set(
-            alloc, counts, picture, true, before,
-        )?),
-        st_curr_after: FieldList::from_items(short_term_set(alloc, counts, picture, true, after)?),
-        st_foll: FieldList::from_items(st_foll),
-        lt_curr: long_term_set(alloc, long.as_slice(), true, entries)?,
-        lt_foll: long_term_set(alloc, long.as_slice(), false, entries)?,
+        st_curr_before,
+        st_curr_after,
+        st_foll,
+        lt_curr,
+        lt_foll,
     })
+}
+
+/// The places of the pictures that the long-term entries name, among all that are marked as reference.
+#[tactic(auto, unfolding(spec_reference_pictures::specs::ReferencePictureSet::long_term_places))]
+fn marked_places(
+    alloc: Global,
+    picture: CurrentPicture,
+    long: &LongTermRefs,
+    dpb: &[DpbPicture],
+) -> Result<Places, AllocError>
+    requires max_lsb_low { 16 ≤ picture.kind.max_lsb }
+    requires max_lsb_high { picture.kind.max_lsb ≤ 65536 }
+    requires entries { length long.now.entries ≤ 33 }
+    requires few { length dpb.now < 2 ^ 32 }
+    ensures value { IfOk result (λ places. places ≡ long_term_places picture.kind long.now picture.poc dpb.now) }
+    ensures each { IfOk result (λ places. length places ≡ length long.now.entries) }
+{
+    let marked = reference_pocs(alloc, picture.kind, dpb)?;
+    long_term_places(alloc, picture, long, marked.as_slice())
+}
+
+/// RefPicSetLtCurr and RefPicSetLtFoll, where `places` are those of all entries.
+fn long_term_sets(
+    alloc: Global,
+    places: &[Option<u32>],
+    entries: &[LongTermRef],
+) -> Result<(Places, Places), AllocError>
+    requires same { length places.now ≡ length entries.now }
+    ensures current { IfOk result (λ sets. sets.0 ≡ long_term_set places.now true entries.now) }
+    ensures later { IfOk result (λ sets. sets.1 ≡ long_term_set places.now false entries.now) }
+{
+    let current = long_term_set(alloc, places, true, entries)?;
+    let later = long_term_set(alloc, places, false, entries)?;
+    Ok((current, later))
+}
+
+/// RefPicSetStCurrBefore, RefPicSetStCurrAfter and RefPicSetStFoll, where `counts` are the order counts of the
+/// short-term pictures.
+fn short_term_sets(
+    alloc: Global,
+    counts: &[Option<i32>],
+    picture: CurrentPicture,
+    set: &StRps,
+) -> Result<(Places, Places, Places), AllocError>
+    requires few { length counts.now < 2 ^ 32 }
+    ensures before { IfOk result (λ sets. sets.0 ≡ short_term_set counts.now picture.poc true set.now.negative) }
+    ensures after { IfOk result (λ sets. sets.1 ≡ short_term_set counts.now picture.poc true set.now.positive) }
+    ensures later { IfOk result (λ sets. sets.2
+        ≡ short_term_set counts.now picture.poc false set.now.negative
+        ++ short_term_set counts.now picture.poc false set.now.positive) }
+{
+    let negative = set.negative.as_slice();
+    let positive = set.positive.as_slice();
+    let before = short_term_set(alloc, counts, picture, true, negative)?;
+    let after = short_term_set(alloc, counts, picture, true, positive)?;
+    let mut later = short_term_set(alloc, counts, picture, false, negative)?;
+    add_short_term(&mut later, counts, picture, false, positive)?;
+    Ok((before, after, later))
 }
 
 /// Whether a picture lacks that the picture itself may use.
@@ -98,14 +175,37 @@ fn found_set(alloc: Global, sets: &NamedSets, size: usize) -> Result<Rps, AllocE
     requires size { size < 2 ^ 32 }
     ensures { IfOk result (λ rps. rps ≡ found_set sets.now size) }
 {
+    let lt_curr = found(alloc, sets.lt_curr.as_slice())?;
+    let lt_foll = found(alloc, sets.lt_foll.as_slice())?;
+    let marks = marks(alloc, sets, size)?;
+    let (st_curr_before, st_curr_after, st_foll) = found_short_term(alloc, sets)?;
     Ok(Rps {
-        st_curr_before: FieldList::from_items(found(alloc, sets.st_curr_before.as_slice())?),
-        st_curr_after: FieldList::from_items(found(alloc, sets.st_curr_after.as_slice())?),
-        st_foll: FieldList::from_items(found(alloc, sets.st_foll.as_slice())?),
-        lt_curr: FieldList::from_items(found(alloc, sets.lt_curr.as_slice())?),
-        lt_foll: FieldList::from_items(found(alloc, sets.lt_foll.as_slice())?),
-        marks: FieldList::from_items(marks(alloc, sets, size)?),
+        st_curr_before,
+        st_curr_after,
+        st_foll,
+        lt_curr: FieldList::from_items(lt_curr),
+        lt_foll: FieldList::from_items(lt_foll),
+        marks: FieldList::from_items(marks),
     })
+}
+
+/// The short-term pictures that were found.
+fn found_short_term(
+    alloc: Global,
+    sets: &NamedSets,
+) -> Result<(FieldList<u32>, FieldList<u32>, FieldList<u32>), AllocError>
+    ensures before { IfOk result (λ lists. lists.0 ≡ found sets.now.st_curr_before) }
+    ensures after { IfOk result (λ lists. lists.1 ≡ found sets.now.st_curr_after) }
+    ensures later { IfOk result (λ lists. lists.2 ≡ found sets.now.st_foll) }
+{
+    let before = found(alloc, sets.st_curr_before.as_slice())?;
+    let after = found(alloc, sets.st_curr_after.as_slice())?;
+    let later = found(alloc, sets.st_foll.as_slice())?;
+    Ok((
+        FieldList::from_items(before),
+        FieldList::from_items(after),
+        FieldList::from_items(later),
+    ))
 }
 
 /// The pictures that were found.

@@ -2,6 +2,7 @@
 
 ghost use Rattle.std.specs.Prelude.{◌≡◌, ◌*◌, ◌≤◌, nat_abs, IfOk};
 ghost use Rattle.header_fields.specs.Takes.{Takes};
+ghost use Rattle.ref_picture_sets.specs.Parts.{explicit_sides};
 ghost use Rattle.spec_reference_pictures.specs.ShortTermSets.{signed, step, outward, explicit_set};
 
 use header_fields::FieldReader;
@@ -75,6 +76,20 @@ pub(crate) fn read_explicit<'a>(
     let num_negative_pics = reader.ue()?;
     let num_positive_pics = reader.ue()?;
     reader.ranged(num_negative_pics.saturating_add(num_positive_pics) <= greatest)?;
+    read_sides(alloc, reader, num_negative_pics, num_positive_pics)
+}
+
+/// A set of so many entries on each side.
+fn read_sides<'a>(
+    alloc: Global,
+    reader: &mut FieldReader<'a>,
+    num_negative_pics: u32,
+    num_positive_pics: u32,
+) -> Result<StRps, Refusal>
+    requires negative { num_negative_pics ≤ 15 }
+    requires positive { num_positive_pics ≤ 15 }
+    ensures { Takes (λ x. x) result reader.old reader.new (explicit_sides num_negative_pics num_positive_pics) }
+{
     let negative = outward(alloc, reader, true, num_negative_pics)?;
     let positive = outward(alloc, reader, false, num_positive_pics)?;
     Ok(StRps { negative, positive })

@@ -81,22 +81,39 @@ fn short_term_poc(
 }
 
 /// The places of the pictures that the entries for the picture itself name, or of those that the others name.
-#[tactic(auto, unfolding(spec_reference_pictures::specs::ReferencePictureSet::short_term_set))]
 pub(crate) fn short_term_set(
     alloc: Global,
     counts: &[Option<i32>],
     picture: CurrentPicture,
     current: bool,
     entries: &[ShortTermRef],
-) -> Result<Vec<Option<u32>>, AllocError>
+) -> Result<FieldList<Option<u32>>, AllocError>
     requires few { length counts.now < 2 ^ 32 }
-    ensures { IfOk result (λ set. set.items ≡ short_term_set counts.now picture.poc current entries.now) }
+    ensures { IfOk result (λ set. set ≡ short_term_set counts.now picture.poc current entries.now) }
 {
-    entries
-        .iter()
-        .filter(|entry| is_for(current, entry.used))
-        .map(|entry| short_term_place(counts, picture, *entry))
-        .collect(alloc)
+    let mut set = FieldList::new(alloc);
+    add_short_term(&mut set, counts, picture, current, entries)?;
+    Ok(set)
+}
+
+/// Adds the same places to a list.
+#[tactic(auto, unfolding(spec_reference_pictures::specs::ReferencePictureSet::short_term_set))]
+pub(crate) fn add_short_term(
+    set: &mut FieldList<Option<u32>>,
+    counts: &[Option<i32>],
+    picture: CurrentPicture,
+    current: bool,
+    entries: &[ShortTermRef],
+) -> Result<(), AllocError>
+    requires few { length counts.now < 2 ^ 32 }
+    ensures { OnOk result (set.new ≡ set.old ++ short_term_set counts.now picture.poc current entries.now) }
+{
+    for entry in entries {
+        if is_for(current, entry.used) {
+            set.push(short_term_place(counts, picture, *entry))?;
+        }
+    }
+    Ok(())
 }
 
 /// The place of the picture that an entry names.

@@ -6,6 +6,7 @@ ghost use Rattle.header_types.specs.declared.short_term_set.ShortTermRef.{ShortT
 ghost use Rattle.header_types.specs.ReferencePictures.{IsStRps};
 ghost use Rattle.spec_reference_pictures.specs.ShortTermSets.{use_delta, use_flags, moved_entry, moved, sides};
 ghost use Rattle.spec_reference_pictures.specs.ShortTermSets.{moved_set, delta_idx_minus1, source_at, predicted_set};
+ghost use Rattle.ref_picture_sets.specs.Parts.{at_most_16, with_itself};
 
 use crate::short_term_explicit::signed;
 use header_fields::FieldReader;
@@ -121,15 +122,33 @@ fn read_moved_set<'a>(
 {
     let negative = read_moved(alloc, reader, delta, negative)?;
     let positive = read_moved(alloc, reader, delta, positive)?;
+    read_with_itself(alloc, reader, delta, negative, positive)
+}
+
+/// The set that becomes of these entries, which were moved, and of the picture itself.
+fn read_with_itself<'a>(
+    alloc: Global,
+    reader: &mut FieldReader<'a>,
+    delta: i32,
+    negative: Vec<ShortTermRef>,
+    positive: Vec<ShortTermRef>,
+) -> Result<StRps, Refusal>
+    requires { nat_abs delta ≤ 32768 }
+    ensures { Takes (λ x. x) result reader.old reader.new (with_itself delta negative.items positive.items) }
+{
     let itself = ShortTermRef {
         delta_poc: 0,
         used: false,
     };
     let own = read_moved(alloc, reader, delta, &[itself])?;
-    let set = sides(
-        alloc,
-        joined(positive, own.as_slice(), negative.as_slice())?,
-    )?;
+    let falling = joined(positive, own.as_slice(), negative.as_slice())?;
+    at_most_16(reader, sides(alloc, falling)?)
+}
+
+/// The set, if it has at most 16 entries.
+fn at_most_16<'a>(reader: &mut FieldReader<'a>, set: StRps) -> Result<StRps, Refusal>
+    ensures { Takes (λ x. x) result reader.old reader.new (at_most_16 set) }
+{
     reader.ranged(set.negative.len() + set.positive.len() <= 16)?;
     Ok(set)
 }
