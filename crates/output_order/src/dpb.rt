@@ -7,13 +7,13 @@ ghost use Rattle.spec_reference_pictures.specs.PictureOrderCount.{begins_anew};
 ghost use Rattle.spec_reference_pictures.specs.ReferencePictureSet.{is_reference};
 ghost use Rattle.spec_output_order.specs.OutputOrder.{is_full_of_references, newest};
 ghost use Rattle.spec_output_order.specs.CurrentPictures.{current_picture};
-ghost use Rattle.spec_output_order.specs.Buffer.{GivesOutputs, flush_outputs, place_outputs, start_of, start_outputs};
+ghost use Rattle.spec_output_order.specs.Buffer.{GivesOutputs, HasPlaces, flush_outputs, place_outputs, start_of};
+ghost use Rattle.spec_output_order.specs.Buffer.{start_outputs};
 
 use crate::current::current_picture;
 use crate::full::is_full_of_references;
-use crate::kept::{kept_pictures, kept_places};
 use crate::marking::all_marked;
-use crate::outputs::{copied, enter, last_outputs, newest, start};
+use crate::outputs::{copied, enter, last_outputs, newest, outputs_by, start};
 use header_types::{DpbPicture, FieldList, Mark, Rps, Sps};
 use hv_base::{FaultKind, Refusal};
 use plan_types::Outputs;
@@ -99,9 +99,7 @@ impl Dpb {
             return Err(Refusal::Fault(FaultKind::DpbFull));
         }
         let outputs = start_outputs(self.alloc, current, self.pictures.as_slice(), marks)?;
-        self.pictures = outputs.dpb.clone()?;
-        self.started = Some(current.ordering.max_num_reorder_pics);
-        Ok(outputs)
+        Ok(self.left_by(outputs, Some(current.ordering.max_num_reorder_pics))?)
     }
 
     /// The picture that was started is placed: what goes out behind it, and what stays, named by places in the buffer
@@ -128,8 +126,18 @@ impl Dpb {
     {
         let reorder = self.started.unwrap();
         let outputs = place_outputs(self.alloc, reorder, picture, self.pictures.as_slice())?;
+        self.left_by(outputs, None)
+    }
+
+    /// The pictures that stay by these outputs are the buffer. After want of memory all is as before.
+    fn left_by(&mut self, outputs: Outputs, started: Option<u32>) -> Result<Outputs, AllocError>
+        requires { HasPlaces outputs.dpb started }
+        ensures value { IfOk result (λ o. o ≡ outputs) }
+        ensures left { OnOk result (self.new ≡ record { pictures = outputs.dpb; started = started }) }
+        ensures err { OnErr result (self.new ≡ self.old) }
+    {
         self.pictures = outputs.dpb.clone()?;
-        self.started = None;
+        self.started = started;
         Ok(outputs)
     }
 
@@ -180,12 +188,7 @@ fn outputs_before(
     let mut left = all_marked(alloc, pictures, marks)?;
     let mut before = FieldList::new(alloc);
     start(current, &mut before, &mut left)?;
-    Ok(Outputs {
-        before,
-        behind: FieldList::new(alloc),
-        kept: kept_places(alloc, left.as_slice())?,
-        dpb: kept_pictures(alloc, left.as_slice())?,
-    })
+    outputs_by(alloc, before, FieldList::new(alloc), left.as_slice())
 }
 
 /// What goes out of these pictures and one more behind them, and what stays.
@@ -215,10 +218,5 @@ fn outputs_behind(
     let mut left = copied(alloc, pictures)?;
     let mut behind = FieldList::new(alloc);
     enter(reorder, picture, &mut behind, &mut left)?;
-    Ok(Outputs {
-        before: FieldList::new(alloc),
-        behind,
-        kept: kept_places(alloc, left.as_slice())?,
-        dpb: kept_pictures(alloc, left.as_slice())?,
-    })
+    outputs_by(alloc, FieldList::new(alloc), behind, left.as_slice())
 }

@@ -1,7 +1,9 @@
 //! What a picture puts out, and what the end of the input does (C.5.2.2, C.5.2.3).
 
 ghost use Rattle.std.specs.Prelude.{◌≡◌, ◌^◌, ◌<◌, IfOk, OnOk, None, [], ◌∷◌, ◌++◌, length};
-ghost use Rattle.spec_output_order.specs.OutputOrder.{bumped, ended, last_outputs, newest, outputs_of, started};
+ghost use Rattle.std.specs.List.{filter};
+ghost use Rattle.spec_output_order.specs.OutputOrder.{bumped, ended, is_kept, kept_from, last_outputs, newest};
+ghost use Rattle.spec_output_order.specs.OutputOrder.{outputs_of, started};
 
 use crate::bumping::{bump, discard};
 use crate::kept::{kept_pictures, kept_places};
@@ -30,8 +32,27 @@ pub fn outputs_of(
     start(current, &mut before, &mut pictures)?;
     let mut behind = FieldList::new(alloc);
     end(current, &mut behind, &mut pictures)?;
-    let kept = kept_places(alloc, pictures.as_slice())?;
-    let dpb = kept_pictures(alloc, pictures.as_slice())?;
+    outputs_by(alloc, before, behind, pictures.as_slice())
+}
+
+/// These pictures go out, and of `pictures` stay those that are needed for output or marked as reference.
+pub(crate) fn outputs_by(
+    alloc: Global,
+    before: FieldList<u32>,
+    behind: FieldList<u32>,
+    pictures: &[DpbPicture],
+) -> Result<Outputs, AllocError>
+    requires few { length pictures.now < 2 ^ 32 }
+    ensures { IfOk result (λ o. o
+        ≡ record {
+          before = before;
+          behind = behind;
+          kept = kept_from 0 pictures.now;
+          dpb = filter is_kept pictures.now;
+        }) }
+{
+    let kept = kept_places(alloc, pictures)?;
+    let dpb = kept_pictures(alloc, pictures)?;
     Ok(Outputs {
         before,
         behind,
