@@ -1,3 +1,4 @@
+pub mod Growth
 pub mod Offsets
 pub mod Powers
 pub mod Sides

@@ -2,3 +2,4 @@ pub mod Leaves
 pub mod Beside
 pub mod Judged
 pub mod Next
+pub mod Quarters

@@ -8,7 +8,7 @@ ghost use Rattle.spec_slice_data.specs.Syntax.{IsSyntax};
 ghost use Rattle.spec_slice_data.specs.Tree.{unit_and_end};
 ghost use Rattle.spec_slice_data.specs.declared.syntax.End.TheVariants as end;
 ghost use Rattle.coding_quadtree.specs.Beside.{IsCovered, available, ctu_begins};
-ghost use Rattle.coding_quadtree.specs.Judged.{Follows, over_view};
+ghost use Rattle.coding_quadtree.specs.Judged.{Follows, judged, over_view};
 
 use crate::beside::{NO_SAO, column, row, sao_where};
 use crate::ends::unit_end;
@@ -71,9 +71,9 @@ fn begin_ctu<V: Neighbours>(
     records.set_sao(NO_SAO);
 }
 
-/// A unit and what follows it.
+/// A unit and what follows it, with the bits behind its end.
 #[tactic(auto, unfolding(spec_slice_data::specs::Tree::unit_and_end))]
-fn unit_and_end(
+fn judged_unit(
     reader: &mut BinReader<'_>,
     records: &mut Records,
     levels: &mut Levels,
@@ -87,12 +87,14 @@ fn unit_and_end(
     requires least { syntax.now.log2_min_coding ≤ records.old.size }
     requires empty { records.old.items ≡ [] }
     ensures value { Follows result records.new (state_of reader.new)
-        (read (unit_and_end syntax.now left above place.now.is_last place.now.ends_subset records.old)
-        (state_of reader.old)) }
+        (judged (read (unit_and_end syntax.now left above place.now.is_last place.now.ends_subset records.old)
+        (state_of reader.old))) }
     ensures live { IfOk result (λ follows. follows ≡ end.More → IsLive reader.new.interval) }
 {
     coding_tree_unit(reader, records, levels, syntax, left, above)?;
-    unit_end(reader, place.is_last, place.ends_subset)
+    let follows = unit_end(reader, place.is_last, place.ends_subset)?;
+    judge_end(&mut reader.interval, follows)?;
+    Ok(follows)
 }
 
 /// A coding tree unit at a place, with what follows it and the bits behind its end (7.3.8.1, 7.3.8.2,
@@ -129,7 +131,5 @@ pub fn read_ctu<V: Neighbours>(
         place.address.saturating_sub(place.width),
     );
     begin_ctu(syntax, place, view, records);
-    let follows = unit_and_end(reader, records, levels, syntax, left, above, place)?;
-    judge_end(&mut reader.interval, follows)?;
-    Ok(follows)
+    judged_unit(reader, records, levels, syntax, left, above, place)
 }

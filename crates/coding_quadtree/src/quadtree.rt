@@ -7,6 +7,7 @@ ghost use Rattle.spec_slice_data.specs.Syntax.{IsSyntax};
 ghost use Rattle.spec_slice_data.specs.Tree.{coding_quadtree, coding_tree_unit, deeper, split_cu_flag};
 ghost use Rattle.cabac_contexts.specs.Takes.{Takes};
 ghost use Rattle.coding_quadtree.specs.Leaves.{Fills, Grows};
+ghost use Rattle.coding_quadtree.specs.Quarters.{in_quarters};
 
 use crate::offset::sao;
 use crate::quantization::begin_group;
@@ -59,7 +60,8 @@ fn split_cu_flag(
 }
 
 /// A block of the coding quadtree.
-#[tactic(auto, using(crate::proofs::Trees::quadtree_some, crate::proofs::Powers::quarters, crate::proofs::Powers::some_area, crate::proofs::Powers::some_places))]
+#[cycle(blocks)]
+#[tactic(auto, using(crate::proofs::Powers::some_places))]
 pub fn coding_quadtree(
     reader: &mut BinReader<'_>,
     records: &mut Records,
@@ -83,14 +85,37 @@ pub fn coding_quadtree(
     }
     begin_group(records, syntax, square);
     let split = split_cu_flag(reader, records, syntax, square, depth)?;
-    if !split {
-        return coding_unit(reader, records, levels, syntax, square, depth);
+    if split {
+        coding_quarters(reader, records, levels, syntax, square, depth + 1)
+    } else {
+        coding_unit(reader, records, levels, syntax, square, depth)
     }
-    let below = depth + 1;
-    coding_quadtree(reader, records, levels, syntax, upper_left(square), below)?;
-    coding_quadtree(reader, records, levels, syntax, upper_right(square), below)?;
-    coding_quadtree(reader, records, levels, syntax, lower_left(square), below)?;
-    coding_quadtree(reader, records, levels, syntax, lower_right(square), below)
+}
+
+/// The quarters of a block of the coding quadtree, by their depth.
+#[cycle(blocks)]
+fn coding_quarters(
+    reader: &mut BinReader<'_>,
+    records: &mut Records,
+    levels: &mut Levels,
+    syntax: &CtuSyntax,
+    square: Square,
+    depth: u8,
+) -> Result<(), Breach>
+    requires live { IsLive reader.old.interval }
+    requires syntax { IsSyntax syntax.now }
+    requires placed { IsPlaced square }
+    requires least { syntax.now.log2_min_coding < square.log2_size }
+    requires depth { depth + square.log2_size ≤ 5 }
+    requires room { length records.old.items + 4 * (64 * 4 ^ (square.log2_size - 1)) ≤ room }
+    ensures value { Fills result records.new reader.old reader.new
+        (in_quarters (coding_quadtree syntax.now (square.log2_size - 1) depth) square records.old) }
+    ensures room { Grows result records.old records.new (4 * (64 * 4 ^ (square.log2_size - 1))) }
+{
+    coding_quadtree(reader, records, levels, syntax, upper_left(square), depth)?;
+    coding_quadtree(reader, records, levels, syntax, upper_right(square), depth)?;
+    coding_quadtree(reader, records, levels, syntax, lower_left(square), depth)?;
+    coding_quadtree(reader, records, levels, syntax, lower_right(square), depth)
 }
 
 /// A coding tree unit, by the sample adaptive offset of the units on the left and above.

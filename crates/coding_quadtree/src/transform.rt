@@ -9,6 +9,7 @@ ghost use Rattle.spec_slice_data.specs.Transform.{chroma_of, luma_of, max_depth,
 ghost use Rattle.spec_slice_data.specs.Transform.{transform_blocks, transform_tree, transform_unit};
 ghost use Rattle.cabac_contexts.specs.Takes.{Takes};
 ghost use Rattle.coding_quadtree.specs.Leaves.{Fills, Grows};
+ghost use Rattle.coding_quadtree.specs.Quarters.{in_quarters};
 
 use crate::coded_block::{UnitContext, block_where};
 use crate::quantization::delta_where;
@@ -284,7 +285,7 @@ fn transform_unit(
 }
 
 /// The transform tree of a square under a node with these chroma flags.
-#[tactic(auto, using(crate::proofs::Trees::tree_none, crate::proofs::Trees::tree_some, crate::proofs::Powers::quarters, crate::proofs::Powers::some_area))]
+#[cycle(trees)]
 pub fn transform_tree(
     reader: &mut BinReader<'_>,
     records: &mut Records,
@@ -316,6 +317,31 @@ pub fn transform_tree(
         square,
         depth: node.depth + 1,
     };
+    transform_quarters(reader, records, levels, of, below)
+}
+
+/// The transform trees of the quarters of a square, whose flags and depth are those of its quarters' nodes.
+#[cycle(trees)]
+fn transform_quarters(
+    reader: &mut BinReader<'_>,
+    records: &mut Records,
+    levels: &mut Levels,
+    of: &UnitContext,
+    below: TransformNode,
+) -> Result<(), Breach>
+    requires live { IsLive reader.old.interval }
+    requires syntax { IsSyntax of.now.syntax }
+    requires unit { IsPlaced of.now.unit.square }
+    requires some { 0 < below.square.log2_size }
+    requires placed { IsPlaced below.square }
+    requires depth { below.depth + below.square.log2_size ≤ 5 }
+    requires room { length records.old.items + 4 * (56 * 4 ^ (below.square.log2_size - 1)) ≤ room }
+    ensures value { Fills result records.new reader.old reader.new
+        (in_quarters (transform_tree of.now.syntax of.now.unit below.flags (below.square.log2_size - 1) below.depth)
+        below.square records.old) }
+    ensures room { Grows result records.old records.new (4 * (56 * 4 ^ (below.square.log2_size - 1))) }
+{
+    let square = below.square;
     transform_tree(reader, records, levels, of, below.over(upper_left(square)))?;
     transform_tree(reader, records, levels, of, below.over(upper_right(square)))?;
     transform_tree(reader, records, levels, of, below.over(lower_left(square)))?;

@@ -78,8 +78,7 @@ fn pcm_unit(
     records.push(Item::Pcm(square));
     pcm_samples(reader, records, pcm.luma_bits, 16 * area)?;
     pcm_samples(reader, records, pcm.chroma_bits, 8 * area)?;
-    reader.pcm_end()?;
-    Ok(())
+    reader.pcm_end()
 }
 
 /// Whether an intra coding unit has four prediction blocks.
@@ -240,6 +239,19 @@ fn skipped_unit(
     Ok(())
 }
 
+/// What the transform tree of an inter coding unit depends on.
+fn inter_syntax(syntax: &CtuSyntax, start: &UnitStart, mode: PartMode) -> UnitSyntax
+    ensures { result ≡ inter_syntax syntax.now start.now mode }
+{
+    UnitSyntax {
+        square: start.square,
+        transquant_bypass: start.transquant_bypass,
+        intra: false,
+        split: syntax.inter.max_depth_inter == 0 && part_count(mode) != 1,
+        chroma_mode: 1,
+    }
+}
+
 /// The prediction units and the transform tree of an inter coding unit.
 #[tactic(auto, unfolding(spec_slice_data::specs::Tree::parts_and_tree))]
 fn parts_and_tree(
@@ -268,17 +280,17 @@ fn parts_and_tree(
     )?;
     add_part(records, start.square, mode, 0, first);
     later_parts(reader, records, inter, start, mode)?;
-    if !rqt_root_cbf(reader, mode, first)? {
-        return Ok(());
+    if rqt_root_cbf(reader, mode, first)? {
+        unit_tree(
+            reader,
+            records,
+            levels,
+            syntax,
+            inter_syntax(syntax, start, mode),
+        )
+    } else {
+        Ok(())
     }
-    let unit = UnitSyntax {
-        square: start.square,
-        transquant_bypass: start.transquant_bypass,
-        intra: false,
-        split: inter.max_depth_inter == 0 && part_count(mode) != 1,
-        chroma_mode: 1,
-    };
-    unit_tree(reader, records, levels, syntax, unit)
 }
 
 /// An inter coding unit that isn't skipped.
