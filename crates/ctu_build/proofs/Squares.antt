@@ -137,17 +137,17 @@ pulses_component place first places count items block before after told each cou
     ∙ ap (λ (k : ℕ). sample_of (get_or items k (Sample 0)) * 2 ^ places) e)
 
 -- those of a coding unit
-pub pulses_unit : (format : UnitFormat) (square : Square) (items : List Item) (p q r : Place) (n half luma chroma : ℕ)
-    (before first second after : Known)
-    → after ≡ laid r.c r.x r.y (2 ^ r.log2) (shifted chroma (n * n + half * half) items (2 ^ r.log2)) second
-    → second ≡ laid q.c q.x q.y (2 ^ q.log2) (shifted chroma (n * n) items (2 ^ q.log2)) first
+pub pulses_unit : (format : UnitFormat) (square : Square) (items : List Item) (p q r : Place)
+    (of_luma of_cb luma chroma : ℕ) (before first second after : Known)
+    → after ≡ laid r.c r.x r.y (2 ^ r.log2) (shifted chroma (of_luma + of_cb) items (2 ^ r.log2)) second
+    → second ≡ laid q.c q.x q.y (2 ^ q.log2) (shifted chroma of_luma items (2 ^ q.log2)) first
     → first ≡ laid p.c p.x p.y (2 ^ p.log2) (shifted luma 0 items (2 ^ p.log2)) before
     → p ≡ luma_place square → q ≡ chroma_place 1 square → r ≡ chroma_place 2 square
-    → n ≡ 2 ^ (square.log2_size + 2) → half ≡ 2 ^ (square.log2_size + 1)
+    → of_luma ≡ 2 ^ p.log2 * 2 ^ p.log2 → of_cb ≡ 2 ^ q.log2 * 2 ^ q.log2
     → luma ≡ format.luma_depth - format.pcm_luma_bits → chroma ≡ format.chroma_depth - format.pcm_chroma_bits
     → after ≡ pulses_laid format square items before
 unfolding pulses_laid
-pulses_unit format square items p q r n half luma chroma before first second after a s f ep eq er en eh el ec =
+pulses_unit format square items p q r of_luma of_cb luma chroma before first second after a s f ep eq er en eh el ec =
     let sl = luma_side square.log2_size in
     let sc = chroma_side square.log2_size in
-    rw (a, s, f, ep, eq, er, en, eh, el, ec, sl, sc) refl
+    rw (a, s, f, en, eh, ep, eq, er, el, ec, sl, sc) refl

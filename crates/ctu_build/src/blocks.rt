@@ -73,9 +73,8 @@ fn add_levels(
         (residuals_behind format.now coded.mode coded.block coded.qp items.now) (held samples.old) }
 {
     let place = place_of(coded.block);
-    let side = place.side();
     let depth = depth_of(format, coded.block.component);
-    let levels = &mut levels[..side * side];
+    let levels = &mut levels[..place.area()];
     read_levels(items, levels);
     samples.add(place, levels, depth);
 }
@@ -100,15 +99,15 @@ fn add_residuals(
 {
     let block = coded.block;
     let place = place_of(block);
-    let side = place.side();
+    let area = place.area();
     let depth = depth_of(format, block.component);
     let qp = parameter_of(format, block.component, coded.qp);
     let levels = &mut scratch.levels[..];
     let scaled = &mut scratch.scaled[..];
     let residuals = &mut scratch.residuals[..];
-    let levels = &mut levels[..side * side];
-    let scaled = &mut scaled[..side * side];
-    let residuals = &mut residuals[..side * side];
+    let levels = &mut levels[..area];
+    let scaled = &mut scaled[..area];
+    let residuals = &mut residuals[..area];
     read_levels(items, levels);
     let quantized = Quantized {
         block,

@@ -32,6 +32,16 @@ impl Place {
     {
         1 << self.log2
     }
+
+    /// How many samples it has.
+    pub fn area(&self) -> usize
+        requires some { 2 ≤ self.now.log2 }
+        requires few { self.now.log2 ≤ 5 }
+        ensures value { result ≡ 2 ^ self.now.log2 * 2 ^ self.now.log2 }
+        ensures greatest { result ≤ 1024 }
+    {
+        self.side() * self.side()
+    }
 }
 
 /// Where the samples of a square are in Cb or Cr.

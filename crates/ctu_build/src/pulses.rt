@@ -80,8 +80,7 @@ fn lay_component(
         ≡ laid place.c place.x place.y (2 ^ place.log2)
         (shifted pulses.now.places pulses.now.first pulses.now.items.now (2 ^ place.log2)) (held samples.old) }
 {
-    let n = place.side();
-    shift_samples(pulses, n * n, block);
+    shift_samples(pulses, place.area(), block);
     samples.lay(place, block);
 }
 
@@ -101,8 +100,10 @@ pub(crate) fn lay_pulses(
 {
     let luma = u32::from(format.luma_depth - format.pcm_luma_bits);
     let chroma = u32::from(format.chroma_depth - format.pcm_chroma_bits);
-    let n = luma_place(square).side();
-    let half = chroma_place(square, 1).side();
+    let y_place = luma_place(square);
+    let cb_place = chroma_place(square, 1);
+    let cb_first = y_place.area();
+    let cr_first = cb_first + cb_place.area();
     let y = Pulses {
         items,
         first: 0,
@@ -110,15 +111,15 @@ pub(crate) fn lay_pulses(
     };
     let cb = Pulses {
         items,
-        first: n * n,
+        first: cb_first,
         places: chroma,
     };
     let cr = Pulses {
         items,
-        first: n * n + half * half,
+        first: cr_first,
         places: chroma,
     };
-    lay_component(luma_place(square), &y, block, samples);
-    lay_component(chroma_place(square, 1), &cb, block, samples);
+    lay_component(y_place, &y, block, samples);
+    lay_component(cb_place, &cb, block, samples);
     lay_component(chroma_place(square, 2), &cr, block, samples);
 }

@@ -1,5 +1,4 @@
-use Rattle.std.proofs.Common.{rules, ◌^◌, ap, ◌∙◌}
-use Rattle.ctu_build.specs.declared.place.Place.{Place}
+use Rattle.std.proofs.Common.{rules}
 use Rattle.ctu_build.proofs.SampleItems.{chroma_small, luma_small}
 use Rattle.ctu_build.proofs.Squares.{pulses_unit}
 use Rattle.ctu_build.proofs.pulses.lay_pulses.Goals as goal
@@ -10,7 +9,5 @@ returns c sound =
     (c.lay_component-3.ensures (chroma_small c.args.format.now c.args.items.now _ sound (search rules)))
     (c.lay_component-2.ensures (chroma_small c.args.format.now c.args.items.now _ sound (search rules)))
     (c.lay_component.ensures (luma_small c.args.format.now c.args.items.now _ sound (search rules)))
-    c.luma_place-2.ensures.value c.chroma_place-2.ensures.value c.chroma_place-3.ensures.value
-    (c.side-n.ensures.value ∙ ap (λ (p : Place). 2 ^ p.log2) c.luma_place.ensures.value)
-    (c.side-half.ensures.value ∙ ap (λ (p : Place). 2 ^ p.log2) c.chroma_place.ensures.value)
-    (search rules) (search rules)
+    c.luma_place-y_place.ensures.value c.chroma_place-cb_place.ensures.value c.chroma_place.ensures.value
+    c.area-cb_first.ensures.value c.area.ensures.value (search rules) (search rules)
