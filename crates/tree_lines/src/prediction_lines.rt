@@ -20,20 +20,49 @@ pub(crate) fn prediction_unit<W: Write>(
     let Some(block) = block_of(&unit) else {
         return Ok(());
     };
+    unit_text(out, origin, skipped, unit, block)?;
+    let known = motion.motion(usize::from(block.x) + 1, usize::from(block.y) + 1);
+    motion_text(out, known.unwrap_or(NO_MOTION))
+}
+
+/// What stands on the line before the motion.
+fn unit_text<W: Write>(
+    out: &mut W,
+    origin: UnitOrigin,
+    skipped: bool,
+    unit: PredictionUnit,
+    block: Rectangle,
+) -> io::Result<()> {
+    block_text(out, kind_of(unit.motion), origin, block)?;
+    match unit.motion {
+        MotionSyntax::Merge(index) if skipped => write!(out, " index {index}"),
+        _ => {
+            let parts = part_name(unit.part_mode);
+            write!(out, " {parts}")
+        }
+    }
+}
+
+/// How the motion of a unit is coded.
+fn kind_of(motion: MotionSyntax) -> &'static str {
+    match motion {
+        MotionSyntax::Merge(_) => "merge",
+        MotionSyntax::Vectors(_, _) => "amvp",
+    }
+}
+
+/// How the motion of a block is coded, its place and its sides.
+fn block_text<W: Write>(
+    out: &mut W,
+    kind: &str,
+    origin: UnitOrigin,
+    block: Rectangle,
+) -> io::Result<()> {
     let x = origin.x.saturating_add(4 * u32::from(block.x));
     let y = origin.y.saturating_add(4 * u32::from(block.y));
     let width = 4 * u32::from(block.width);
     let height = 4 * u32::from(block.height);
-    let parts = part_name(unit.part_mode);
-    match unit.motion {
-        MotionSyntax::Merge(index) if skipped => {
-            write!(out, "merge {x} {y} {width}x{height} index {index}")?;
-        }
-        MotionSyntax::Merge(_) => write!(out, "merge {x} {y} {width}x{height} {parts}")?,
-        MotionSyntax::Vectors(_, _) => write!(out, "amvp {x} {y} {width}x{height} {parts}")?,
-    }
-    let known = motion.motion(usize::from(block.x) + 1, usize::from(block.y) + 1);
-    motion_text(out, known.unwrap_or(NO_MOTION))
+    write!(out, "{kind} {x} {y} {width}x{height}")
 }
 
 /// No vector in either list.
@@ -44,23 +73,20 @@ const NO_MOTION: Motion = Motion {
 
 /// The vectors of both lists, which end the line.
 fn motion_text<W: Write>(out: &mut W, motion: Motion) -> io::Result<()> {
-    write!(out, " l0 ")?;
-    vector_text(out, motion.list_0)?;
-    write!(out, " l1 ")?;
-    vector_text(out, motion.list_1)?;
+    vector_text(out, "l0", motion.list_0)?;
+    vector_text(out, "l1", motion.list_1)?;
     writeln!(out)
 }
 
-/// A vector and its reference index, or a dash where there is none.
-fn vector_text<W: Write>(out: &mut W, vector: Option<Vector>) -> io::Result<()> {
+/// A list's name, and its vector and reference index, or a dash where there is none.
+fn vector_text<W: Write>(out: &mut W, list: &str, vector: Option<Vector>) -> io::Result<()> {
     match vector {
         Some(vector) => {
             let (index, x, y) = (vector.ref_idx, vector.mv.x, vector.mv.y);
-            write!(out, "{index} {x} {y}")?;
+            write!(out, " {list} {index} {x} {y}")
         }
-        None => write!(out, "-")?,
+        None => write!(out, " {list} -"),
     }
-    Ok(())
 }
 
 /// Its block, where its coding unit lies inside the greatest coding tree unit.
