@@ -100,6 +100,17 @@ fn normal_change(line: &Line) -> i32
     ((9 * q0 + 3 * p1 + 8) as i32 - (9 * p0 + 3 * q1) as i32) >> 4
 }
 
+/// How far a sample is from what lies between two others.
+#[inline(always)]
+fn distance(outer: u32, middle: u32, inner: u32) -> i32
+    requires { (outer ≤ 16383) × (middle ≤ 16383) × (inner ≤ 16383) }
+    ensures value { result ≡ pos ((outer + inner + 1) / 2) -ℤ pos middle }
+    ensures least { negsuc 16382 ≤ℤ result }
+    ensures greatest { result ≤ℤ pos 16383 }
+{
+    ((outer + inner + 1) / 2) as i32 - middle as i32
+}
+
 /// Half of how far a sample is from what lies between two others, and of a change.
 #[inline(always)]
 fn half_step(outer: u32, middle: u32, inner: u32, delta: i32) -> i32
@@ -107,7 +118,7 @@ fn half_step(outer: u32, middle: u32, inner: u32, delta: i32) -> i32
     requires delta { IsModest delta }
     ensures { result ≡ int_shr (pos ((outer + inner + 1) / 2) -ℤ pos middle +ℤ delta) 1 }
 {
-    (((outer + inner + 1) / 2) as i32 - middle as i32 + delta) >> 1
+    (distance(outer, middle, inner) + delta) >> 1
 }
 
 /// deltap or deltaq.

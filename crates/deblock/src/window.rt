@@ -68,6 +68,7 @@ fn put(out: &mut [u16], w: &Window, a: usize, b: usize, value: u16)
 pub fn read_line(samples: &[u16], w: &Window, a: usize, b: usize) -> Line
     requires window { IsWindow w.now }
     requires room { length samples.now ≡ size w.now }
+    requires a { a ≤ 65536 }
     requires inside { (k : ℕ) → k < 8 → holds w.now (a + k) b ≡ true }
     ensures value { result ≡ across (seen w.now samples.now) a b }
     ensures small { (greatest : ℕ) → IsBounded greatest samples.now → AreSmall greatest result }

@@ -5,7 +5,19 @@ use Rattle.spec_deblocking.specs.Filters.{filtered}
 use Rattle.deblock.specs.Windows.{seen}
 use Rattle.deblock.proofs.Flat.{inside_holds}
 use Rattle.deblock.proofs.Laying.{lines_more, lines_none}
+use Rattle.deblock.proofs.Edges.{reads_inside}
 use Rattle.deblock.proofs.edge.filter_lines.Goals as goal
+
+pub read_line-line-requires-clause-inside : goal.read_line-line-requires-clause-inside
+read_line-line-requires-clause-inside c = λ k few.
+    let lines : c.side-lines.result * c.args.s ≡ side c.args.pass.now.plane * c.args.s =
+    rw c.side-lines.ensures.value refl in
+    reads_inside c.args.pass.now c.args.e c.args.s k _ c.requires.pass c.requires.across c.requires.along
+    c.requires.edge c.requires.within few
+    (omega (arith, lines)) (omega (arith, lines, c.side-lines.ensures.value, c.loop-n-test.true))
+
+pub filtered-line-requires-clause-line : goal.filtered-line-requires-clause-line
+filtered-line-requires-clause-line c = c.read_line-line.ensures.small c.args.kernel.greatest c.requires.bounded
 
 pub write_line-requires-clause-inside : goal.write_line-requires-clause-inside
 write_line-requires-clause-inside c = λ k low high.
