@@ -8,6 +8,7 @@ use Rattle.spec_reconstruction.specs.Known.{Known}
 use Rattle.spec_picture_samples.specs.Border.{Samples}
 use Rattle.picture_build.specs.declared.part.Part.{Part}
 use Rattle.picture_build.specs.Beside.{sample_at}
+use Rattle.picture_build.specs.Parts.{is_in_part}
 use Rattle.picture_build.proofs.Tests.{merged}
 
 -- a part of a list
@@ -79,6 +80,35 @@ one_laid : (c d j k x y side width height columns line n : ℕ) → n ≡ column
     && (nat_le y k && (nat_lt k (y + (line + 1)) && nat_lt k height))))
 one_laid c d j k x y side width height columns line n e a b (inl le) fits = grind (arith, nat_tests)
 one_laid c d j k x y side width height columns line n e a b (inr le) fits = grind (arith, nat_tests)
+
+-- the tests of a part whose lines are all laid
+all_laid : (c d j k x y side width height line : ℕ) → line ≤ side → (side ≤ line) ⊎ (height - y ≤ line)
+    → (d == c
+    && ((nat_le x j && (nat_lt j (x + side) && nat_lt j width))
+    && (nat_le y k && (nat_lt k (y + line) && nat_lt k height))))
+    ≡ (d == c
+    && ((nat_le x j && (nat_lt j (x + side) && nat_lt j width))
+    && (nat_le y k && (nat_lt k (y + side) && nat_lt k height))))
+all_laid c d j k x y side width height line few (inl all) = ap (λ n. d == c
+    && ((nat_le x j && (nat_lt j (x + side) && nat_lt j width))
+    && (nat_le y k && (nat_lt k (y + n) && nat_lt k height))))
+    (omega arith)
+all_laid c d j k x y side width height line few (inr all) = grind (arith, nat_tests)
+
+-- the lines of a part are laid
+pub laid_all : (part : Part) (line i j k v new old : ℕ) → line ≤ part.side
+    → (part.side ≤ line) ⊎ (part.height - part.y ≤ line)
+    → new
+    ≡ (if i == part.c
+    && ((nat_le part.x j && (nat_lt j (part.x + part.side) && nat_lt j part.width))
+    && (nat_le part.y k && (nat_lt k (part.y + line) && nat_lt k part.height)))
+    then v
+    else old)
+    → new ≡ (if is_in_part part i j k then v else old)
+laid_all part line i j k v new old few all told =
+    told
+    ∙ ap (λ (t : Bool). if t then v else old)
+    (all_laid part.c i j k part.x part.y part.side part.width part.height line few all)
 
 -- the next line of a part is laid
 pub laid_more : (part : Part) (known : Known) (line columns : ℕ) (built : List ℕ) (old mid new : Samples)

@@ -1,7 +1,7 @@
 use Rattle.std.proofs.Common.{◌<◌, ◌≤◌, ◌-◌, ◌⊎◌, rules, arith}
 use Rattle.ctu_build.specs.Held.{held}
 use Rattle.picture_build.proofs.Planes.{part_height, part_width}
-use Rattle.picture_build.proofs.Rows.{laid_more}
+use Rattle.picture_build.proofs.Rows.{laid_all, laid_more}
 use Rattle.std.proofs.lemmas.Bool.Decides.{nat_tests}
 use Rattle.picture_build.proofs.lines.lay_part.Goals as goal
 
@@ -30,3 +30,10 @@ loop-line-preserved c =
           c.requires.room.small c.requires.room.inside fits c.line-built.ensures.count c.line-built.ensures.value
           c.loop-line.invariant.told c.lay.ensures.samples;
     }
+
+pub returns-clause-value : goal.returns-clause-value
+returns-clause-value c =
+    let few : c.loop-line.line ≤ c.args.part.side = search rules in
+    let all : (c.args.part.side ≤ c.loop-line.line) ⊎ (c.args.part.height - c.args.part.y ≤ c.loop-line.line) =
+    search rules in
+    λ i j k. laid_all c.args.part c.loop-line.line i j k _ _ _ few all (c.loop-line.invariant.told i j k)
