@@ -6,3 +6,4 @@ pub mod Order
 pub mod Progress
 pub mod Steps
 pub mod Units
+pub mod Tables
