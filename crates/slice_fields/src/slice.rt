@@ -1,9 +1,10 @@
 //! The fields of a slice, from slice_reserved_flag to slice_loop_filter_across_slices_enabled_flag (7.3.6.1, 7.4.7.1).
 
-ghost use Rattle.std.specs.Prelude.{◌≡◌, ◌<◌, ◌≤◌, ◌^◌, length};
+ghost use Rattle.std.specs.Prelude.{◌≡◌, ◌<◌, ◌≤◌, ◌^◌, ◌+ℤ◌, length};
 ghost use Rattle.std.specs.Option.{option_copied};
 ghost use Rattle.header_types.specs.SequenceParameterSets.{max_lsb};
 ghost use Rattle.header_fields.specs.Takes.{Takes};
+ghost use Rattle.spec_formats.specs.Fields.{is_within};
 ghost use Rattle.spec_slice_headers.specs.SliceFields.{kind_of, type_of, slice_type, temporal_flag, slice_qp, qp_delta};
 ghost use Rattle.spec_slice_headers.specs.SliceFields.{chroma_offset, control_of, pps_deblocking, own_deblocking};
 ghost use Rattle.spec_slice_headers.specs.SliceFields.{deblocking, across_slices, filter_fields, later_fields};
@@ -79,6 +80,14 @@ fn read_qp_delta<'a>(reader: &mut FieldReader<'a>, pps: &Pps) -> Result<i32, Ref
     Ok(slice_qp_delta)
 }
 
+/// Whether an offset for Cb or Cr of the picture parameter set and that of a slice are from -12 to 12 together.
+#[tactic(auto, using(crate::proofs::Offsets::abs_is_within))]
+fn is_chroma_offset(offset: i32, slice_offset: i32) -> bool
+    ensures { result ≡ is_within 12 12 (offset +ℤ slice_offset) }
+{
+    (i64::from(offset) + i64::from(slice_offset)).unsigned_abs() <= 12
+}
+
 /// slice_cb_qp_offset or slice_cr_qp_offset: `offset` is that of the picture parameter set.
 #[tactic(auto, unfolding(spec_slice_headers::specs::SliceFields::chroma_offset))]
 fn read_chroma_offset<'a>(
@@ -92,8 +101,7 @@ fn read_chroma_offset<'a>(
         return Ok(0);
     }
     let slice_offset = reader.se_within(12, 12)?;
-    let sum = i64::from(offset) + i64::from(slice_offset);
-    reader.ranged(-12 <= sum && sum <= 12)?;
+    reader.ranged(is_chroma_offset(offset, slice_offset))?;
     Ok(slice_offset)
 }
 
