@@ -3,12 +3,13 @@
 ghost use Rattle.std.specs.Prelude.{◌≡◌, ◌+◌, ◌-◌, ◌*◌, ◌/◌, ◌%◌, ◌^◌, ◌<◌, ◌≤◌};
 ghost use Rattle.picture_layout.specs.Shape.{IsShape};
 ghost use Rattle.spec_picture_data.specs.Shapes.{picture_shape};
-ghost use Rattle.spec_slice_data.specs.Segment.{column_of, row_of};
+ghost use Rattle.spec_slice_data.specs.Segment.{begins_row, column_of, row_of};
 
 use plan_types::PicturePlan;
 use std::marker::Model;
 
-/// A picture's size in coding tree units and in places of 4x4 luma samples.
+/// A picture's size in coding tree units and in places of 4x4 luma samples, and whether each row of units has a
+/// substream of its own.
 #[derive(Clone, Copy)]
 pub struct Layout {
     width: u32,
@@ -79,6 +80,20 @@ impl Layout {
         self.down
     }
 
+    /// The binary logarithm of a unit's side in places, from 2 to 4.
+    pub fn size(&self) -> u8
+        ensures { result ≡ self.now.size }
+    {
+        self.size
+    }
+
+    /// entropy_coding_sync_enabled_flag.
+    pub fn sync(&self) -> bool
+        ensures { result ≡ self.now.sync }
+    {
+        self.sync
+    }
+
     /// The column of the unit at an address.
     pub fn column(&self, address: u32) -> u32
         ensures value { result ≡ column_of self.now address }
@@ -104,5 +119,12 @@ impl Layout {
         ensures shape { IsShape self.now }
     {
         1 << self.size
+    }
+
+    /// Whether a unit begins a row where each row has a substream of its own.
+    pub fn begins_row(&self, address: u32) -> bool
+        ensures { result ≡ begins_row self.now address }
+    {
+        self.sync && self.column(address) == 0
     }
 }

@@ -28,7 +28,7 @@ use Rattle.picture_trees.specs.declared.beside.Column.{Column}
 use Rattle.picture_trees.specs.Beside.{UnitsBeside, above_at, behind, bottom_of, left_at, no_column, offset_at}
 use Rattle.picture_trees.specs.Beside.{right_of, seen_at}
 use Rattle.picture_trees.specs.Reading.{IsKept, between_of, unit_in}
-use Rattle.picture_trees.proofs.Powers.{few_places}
+use Rattle.picture_layout.proofs.Powers.{few_places}
 use Rattle.picture_trees.proofs.Columns.{above_column, above_place, above_within, left_place, other_column}
 use Rattle.picture_trees.proofs.Sides.{at_side}
 

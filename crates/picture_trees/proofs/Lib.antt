@@ -1,4 +1,3 @@
-pub mod Powers
 pub mod Sides
 pub mod Columns
 pub mod Contexts

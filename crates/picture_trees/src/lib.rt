@@ -3,7 +3,6 @@
 #![tactic(auto)]
 
 mod beside;
-mod layout;
 mod picture;
 mod segment;
 mod segment_data;

@@ -8,12 +8,11 @@ ghost use Rattle.spec_picture_data.specs.Shapes.{end_of};
 ghost use Rattle.picture_trees.specs.Given.{ReadsPicture};
 ghost use Rattle.picture_trees.specs.Reading.{next_segment};
 
-use crate::layout::Layout;
-use crate::segment::address_of;
 use crate::segment_data::SegmentData;
 use crate::trees::{ReadError, Trees};
 use crate::units::Reading;
 use header_types::Sps;
+use picture_layout::{Layout, address_of};
 use plan_types::{PicturePlan, SegmentPlan};
 use std::alloc::Global;
 

@@ -4,13 +4,13 @@ ghost use Rattle.std.specs.Prelude.{◌≡◌, ◌-◌, ◌^◌, ◌≤◌, ◌<
 ghost use Rattle.header_types.specs.SequenceParameterSets.{size_in_ctbs};
 ghost use Rattle.spec_slice_headers.specs.SliceFields.{slice_qp};
 ghost use Rattle.spec_cabac.specs.Contexts.{first_contexts};
-ghost use Rattle.plan_types.specs.Segments.{address_of};
 ghost use Rattle.spec_slice_headers.specs.Substreams.{bytes_of};
-ghost use Rattle.spec_picture_data.specs.Shapes.{first_qp, qp_bd_offset, segment_shape, slice_start};
+ghost use Rattle.spec_picture_data.specs.Shapes.{first_qp, qp_bd_offset, segment_shape};
 
 use crate::slice_syntax::init_type;
 use cabac_contexts::Contexts;
 use header_types::Pps;
+use picture_layout::slice_address;
 use plan_types::{Payload, PicturePlan, SegmentPlan};
 use slice_types::Substream;
 use std::marker::Model;
@@ -93,25 +93,6 @@ impl<'a> Segment<'a> {
             &[]
         }
     }
-}
-
-/// The address of the first unit of a segment's slice.
-fn slice_address(picture: &PicturePlan, segment: &SegmentPlan) -> u32
-    ensures { result ≡ address_of (slice_start picture.now segment.now) }
-{
-    let segments = picture.segments.as_slice();
-    if segment.slice < segments.len() {
-        address_of(&segments[segment.slice])
-    } else {
-        address_of(segment)
-    }
-}
-
-/// slice_segment_address.
-pub(crate) fn address_of(segment: &SegmentPlan) -> u32
-    ensures { result ≡ address_of segment.now }
-{
-    segment.header.fields().segment.slice_segment_address
 }
 
 /// SliceQpY (7-40).

@@ -9,10 +9,10 @@ ghost use Rattle.spec_slice_data.specs.Syntax.{IsSyntax};
 ghost use Rattle.spec_picture_data.specs.Picture.{segment_at};
 ghost use Rattle.spec_picture_data.specs.Shapes.{end_of};
 
-use crate::layout::Layout;
 use crate::segment::Segment;
 use crate::slice_syntax::segment_syntax;
 use coding_quadtree::UnitPlace;
+use picture_layout::Layout;
 use plan_types::{PicturePlan, SegmentPlan};
 use spec_slice_data::CtuSyntax;
 use std::marker::Model;
@@ -113,17 +113,17 @@ impl<'a> SegmentData<'a> {
         ensures syntax { IsSyntax result }
         ensures least { result.log2_min_coding ≤ self.now.picture.size }
     {
-        let n = self.layout.side();
+        let n = self.layout.side() as u32;
         CtuSyntax {
             has_left: self.has_left(address),
             has_above: self.has_above(address),
             right: self
                 .layout
-                .across
+                .across()
                 .saturating_sub(n * self.layout.column(address)),
             lower: self
                 .layout
-                .down
+                .down()
                 .saturating_sub(n * self.layout.row(address)),
             ..self.syntax
         }
@@ -138,15 +138,15 @@ impl<'a> SegmentData<'a> {
     fn has_above(&self, address: u32) -> bool
         ensures { result ≡ has_above self.now.picture self.now.shape address }
     {
-        self.layout.width <= address
-            && self.shape.slice <= address.saturating_sub(self.layout.width)
+        self.layout.width() <= address
+            && self.shape.slice <= address.saturating_sub(self.layout.width())
     }
 
     /// Whether the second unit of the row above is in the same slice (9.3.1).
     pub(crate) fn has_stored(&self, address: u32) -> bool
         ensures { result ≡ has_stored self.now.picture self.now.shape address }
     {
-        let width = self.layout.width;
+        let width = self.layout.width();
         2 <= width
             && width <= address
             && self.shape.slice <= address.saturating_sub(width).saturating_add(1)
@@ -168,11 +168,11 @@ impl<'a> SegmentData<'a> {
         ensures last { result.is_last ≡ is_last self.now.shape address }
         ensures subset { result.ends_subset ≡ begins_row self.now.picture (address + 1) }
     {
-        let side = 4 * self.layout.side();
+        let side = 4 * self.layout.side() as u32;
         UnitPlace {
-            size: self.layout.size,
+            size: self.layout.size(),
             address,
-            width: self.layout.width,
+            width: self.layout.width(),
             x: side * self.layout.column(address),
             y: side * self.layout.row(address),
             last_qp,

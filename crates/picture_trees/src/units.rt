@@ -13,7 +13,6 @@ ghost use Rattle.picture_trees.specs.Beside.{behind};
 ghost use Rattle.picture_trees.specs.Reading.{IsKept, MayGoOn, ReadsSegment, Steps, between_of, progress_of};
 
 use crate::beside::{Beside, View};
-use crate::layout::Layout;
 use crate::segment_data::SegmentData;
 use crate::trees::{ReadError, Trees};
 use cabac_contexts::{BinReader, Contexts};
@@ -21,6 +20,7 @@ use cabac_engine::Interval;
 use coding_quadtree::read_ctu;
 use ctu_records::Records;
 use hv_base::{Breach, FaultKind};
+use picture_layout::Layout;
 use residual_syntax::Levels;
 use spec_slice_data::End;
 use std::alloc::{AllocError, Global};
@@ -56,8 +56,8 @@ impl<'a> Reading<'a> {
             },
             stored: contexts,
             last: 0,
-            beside: Beside::new(alloc, layout.side(), layout.width)?,
-            records: Records::new(alloc, u32::from(layout.size) + 2)?,
+            beside: Beside::new(alloc, layout.side() as u32, layout.width())?,
+            records: Records::new(alloc, u32::from(layout.size()) + 2)?,
             levels: Levels::new(alloc)?,
         })
     }
@@ -166,7 +166,7 @@ impl<'a> Reading<'a> {
             ≡ behind self.old.beside (column_of segment.now.picture address) self.old.records }
     {
         let column = segment.layout.column(address);
-        if segment.layout.sync && column == 1 {
+        if segment.layout.sync() && column == 1 {
             self.stored = self.bins.contexts;
         }
         self.last = self.records.quantization().last;

@@ -12,7 +12,7 @@ loop-number-init g c =
       told = λ given tells. (
         given,
         tells,
-        (reached_first c.args.plan.now c.in-Ok.reading given (subst P c.new.ensures c.in-Ok.ensures.kept)
+        (reached_first c.args.plan.now c.in-Ok.reading given (subst P c.new.ensures.value c.in-Ok.ensures.kept)
             c.in-Ok.ensures.before),
       );
     }
