@@ -4,6 +4,8 @@ ghost use Rattle.std.specs.Prelude.{◌≡◌, ◌<◌, ◌≤◌, ◌∷◌, []
 ghost use Rattle.std.specs.List.{count_by};
 ghost use Rattle.slice_types.specs.SliceHeaders.{IsReferenceFields};
 ghost use Rattle.spec_formats.specs.Fields.{Parses};
+ghost use Rattle.spec_output_order.specs.CurrentPictures.{current_picture};
+ghost use Rattle.spec_output_order.specs.OutputOrder.{outputs_of};
 ghost use Rattle.spec_pictures.specs.Steps.{opening, picture_of, segment_of, with_order};
 ghost use Rattle.spec_reference_pictures.specs.PictureOrderCount.{begins_anew, pic_order_cnt_val};
 ghost use Rattle.spec_reference_pictures.specs.ReferencePictureSet.{GivesSet, is_reference, reference_picture_set};
@@ -58,8 +60,9 @@ fn only_segment(
 ) -> Result<FieldList<SegmentPlan>, AllocError>
     ensures { IfOk result (λ segments. segments ≡ segment_of [] dpb.now rps.now (unit_of nal) header ∷ []) }
 {
+    let segment = segment_of(alloc, &[], dpb, rps, nal, header)?;
     let mut segments = FieldList::new(alloc);
-    segments.push(segment_of(alloc, &[], dpb, rps, nal, header)?)?;
+    segments.push(segment)?;
     Ok(segments)
 }
 
@@ -87,18 +90,28 @@ fn owned<'a>(named: Named<'a>) -> Result<(Shared<Sps>, Shared<Pps>), AllocError>
     Ok((sps, pps))
 }
 
-/// The parts of a picture that has this order count, reference picture set and outputs.
-fn parts_with<'a>(
-    named: Named<'a>,
+/// The parts of a picture of this header that has these sets, order count and reference picture set.
+fn parts_with(
+    alloc: Global,
+    former: &Former,
+    header: &SliceHeader,
+    sets: (Shared<Sps>, Shared<Pps>),
     poc: i32,
     rps: Rps,
-    outputs: Outputs,
 ) -> Result<Parts, AllocError>
-    ensures { IfOk result (λ parts. parts
-        ≡ record { sps = named.entry.sps.now; pps = named.entry.pps.now; poc = poc; rps = rps; outputs = outputs }) }
+    requires few { length former.now.dpb ≤ 16 }
+    requires anew { begins_anew header.now.kind ≡ true → count_by is_reference rps.marks ≡ 0 }
+    ensures value { IfOk result (λ parts. parts ≡ record {
+      sps = sets.0;
+      pps = sets.1;
+      poc = poc;
+      rps = rps;
+      outputs = outputs_of (current_picture header.now sets.0 poc) former.now.dpb rps.marks;
+    }) }
+    ensures fits { IfOk result (λ parts. Fits header.now.kind parts.sps parts.rps.marks parts.outputs.dpb) }
 {
-    let (sps, pps) = owned(named)?;
-    Ok(Parts {
+    let (sps, pps) = sets;
+    outputs_at(alloc, former, header, &sps, poc, &rps).map(|outputs| Parts {
         sps,
         pps,
         poc,
@@ -128,9 +141,9 @@ fn parts_under<'a>(
         Ok(poc) => poc,
         Err(rule) => return Err(Refusal::Fault(rule)),
     };
+    let sets = owned(named)?;
     let rps = reference_set(alloc, former, fields.kind, references, poc)?;
-    let outputs = outputs_at(alloc, former, header, named.sps, poc, &rps)?;
-    Ok(parts_with(named, poc, rps, outputs)?)
+    Ok(parts_with(alloc, former, header, sets, poc, rps)?)
 }
 
 /// The parts of the picture that a first slice segment of this header opens.
@@ -197,13 +210,13 @@ fn picture_with(
     nal: Nal,
     header: SliceHeader,
     parts: Parts,
-) -> Result<PicturePlan, AllocError>
-    ensures { IfOk result (λ p. p ≡ begun_by dpb.now (unit_of nal) header parts) }
+) -> Result<PicturePlan, Refusal>
+    ensures { Parses (λ p. p) result (Ok (begun_by dpb.now (unit_of nal) header parts)) }
 {
     let index = nal.index;
     let kind = header.fields().kind;
-    let segments = only_segment(alloc, dpb, &parts.rps, nal, header)?;
-    Ok(parts.into_picture(index, kind, segments))
+    let segments = only_segment(alloc, dpb, &parts.rps, nal, header);
+    Ok(segments.map(|segments| parts.into_picture(index, kind, segments))?)
 }
 
 /// The picture of a first slice segment.
@@ -219,9 +232,9 @@ fn picture_of(
     ensures value { Parses (λ x. x) result (picture_of sets.now former.now (unit_of nal) header) }
     ensures few { IfOk result KeepsFew }
 {
-    let parts = parts_of(alloc, sets, former, &header)?;
     let dpb = former.dpb.as_slice();
-    Ok(picture_with(alloc, dpb, nal, header, parts)?)
+    let parts = parts_of(alloc, sets, former, &header);
+    parts.and_then(|parts| picture_with(alloc, dpb, nal, header, parts))
 }
 
 /// The picture that a slice segment opens while none is open, under the accepted parameter sets and what the pictures

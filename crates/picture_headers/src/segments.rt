@@ -26,15 +26,29 @@ pub fn segment_of(
 ) -> Result<SegmentPlan, AllocError>
     ensures { IfOk result (λ s. s ≡ segment_of before.now dpb.now rps.now (unit_of nal) header) }
 {
-    let substreams = substreams_of(alloc, &nal, &header)?;
-    Ok(SegmentPlan {
+    let substreams = substreams_of(alloc, &nal, &header);
+    substreams.map(|substreams| segment_with(before, dpb, rps, nal, header, substreams))
+}
+
+/// A slice segment behind these of its picture, as `segment_of` says, of which these are the substreams.
+fn segment_with(
+    before: &[SegmentPlan],
+    dpb: &[DpbPicture],
+    rps: &Rps,
+    nal: Nal,
+    header: SliceHeader,
+    substreams: FieldList<Substream>,
+) -> SegmentPlan
+    ensures { result ≡ record (segment_of before.now dpb.now rps.now (unit_of nal) header) { substreams = substreams } }
+{
+    SegmentPlan {
         slice: slice_number(before, &header),
         lists: lists_of(dpb, &header, rps),
         header,
         payload: Payload::new(nal.rbsp),
         removed: nal.removed,
         substreams,
-    })
+    }
 }
 
 /// The substreams of a segment's data.
