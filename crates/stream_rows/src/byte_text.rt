@@ -17,15 +17,23 @@ impl<'a> UnitNames<'a> {
         }
     }
 
-    /// Takes the name of a line that gives one, and says whether it did.
-    pub(crate) fn take(&mut self, line: &'a str) -> Result<bool, AllocError> {
-        let Some(rest) = line.strip_prefix("unit ") else {
+    /// Whether a line is a row. Takes the name of a line that gives one.
+    pub(crate) fn is_row(&mut self, line: &'a str) -> Result<bool, AllocError> {
+        if is_note(line) {
             return Ok(false);
-        };
+        }
+        match line.strip_prefix("unit ") {
+            Some(rest) => self.take(rest),
+            None => Ok(true),
+        }
+    }
+
+    /// Takes a name and its units. No such line is a row.
+    fn take(&mut self, rest: &'a str) -> Result<bool, AllocError> {
         if let Some((name, units)) = rest.split_once(' ') {
             self.list.push((name, units))?;
         }
-        Ok(true)
+        Ok(false)
     }
 
     /// The units of a name.
@@ -47,50 +55,83 @@ impl<'a> UnitNames<'a> {
             if word == "raw" {
                 is_raw = true;
             } else {
-                let (count, name) = counted(word, 'x')?;
-                let units = self.bytes_of_units(alloc, name, is_raw)?;
-                for _ in 0..count {
-                    bytes.extend_from_slice(units.as_slice())?;
-                }
+                self.push_word(alloc, &mut bytes, word, is_raw)?;
             }
         }
         Ok(bytes)
     }
 
-    /// The bytes of a name's units, or of the unit that is written here.
-    fn bytes_of_units(&self, alloc: Global, name: &str, is_raw: bool) -> Result<Vec<u8>, RowError> {
-        match self.units_of(name) {
-            Some(units) => units_bytes(alloc, units, is_raw),
-            None => units_bytes(alloc, name, is_raw),
-        }
+    /// Appends the units of a name, or the unit that is written here, as often as the word says.
+    fn push_word(
+        &self,
+        alloc: Global,
+        bytes: &mut Vec<u8>,
+        word: &str,
+        is_raw: bool,
+    ) -> Result<(), RowError> {
+        let (count, name) = counted(word, 'x')?;
+        let units = units_bytes(alloc, self.units_of(name).unwrap_or(name), is_raw)?;
+        push_times(bytes, units.as_slice(), count)
     }
+}
+
+/// Whether a line is empty or a comment.
+fn is_note(line: &str) -> bool {
+    line.is_empty() || line.starts_with('#')
+}
+
+/// The name of a row, and its columns behind it.
+pub(crate) fn name_and_columns(line: &str) -> (&str, &str) {
+    line.split_once(" | ").unwrap_or((line, ""))
 }
 
 /// The bytes of units, each behind a start code where it isn't raw.
 fn units_bytes(alloc: Global, units: &str, is_raw: bool) -> Result<Vec<u8>, RowError> {
     let mut bytes = Vec::new(alloc);
     for unit in units.split_whitespace() {
-        if !is_raw {
-            bytes.extend_from_slice(&[0, 0, 0, 1])?;
-        }
-        bytes.extend_from_slice(bytes_of(alloc, unit)?.as_slice())?;
+        push_unit(alloc, &mut bytes, unit, is_raw)?;
     }
     Ok(bytes)
+}
+
+/// Appends a unit, behind a start code where it isn't raw.
+fn push_unit(alloc: Global, bytes: &mut Vec<u8>, unit: &str, is_raw: bool) -> Result<(), RowError> {
+    if !is_raw {
+        bytes.extend_from_slice(&[0, 0, 0, 1])?;
+    }
+    push_parts(alloc, bytes, unit)
 }
 
 /// The bytes of parts with `+` between them, each in hexadecimal digits; `N*PART` is a part N times.
 pub(crate) fn bytes_of(alloc: Global, parts: &str) -> Result<Vec<u8>, RowError> {
     let mut bytes = Vec::new(alloc);
-    for part in parts.split('+') {
-        let (count, digits) = counted(part, '*')?;
-        let Ok(piece) = hex::decode(alloc, digits) else {
-            return Err(RowError::Unreadable);
-        };
-        for _ in 0..count {
-            bytes.extend_from_slice(piece.as_slice())?;
-        }
-    }
+    push_parts(alloc, &mut bytes, parts)?;
     Ok(bytes)
+}
+
+/// Appends the bytes of parts.
+fn push_parts(alloc: Global, bytes: &mut Vec<u8>, parts: &str) -> Result<(), RowError> {
+    for part in parts.split('+') {
+        push_part(alloc, bytes, part)?;
+    }
+    Ok(())
+}
+
+/// Appends the bytes of a part.
+fn push_part(alloc: Global, bytes: &mut Vec<u8>, part: &str) -> Result<(), RowError> {
+    let (count, digits) = counted(part, '*')?;
+    match hex::decode(alloc, digits) {
+        Ok(piece) => push_times(bytes, piece.as_slice(), count),
+        Err(_) => Err(RowError::Unreadable),
+    }
+}
+
+/// Appends a piece so many times.
+fn push_times(bytes: &mut Vec<u8>, piece: &[u8], count: u32) -> Result<(), RowError> {
+    for _ in 0..count {
+        bytes.extend_from_slice(piece)?;
+    }
+    Ok(())
 }
 
 /// The count before the sign, 1 where there is none, and what is counted.

@@ -18,8 +18,18 @@ fn main(rt: HostRuntime) -> Result<(), RowError> {
     let mut tally = Tally::new(rt.alloc());
     let runs = fs::read_to_string(&rt, "runs.txt")?;
     run_rows(&rt, rt.alloc(), runs.as_str(), &mut tally)?;
-    let plans = fs::read_to_string(&rt, "plans.txt")?;
-    plan_rows(rt.alloc(), plans.as_str(), &mut tally)?;
+    add_plans(&rt, &mut tally)?;
+    print_tally(&rt, &tally)
+}
+
+/// Plans the rows of `plans.txt`.
+fn add_plans(rt: &HostRuntime, tally: &mut Tally) -> Result<(), RowError> {
+    let plans = fs::read_to_string(rt, "plans.txt")?;
+    plan_rows(rt.alloc(), plans.as_str(), tally)
+}
+
+/// Prints in what runs differed, and the sum.
+fn print_tally(rt: &HostRuntime, tally: &Tally) -> Result<(), RowError> {
     print!(rt; "{}", tally.differences())?;
     println!(rt; "{}", tally.sum(rt.alloc())?)?;
     Ok(())

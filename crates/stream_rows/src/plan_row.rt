@@ -3,9 +3,8 @@
 
 ghost use Rattle.std.specs.Prelude.{◌≡◌, ◌<◌, false};
 
-use crate::byte_text::{UnitNames, number_of};
+use crate::byte_text::{UnitNames, name_and_columns, number_of};
 use crate::row_error::RowError;
-use crate::run_row::is_note;
 use crate::tally::Tally;
 use hv_base::Stop;
 use nal_stream::{Framer, Next};
@@ -23,6 +22,16 @@ struct Stream<'a> {
     piece: usize,
 }
 
+/// What the columns behind a row's name say.
+#[derive(Clone, Copy)]
+struct PlanRow<'a> {
+    stream: &'a str,
+    pictures: u32,
+    stop: &'a str,
+    /// The last picture, where it is told.
+    last: Option<&'a str>,
+}
+
 /// What comes of a stream's planning.
 #[derive(Drop)]
 struct Plan {
@@ -36,45 +45,89 @@ struct Plan {
 pub(crate) fn plan_rows(alloc: Global, table: &str, tally: &mut Tally) -> Result<(), RowError> {
     let mut names = UnitNames::new(alloc);
     for line in table.lines() {
-        if !is_note(line) && !names.take(line)? {
-            let (name, rest) = line.split_once(" | ").unwrap_or((line, ""));
-            tally.add_row();
-            for piece in PIECES {
-                tally.add_run(name, answer_of(alloc, &names, rest, piece)?)?;
-            }
+        if names.is_row(line)? {
+            plan_line(alloc, &names, line, tally)?;
         }
     }
     Ok(())
 }
 
-/// In what the planning differs from what the columns behind the name say.
-fn answer_of(
+/// Plans the row of a line.
+fn plan_line(
     alloc: Global,
     names: &UnitNames<'_>,
-    text: &str,
-    piece: usize,
-) -> Result<Option<String>, RowError>
-    requires { 0 < piece }
-{
+    line: &str,
+    tally: &mut Tally,
+) -> Result<(), RowError> {
+    let (name, rest) = name_and_columns(line);
+    let row = row_of(rest)?;
+    let input = names.stream_of(alloc, row.stream)?;
+    plan_row(alloc, name, row, input.as_slice(), tally)
+}
+
+/// Plans the stream of a row in each size of pieces.
+fn plan_row(
+    alloc: Global,
+    name: &str,
+    row: PlanRow<'_>,
+    bytes: &[u8],
+    tally: &mut Tally,
+) -> Result<(), RowError> {
+    tally.add_row();
+    for piece in PIECES {
+        tally.add_run(name, answer_of(alloc, row, Stream { bytes, piece })?)?;
+    }
+    Ok(())
+}
+
+/// The columns behind the name.
+fn row_of(text: &str) -> Result<PlanRow<'_>, RowError> {
     let mut columns = text.split(" | ");
-    let input = names.stream_of(alloc, columns.next().unwrap_or(""))?;
+    let stream = columns.next().unwrap_or("");
     let pictures = number_of(columns.next().unwrap_or(""))?;
-    let told = columns.next().unwrap_or("");
-    let last = columns.next();
-    let stream = Stream {
-        bytes: input.as_slice(),
-        piece,
-    };
-    let Ok(plan) = plan_of(alloc, stream) else {
-        return Ok(Some(format!(in alloc; "pieces of {piece}: memory")?));
-    };
+    Ok(PlanRow {
+        stream,
+        pictures,
+        stop: columns.next().unwrap_or(""),
+        last: columns.next(),
+    })
+}
+
+/// In what the planning of a stream differs from what the row says.
+fn answer_of(
+    alloc: Global,
+    row: PlanRow<'_>,
+    stream: Stream<'_>,
+) -> Result<Option<String>, RowError>
+    requires { 0 < stream.piece }
+{
+    let piece = stream.piece;
+    match plan_of(alloc, stream) {
+        Ok(plan) => difference(alloc, row, piece, &plan),
+        Err(_) => Ok(Some(format!(in alloc; "pieces of {piece}: memory")?)),
+    }
+}
+
+/// In what a plan differs from what the row says.
+fn difference(
+    alloc: Global,
+    row: PlanRow<'_>,
+    piece: usize,
+    plan: &Plan,
+) -> Result<Option<String>, RowError> {
     let stop = stop_text(alloc, plan.stop)?;
-    let is_last = last.is_none_or(|text| text == plan.last.as_str());
-    if plan.pictures == pictures && stop.as_str() == told && is_last {
+    if is_told(row, plan, stop.as_str()) {
         return Ok(None);
     }
     let (found, picture) = (plan.pictures, plan.last.as_str());
     Ok(Some(format!(in alloc; "pieces of {piece}: {found} pictures, then {stop}; {picture}")?))
+}
+
+/// Whether a plan and the text of its stop are what the row says.
+fn is_told(row: PlanRow<'_>, plan: &Plan, stop: &str) -> bool {
+    plan.pictures == row.pictures
+        && stop == row.stop
+        && row.last.is_none_or(|text| text == plan.last.as_str())
 }
 
 fn stop_text(alloc: Global, stop: Option<Stop>) -> Result<String, AllocError> {

@@ -1,6 +1,6 @@
 //! Rows of `runs.txt`: a command line and a stream, and how `run` answers them.
 
-use crate::byte_text::{UnitNames, bytes_of, number_of};
+use crate::byte_text::{UnitNames, bytes_of, name_and_columns, number_of};
 use crate::row_error::RowError;
 use crate::tally::Tally;
 use command_line::run;
@@ -36,14 +36,38 @@ struct Ends {
     tells: Vec<u64>,
 }
 
+/// What a row is run on.
 #[derive(Drop)]
-struct RunRow {
+struct RunInput {
     words: Vec<String>,
-    input: Vec<u8>,
+    bytes: Vec<u8>,
     ends: Ends,
+}
+
+/// How a row says that its run ends.
+#[derive(Drop)]
+struct RunEnd {
     status: u32,
     output: Output,
     told: String,
+}
+
+#[derive(Drop)]
+struct RunRow {
+    input: RunInput,
+    end: RunEnd,
+}
+
+/// The columns of a row.
+#[derive(Clone, Copy)]
+struct Columns<'a> {
+    name: &'a str,
+    words: &'a str,
+    stream: &'a str,
+    ends: &'a str,
+    status: u32,
+    output: &'a str,
+    told: &'a str,
 }
 
 /// Runs each row of the table.
@@ -55,59 +79,84 @@ pub(crate) fn run_rows<R: Threads + Wait + Sync>(
 ) -> Result<(), RowError> {
     let mut names = UnitNames::new(alloc);
     for line in table.lines() {
-        if !is_note(line) && !names.take(line)? {
-            let (name, rest) = line.split_once(" | ").unwrap_or((line, ""));
-            let row = row_of(alloc, &names, rest)?;
-            run_row(rt, alloc, name, &row, tally)?;
+        if names.is_row(line)? {
+            run_row(rt, alloc, &names, line, tally)?;
         }
     }
     Ok(())
 }
 
-/// Whether a line is empty or a comment.
-pub(crate) fn is_note(line: &str) -> bool {
-    line.is_empty() || line.starts_with('#')
+/// The columns of a line.
+fn columns_of(line: &str) -> Result<Columns<'_>, RowError> {
+    let (name, rest) = name_and_columns(line);
+    let mut columns = rest.split(" | ");
+    Ok(Columns {
+        name,
+        words: columns.next().unwrap_or(""),
+        stream: columns.next().unwrap_or(""),
+        ends: columns.next().unwrap_or(""),
+        status: number_of(columns.next().unwrap_or(""))?,
+        output: columns.next().unwrap_or(""),
+        told: columns.next().unwrap_or(""),
+    })
 }
 
-/// The row of its columns behind the name.
-fn row_of(alloc: Global, names: &UnitNames<'_>, text: &str) -> Result<RunRow, RowError> {
-    let mut columns = text.split(" | ");
-    let words = words_of(alloc, columns.next().unwrap_or(""))?;
-    let input = names.stream_of(alloc, columns.next().unwrap_or(""))?;
-    let ends = ends_of(alloc, columns.next().unwrap_or(""))?;
-    let status = number_of(columns.next().unwrap_or(""))?;
-    let output = output_of(alloc, columns.next().unwrap_or(""))?;
-    let is_whole = ends.tells.is_empty();
-    let told = told_of(alloc, columns.next().unwrap_or(""), is_whole)?;
-    Ok(RunRow {
-        words,
-        input,
-        ends,
-        status,
+/// The row of its columns.
+fn row_of(alloc: Global, names: &UnitNames<'_>, columns: Columns<'_>) -> Result<RunRow, RowError> {
+    let input = input_of(alloc, names, columns)?;
+    let is_whole = input.ends.tells.is_empty();
+    let end = end_of(alloc, columns, is_whole)?;
+    Ok(RunRow { input, end })
+}
+
+/// What a row is run on.
+fn input_of(
+    alloc: Global,
+    names: &UnitNames<'_>,
+    columns: Columns<'_>,
+) -> Result<RunInput, RowError> {
+    let words = words_of(alloc, columns.words)?;
+    let bytes = names.stream_of(alloc, columns.stream)?;
+    let ends = ends_of(alloc, columns.ends)?;
+    Ok(RunInput { words, bytes, ends })
+}
+
+/// How a row says that its run ends.
+fn end_of(alloc: Global, columns: Columns<'_>, is_whole: bool) -> Result<RunEnd, RowError> {
+    let output = output_of(alloc, columns.output)?;
+    let told = told_of(alloc, columns.told, is_whole)?;
+    Ok(RunEnd {
+        status: columns.status,
         output,
         told,
     })
 }
 
-/// Runs a row in each size of pieces.
+/// Runs the row of a line in each size of pieces.
 fn run_row<R: Threads + Wait + Sync>(
     rt: &R,
     alloc: Global,
-    name: &str,
-    row: &RunRow,
+    names: &UnitNames<'_>,
+    line: &str,
     tally: &mut Tally,
 ) -> Result<(), RowError> {
+    let columns = columns_of(line)?;
+    let row = row_of(alloc, names, columns)?;
     tally.add_row();
-    let own = row.ends.piece.unwrap_or(0);
-    for piece in PIECES {
-        if own == 0 {
-            tally.add_run(name, difference(rt, alloc, row, piece)?)?;
+    for piece in pieces_of(row.input.ends.piece) {
+        if piece != 0 {
+            tally.add_run(columns.name, difference(rt, alloc, &row, piece)?)?;
         }
     }
-    if own != 0 {
-        tally.add_run(name, difference(rt, alloc, row, own)?)?;
-    }
     Ok(())
+}
+
+/// The sizes of pieces with which a row is run, by the one that it names; 0 for none.
+fn pieces_of(own: Option<u32>) -> [u32; 3] {
+    match own.unwrap_or(0) {
+        0 => PIECES,
+        own => [own, 0, 0],
+    }
 }
 
 /// The words of a command line; none for `-`.
@@ -131,26 +180,51 @@ fn ends_of(alloc: Global, text: &str) -> Result<Ends, RowError> {
         tells: Vec::new(alloc),
     };
     for word in text.split_whitespace() {
-        match word.split_once('=') {
-            Some(("by", piece)) => ends.piece = Some(number_of(piece)?),
-            Some(("read", call)) => ends.reads.push(u64::from(number_of(call)?))?,
-            Some(("write", call)) => ends.writes.push(u64::from(number_of(call)?))?,
-            Some(("tell", call)) => ends.tells.push(u64::from(number_of(call)?))?,
-            _ if word == "-" => break,
-            _ => return Err(RowError::Unreadable),
+        if word == "-" {
+            break;
         }
+        ends.take(word)?;
     }
     Ok(ends)
+}
+
+impl Ends {
+    /// Takes a word that tells of the pieces or of a failing call.
+    fn take(&mut self, word: &str) -> Result<(), RowError> {
+        match word.split_once('=') {
+            Some((name, number)) => self.set(name, number_of(number)?),
+            None => Err(RowError::Unreadable),
+        }
+    }
+
+    /// Takes the number that stands behind a name.
+    fn set(&mut self, name: &str, number: u32) -> Result<(), RowError> {
+        match name {
+            "by" => self.piece = Some(number),
+            "read" => self.reads.push(u64::from(number))?,
+            "write" => self.writes.push(u64::from(number))?,
+            "tell" => self.tells.push(u64::from(number))?,
+            _ => return Err(RowError::Unreadable),
+        }
+        Ok(())
+    }
 }
 
 /// The output: `-` for none, `grey N`, `md5 DIGITS`, or its bytes.
 fn output_of(alloc: Global, text: &str) -> Result<Output, RowError> {
     match text.split_once(' ') {
-        Some(("grey", count)) => Ok(Output::Grey(number_of(count)?)),
-        Some(("md5", digits)) => Ok(Output::Md5(String::from_str(alloc, digits)?)),
-        Some(_) => Err(RowError::Unreadable),
+        Some((kind, rest)) => output_of_kind(alloc, kind, rest),
         None if text == "-" => Ok(Output::Bytes(Vec::new(alloc))),
         None => Ok(Output::Bytes(bytes_of(alloc, text)?)),
+    }
+}
+
+/// The output that isn't written as its bytes.
+fn output_of_kind(alloc: Global, kind: &str, rest: &str) -> Result<Output, RowError> {
+    match kind {
+        "grey" => Ok(Output::Grey(number_of(rest)?)),
+        "md5" => Ok(Output::Md5(String::from_str(alloc, rest)?)),
+        _ => Err(RowError::Unreadable),
     }
 }
 
@@ -170,25 +244,39 @@ fn difference<R: Threads + Wait + Sync>(
     row: &RunRow,
     piece: u32,
 ) -> Result<Option<String>, RowError> {
+    let RunInput { words, bytes, ends } = &row.input;
     let size = (piece as usize).max(1);
-    let mut src = MemSource::new(row.input.as_slice(), size, row.ends.reads.as_slice());
-    let mut out = MemSink::new(alloc, ROOM, size, row.ends.writes.as_slice())?;
-    let mut err = MemSink::new(alloc, ROOM, size, row.ends.tells.as_slice())?;
+    let mut src = MemSource::new(bytes.as_slice(), size, ends.reads.as_slice());
+    let mut out = MemSink::new(alloc, ROOM, size, ends.writes.as_slice())?;
+    let mut err = MemSink::new(alloc, ROOM, size, ends.tells.as_slice())?;
     let Status(status) = run(
         rt,
         alloc,
-        row.words.as_slice(),
+        words.as_slice(),
         &mut src,
         &mut out,
         &mut err,
         &OpenGate,
     );
-    let is_output = is_output(alloc, &row.output, out.bytes())?;
-    if u32::from(status) == row.status && is_output && err.bytes() == row.told.as_bytes() {
+    difference_of(alloc, &row.end, piece, status, out.bytes(), err.bytes())
+}
+
+/// In what a run in these pieces, which ended so, differs from what its row says.
+fn difference_of(
+    alloc: Global,
+    end: &RunEnd,
+    piece: u32,
+    status: u8,
+    output: &[u8],
+    told: &[u8],
+) -> Result<Option<String>, RowError> {
+    let is_output = is_output(alloc, &end.output, output)?;
+    let is_status = u32::from(status) == end.status;
+    if is_status && is_output && told == end.told.as_bytes() {
         return Ok(None);
     }
-    let bytes = out.bytes().len();
-    let told = String::from_utf8_lossy(alloc, err.bytes())?;
+    let bytes = output.len();
+    let told = String::from_utf8_lossy(alloc, told)?;
     let text = format!(in alloc;
         "pieces of {piece}: status {status}, {bytes} bytes, told {told:?}"
     )?;
@@ -204,9 +292,12 @@ fn is_output(alloc: Global, output: &Output, bytes: &[u8]) -> Result<bool, RowEr
                     && bytes.iter().all(|byte| *byte == 128),
             )
         }
-        Output::Md5(wanted) => {
-            let digest = hex::encode(alloc, Md5::digest(bytes))?;
-            Ok(digest.as_str() == wanted.as_str())
-        }
+        Output::Md5(wanted) => is_md5(alloc, wanted.as_str(), bytes),
     }
+}
+
+/// Whether bytes have the MD5 of these digits.
+fn is_md5(alloc: Global, wanted: &str, bytes: &[u8]) -> Result<bool, RowError> {
+    let digest = hex::encode(alloc, Md5::digest(bytes))?;
+    Ok(digest.as_str() == wanted)
 }
