@@ -86,19 +86,19 @@ pub chroma_7 : (q z a b c d : ℕ) → 6 < q → 2 * a + 2 * d ≤ z
 chroma_7 q z a b c d lt k = chroma_seventh z a b c d k ∙ ap (λ (v : ℤ). pos z +ℤ v) (sym (last_chroma q _ _ _ _ lt))
 
 -- a sum in units of 64, with its base in units of 64
-pub lowered : (n : ℕ) (s : ℤ) → pos n ≡ pos 524288 +ℤ s → pos (n / 64) ≡ pos 8192 +ℤ int_shr s 6
-lowered n (pos m) e = omega (arith, ints, e)
-lowered n (negsuc m) e = omega (arith, ints, e)
+pub lowered : (base n : ℕ) (s : ℤ) → pos n ≡ pos (64 * base) +ℤ s → pos (n / 64) ≡ pos base +ℤ int_shr s 6
+lowered base n (pos m) e = omega (arith, ints, e)
+lowered base n (negsuc m) e = omega (arith, ints, e)
 
-third_base : (a b c d e f g h : ℤ) → luma_taps 3 a b c d e f g h ≡ pos 524288
-    +ℤ luma_taps 3 (a -ℤ pos 8192) (b -ℤ pos 8192) (c -ℤ pos 8192) (d -ℤ pos 8192) (e -ℤ pos 8192) (f -ℤ pos 8192)
-    (g -ℤ pos 8192) (h -ℤ pos 8192)
+third_base : (a b c d e f g h : ℤ) → luma_taps 3 a b c d e f g h ≡ pos 393216
+    +ℤ luma_taps 3 (a -ℤ pos 6144) (b -ℤ pos 6144) (c -ℤ pos 6144) (d -ℤ pos 6144) (e -ℤ pos 6144) (f -ℤ pos 6144)
+    (g -ℤ pos 6144) (h -ℤ pos 6144)
 unfolding luma_taps
 third_base a b c d e f g h = omega (arith, ints)
 
-luma_base : (q : ℕ) (a b c d e f g h : ℤ) → luma_taps q a b c d e f g h ≡ pos 524288
-    +ℤ luma_taps q (a -ℤ pos 8192) (b -ℤ pos 8192) (c -ℤ pos 8192) (d -ℤ pos 8192) (e -ℤ pos 8192) (f -ℤ pos 8192)
-    (g -ℤ pos 8192) (h -ℤ pos 8192)
+luma_base : (q : ℕ) (a b c d e f g h : ℤ) → luma_taps q a b c d e f g h ≡ pos 393216
+    +ℤ luma_taps q (a -ℤ pos 6144) (b -ℤ pos 6144) (c -ℤ pos 6144) (d -ℤ pos 6144) (e -ℤ pos 6144) (f -ℤ pos 6144)
+    (g -ℤ pos 6144) (h -ℤ pos 6144)
 unfolding luma_taps
 luma_base zero a b c d e f g h = omega (arith, ints)
 luma_base (suc zero) a b c d e f g h = omega (arith, ints)
@@ -106,19 +106,19 @@ luma_base (suc (suc zero)) a b c d e f g h = omega (arith, ints)
 luma_base (suc (suc (suc n))) a b c d e f g h =
     let lt : 2 < suc (suc (suc n)) = omega arith in
     last_luma _ a b c d e f g h lt ∙ third_base a b c d e f g h
-    ∙ ap (λ (v : ℤ). pos 524288 +ℤ v)
-    (sym (last_luma _ (a -ℤ pos 8192) (b -ℤ pos 8192) (c -ℤ pos 8192) (d -ℤ pos 8192) (e -ℤ pos 8192) (f -ℤ pos 8192)
-    (g -ℤ pos 8192) (h -ℤ pos 8192) lt))
+    ∙ ap (λ (v : ℤ). pos 393216 +ℤ v)
+    (sym (last_luma _ (a -ℤ pos 6144) (b -ℤ pos 6144) (c -ℤ pos 6144) (d -ℤ pos 6144) (e -ℤ pos 6144) (f -ℤ pos 6144)
+    (g -ℤ pos 6144) (h -ℤ pos 6144) lt))
 
 seventh_base : (a b c d : ℤ)
     → chroma_taps 7 a b c d
-    ≡ pos 524288 +ℤ chroma_taps 7 (a -ℤ pos 8192) (b -ℤ pos 8192) (c -ℤ pos 8192) (d -ℤ pos 8192)
+    ≡ pos 393216 +ℤ chroma_taps 7 (a -ℤ pos 6144) (b -ℤ pos 6144) (c -ℤ pos 6144) (d -ℤ pos 6144)
 unfolding chroma_taps
 seventh_base a b c d = omega (arith, ints)
 
 chroma_base : (q : ℕ) (a b c d : ℤ)
     → chroma_taps q a b c d
-    ≡ pos 524288 +ℤ chroma_taps q (a -ℤ pos 8192) (b -ℤ pos 8192) (c -ℤ pos 8192) (d -ℤ pos 8192)
+    ≡ pos 393216 +ℤ chroma_taps q (a -ℤ pos 6144) (b -ℤ pos 6144) (c -ℤ pos 6144) (d -ℤ pos 6144)
 unfolding chroma_taps
 chroma_base zero a b c d = omega (arith, ints)
 chroma_base (suc zero) a b c d = omega (arith, ints)
@@ -130,11 +130,11 @@ chroma_base (suc (suc (suc (suc (suc (suc zero)))))) a b c d = omega (arith, int
 chroma_base (suc (suc (suc (suc (suc (suc (suc n))))))) a b c d =
     let lt : 6 < suc (suc (suc (suc (suc (suc (suc n)))))) = omega arith in
     last_chroma _ a b c d lt ∙ seventh_base a b c d
-    ∙ ap (λ (v : ℤ). pos 524288 +ℤ v)
-    (sym (last_chroma _ (a -ℤ pos 8192) (b -ℤ pos 8192) (c -ℤ pos 8192) (d -ℤ pos 8192) lt))
+    ∙ ap (λ (v : ℤ). pos 393216 +ℤ v)
+    (sym (last_chroma _ (a -ℤ pos 6144) (b -ℤ pos 6144) (c -ℤ pos 6144) (d -ℤ pos 6144) lt))
 
--- values that stand 8192 above
-pub filter_base : (taps q : ℕ) (s : ℕ → ℤ) → filter taps q s ≡ pos 524288 +ℤ filter taps q (λ k. s k -ℤ pos 8192)
+-- values that stand 6144 above
+pub filter_base : (taps q : ℕ) (s : ℕ → ℤ) → filter taps q s ≡ pos 393216 +ℤ filter taps q (λ k. s k -ℤ pos 6144)
 filter_base taps q s = elim (cases_eq taps) [
   | inl eight ↦ rw eight (luma_base q (s 0) (s 1) (s 2) (s 3) (s 4) (s 5) (s 6) (s 7))
   | inr other ↦ rw other (chroma_base q (s 0) (s 1) (s 2) (s 3))

@@ -18,7 +18,7 @@ filtered_same taps fx fy depth s t four same =
 sample_same : (reference : ℤ → ℤ → ℕ) (a b c d : ℤ) → a ≡ b → c ≡ d → pos (reference a c) ≡ pos (reference b d)
 sample_same reference a b c d p q = rw (p, q) refl
 
-unscaled : (z : ℤ) → int_shr (pos 64 *ℤ z) 6 ≡ z
+pub unscaled : (z : ℤ) → int_shr (pos 64 *ℤ z) 6 ≡ z
 unscaled (pos n) = grind (arith, ints)
 unscaled (negsuc n) = grind (arith, ints)
 
@@ -33,28 +33,28 @@ pub whole_chroma : (depth : ℕ) (s : ℕ → ℕ → ℕ) → IsDepth depth
 unfolding chroma_taps
 whole_chroma depth s is = sym (unscaled _) ∙ raised_filter depth 4 0 (λ k. s 1 1) is (omega arith) ∙ sym (unscaled _)
 
-pub whole_joined : (reference : ℤ → ℤ → ℕ) (taps depth x y sample : ℕ) (l t left top z : ℤ) →
+pub whole_joined : (reference : ℤ → ℤ → ℕ) (taps depth x y sample : ℕ) (l t left top : ℤ) →
     ((taps ≡ 8) ⊎ (taps ≡ 4)) → IsDepth depth →
     left ≡ l +ℤ (pos (taps / 2) -ℤ pos 1) → top ≡ t +ℤ (pos (taps / 2) -ℤ pos 1) →
-    sample ≡ 2 ^ (14 - depth) * reference (left +ℤ pos x) (top +ℤ pos y) → z ≡ pos sample →
-    z
+    sample ≡ 2 ^ (14 - depth) * reference (left +ℤ pos x) (top +ℤ pos y) →
+    pos sample
     ≡ filtered (filter taps 0) (filter taps 0) depth
     (λ i j. pos (reference (l +ℤ pos x +ℤ pos i) (t +ℤ pos y +ℤ pos j)))
-whole_joined reference taps depth x y sample l t left top z (inl eight) is el et es ez =
+whole_joined reference taps depth x y sample l t left top (inl eight) is el et es =
     let p : left +ℤ pos x ≡ l +ℤ pos x +ℤ pos 3 = omega (arith, ints, el, eight) in
     let q : top +ℤ pos y ≡ t +ℤ pos y +ℤ pos 3 = omega (arith, ints, et, eight) in
-    rw (ez, es, p, q, eight) (whole_luma depth (λ i j. reference (l +ℤ pos x +ℤ pos i) (t +ℤ pos y +ℤ pos j)) is)
-whole_joined reference taps depth x y sample l t left top z (inr four) is el et es ez =
+    rw (es, p, q, eight) (whole_luma depth (λ i j. reference (l +ℤ pos x +ℤ pos i) (t +ℤ pos y +ℤ pos j)) is)
+whole_joined reference taps depth x y sample l t left top (inr four) is el et es =
     let p : left +ℤ pos x ≡ l +ℤ pos x +ℤ pos 1 = omega (arith, ints, el, four) in
     let q : top +ℤ pos y ≡ t +ℤ pos y +ℤ pos 1 = omega (arith, ints, et, four) in
-    rw (ez, es, p, q, four) (whole_chroma depth (λ i j. reference (l +ℤ pos x +ℤ pos i) (t +ℤ pos y +ℤ pos j)) is)
+    rw (es, p, q, four) (whole_chroma depth (λ i j. reference (l +ℤ pos x +ℤ pos i) (t +ℤ pos y +ℤ pos j)) is)
 
 pub joined : (reference : ℤ → ℤ → ℕ) (taps fx fy depth : ℕ) (l t : ℤ) (window middle : List ℕ) (w h x y : ℕ) →
     4 ≤ taps → IsDepth depth → x < w → y < h →
     ((i j : ℕ) → i + 1 < w + taps → j + 1 < h + taps
     → at window (72 * j + i) ≡ 2 ^ (14 - depth) * reference (l +ℤ pos i) (t +ℤ pos j)) →
     ((i j : ℕ) → i < w → j + 1 < h + taps
-    → pos (at middle (64 * j + i)) ≡ pos 8192 +ℤ across taps fx window (72 * j + i)) →
+    → pos (at middle (64 * j + i)) ≡ pos 6144 +ℤ across taps fx window (72 * j + i)) →
     down taps fy middle (64 * y + x)
     ≡ filtered (filter taps fx) (filter taps fy) depth
     (λ i j. pos (reference (l +ℤ pos x +ℤ pos i) (t +ℤ pos y +ℤ pos j)))
@@ -73,9 +73,9 @@ joined reference taps fx fy depth l t window middle w h x y four is m n gathered
     rw (f, p, q) (ap (λ (v : ℕ). pos v) (gathered (x + i) (y + j) (omega (arith, m, less)) (omega (arith, n, few))))))
     ∙ raised_filter depth taps fx (λ i. reference (l +ℤ pos x +ℤ pos i) (t +ℤ pos y +ℤ pos j)) is four in
     let e : 64 * y + x + 64 * j ≡ 64 * (y + j) + x = omega arith in
-    let u : pos (at middle (64 * (y + j) + x)) -ℤ pos 8192
+    let u : pos (at middle (64 * (y + j) + x)) -ℤ pos 6144
     ≡ int_shr (filter taps fx (λ i. pos (at window (72 * (y + j) + x + i)))) 6 = omega (arith, ints, line) in
-    ap (λ (v : ℕ). pos (at middle v) -ℤ pos 8192) e ∙ u ∙ s))
+    ap (λ (v : ℕ). pos (at middle v) -ℤ pos 6144) e ∙ u ∙ s))
 
 pub luma_joined : (reference : ℤ → ℤ → ℕ) (depth left top x y fx fy : ℕ) (v w l t z : ℤ) → fx ≡ quarter v →
     fy ≡ quarter w → l ≡ luma_first left v → t ≡ luma_first top w →

@@ -8,7 +8,7 @@ use Rattle.std.proofs.lemmas.Bool.Decides.{nat_tests}
 use Rattle.std.proofs.lemmas.List.{get_or-take, get_or-drop, get_or-append_right, get_or_append_left, length-take-le}
 use Rattle.std.proofs.lemmas.List.Elements.{All-append, All-take, All-drop}
 use borrow.Rule.Slice.PartMut.{put_mid}
-use Rattle.inter_pred.specs.Passes.{at, IsRaised}
+use Rattle.inter_pred.specs.Passes.{at}
 
 before_part : (a k : ℕ) (xs ys : List ℕ) (q : ℕ) → a ≤ length xs → q < a → at (put_mid a k xs ys) q ≡ at xs q
 before_part a k xs ys q room lt =
@@ -45,10 +45,10 @@ part_laid a w k xs ys s room e kw told q = elim (cases_lt q a) [
   ]
 ]
 
-pub part_raised : (a k : ℕ) (xs ys : List ℕ) → All IsRaised xs → All IsRaised ys → All IsRaised (put_mid a k xs ys)
-part_raised a k xs ys old new =
-    All-append IsRaised (take a xs) _ (All-take IsRaised a xs old)
-    (All-append IsRaised ys _ new (All-drop IsRaised k (drop a xs) (All-drop IsRaised a xs old)))
+pub part_all : (P : ℕ → Type 0) (a k : ℕ) (xs ys : List ℕ) → All P xs → All P ys → All P (put_mid a k xs ys)
+part_all P a k xs ys old new =
+    All-append P (take a xs) _ (All-take P a xs old)
+    (All-append P ys _ new (All-drop P k (drop a xs) (All-drop P a xs old)))
 
 -- one more line of the window
 pub line_laid : (width j i k : ℕ) (before now : List ℕ) (s : ℕ → ℕ → ℕ) → i < width → width ≤ 71 → k < j + 1

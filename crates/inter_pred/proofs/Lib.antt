@@ -5,3 +5,6 @@ pub mod Zeros
 pub mod Inside
 pub mod Joining
 pub mod Products
+pub mod Holding
+pub mod ByteJoining
+pub mod Means

@@ -5,6 +5,7 @@ ghost use Rattle.spec_inter_prediction.specs.Taps.{filtered, IsDepth};
 ghost use Rattle.inter_pred.specs.Passes.{at_z, filter};
 
 use crate::down::columns_at;
+use crate::eight::interpolate_bytes;
 use crate::interpolation::lines_at;
 use crate::prediction::Prediction;
 use crate::reference::RefWindow;
@@ -41,7 +42,9 @@ pub fn interpolate<V: RefWindow, const TAPS: usize>(
         (λ i j. pos (V.reference_at view.now first.picture first.component (first.x +ℤ pos x +ℤ pos i)
         (first.y +ℤ pos y +ℤ pos j))) }
 {
-    if fractions.across == 0 && fractions.down == 0 {
+    if depth == 8 {
+        interpolate_bytes::<V, TAPS>(view, first, fractions, scratch, out);
+    } else if fractions.across == 0 && fractions.down == 0 {
         whole::<V, TAPS>(view, first, depth, scratch, out);
     } else {
         between::<V, TAPS>(view, first, fractions, depth, scratch, out);
@@ -73,7 +76,7 @@ fn whole<V: RefWindow, const TAPS: usize>(
         ..first
     };
     gather(view, place, depth, &mut scratch.window);
-    copy(&scratch.window, first.width, first.height, out);
+    copy(&scratch.window, first.width, first.height, &mut out.samples);
 }
 
 /// The prediction of a block by the filters.
@@ -110,5 +113,11 @@ fn between<V: RefWindow, const TAPS: usize>(
         height + TAPS - 1,
         &mut scratch.middle,
     );
-    columns_at::<TAPS>(fractions.down, &scratch.middle, width, height, out);
+    columns_at::<TAPS>(
+        fractions.down,
+        &scratch.middle,
+        width,
+        height,
+        &mut out.samples,
+    );
 }

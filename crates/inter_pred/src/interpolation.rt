@@ -3,20 +3,20 @@
 ghost use Rattle.std.specs.Prelude.{◌≡◌, ◌<◌, ◌≤◌, ◌+◌, ◌-◌, ◌*◌, ◌^◌, ℕ, ℤ, length, pos, ◌+ℤ◌, cond, nat_le, nat_lt};
 ghost use Rattle.std.specs.Prelude.{◌&&◌};
 ghost use Rattle.std.specs.List.{All};
-ghost use Rattle.inter_pred.specs.Passes.{at, filter, across, IsRaised};
+ghost use Rattle.inter_pred.specs.Passes.{at, filter, across, IsMiddle, IsRaised};
 
 use crate::sums::{chroma_sum, luma_sum};
 
-/// The samples from a place on, weighted by the luma filter, 2^19 above.
+/// The samples from a place on, weighted by the luma filter, 393,216 above.
 #[inline(always)]
 fn luma_line<const Q: u32>(window: &[u16], start: usize) -> u32
     requires span { start + 8 ≤ length window.now }
     requires raised { All IsRaised window.now }
-    ensures value { pos result ≡ pos 524288 +ℤ filter 8 Q (λ i. pos (at window.now (start + i))) }
-    ensures high { result ≤ 2446677 }
+    ensures value { pos result ≡ pos 393216 +ℤ filter 8 Q (λ i. pos (at window.now (start + i))) }
+    ensures high { result ≤ 1835008 }
 {
     luma_sum::<Q>(
-        524288,
+        393216,
         u32::from(window[start]),
         u32::from(window[start + 1]),
         u32::from(window[start + 2]),
@@ -33,11 +33,11 @@ fn luma_line<const Q: u32>(window: &[u16], start: usize) -> u32
 fn chroma_line<const Q: u32>(window: &[u16], start: usize) -> u32
     requires span { start + 4 ≤ length window.now }
     requires raised { All IsRaised window.now }
-    ensures value { pos result ≡ pos 524288 +ℤ filter 4 Q (λ i. pos (at window.now (start + i))) }
-    ensures high { result ≤ 2446677 }
+    ensures value { pos result ≡ pos 393216 +ℤ filter 4 Q (λ i. pos (at window.now (start + i))) }
+    ensures high { result ≤ 1835008 }
 {
     chroma_sum::<Q>(
-        524288,
+        393216,
         u32::from(window[start]),
         u32::from(window[start + 1]),
         u32::from(window[start + 2]),
@@ -51,8 +51,8 @@ fn line_sum<const TAPS: usize, const Q: u32>(window: &[u16], start: usize) -> u3
     requires taps { 4 ≤ TAPS }
     requires span { start + TAPS ≤ length window.now }
     requires raised { All IsRaised window.now }
-    ensures value { pos result ≡ pos 524288 +ℤ filter TAPS Q (λ i. pos (at window.now (start + i))) }
-    ensures high { result ≤ 2446677 }
+    ensures value { pos result ≡ pos 393216 +ℤ filter TAPS Q (λ i. pos (at window.now (start + i))) }
+    ensures high { result ≤ 1835008 }
 {
     if TAPS == 8 {
         luma_line::<Q>(window, start)
@@ -61,13 +61,14 @@ fn line_sum<const TAPS: usize, const Q: u32>(window: &[u16], start: usize) -> u3
     }
 }
 
-/// What a line gives at a place, 8192 above.
+/// What a line gives at a place, 6144 above.
 #[inline(always)]
 fn across<const TAPS: usize, const Q: u32>(window: &[u16], start: usize) -> u16
     requires taps { 4 ≤ TAPS }
     requires span { start + TAPS ≤ length window.now }
     requires raised { All IsRaised window.now }
-    ensures { pos result ≡ pos 8192 +ℤ across TAPS Q window.now start }
+    ensures value { pos result ≡ pos 6144 +ℤ across TAPS Q window.now start }
+    ensures small { IsMiddle result }
 {
     (line_sum::<TAPS, Q>(window, start) >> 6) as u16
 }
@@ -84,9 +85,11 @@ fn line<const TAPS: usize, const Q: u32>(
     requires window { from + width + TAPS ≤ length window.now + 1 }
     requires raised { All IsRaised window.now }
     requires middle { to + width ≤ length middle.old }
-    ensures { (q : ℕ) → pos (at middle.new q)
-        ≡ cond (nat_le to q && nat_lt q (to + width)) (pos 8192 +ℤ across TAPS Q window.now (from + (q - to)))
+    requires small { All IsMiddle middle.old }
+    ensures value { (q : ℕ) → pos (at middle.new q)
+        ≡ cond (nat_le to q && nat_lt q (to + width)) (pos 6144 +ℤ across TAPS Q window.now (from + (q - to)))
         (pos (at middle.old q)) }
+    ensures small { All IsMiddle middle.new }
 {
     for k in 0..width {
         middle[to + k] = across::<TAPS, Q>(window, from + k);
@@ -103,8 +106,10 @@ fn lines<const TAPS: usize, const Q: u32>(
     requires taps { (4 ≤ TAPS) × (TAPS ≤ 8) }
     requires size { (width ≤ 64) × (height ≤ 71) }
     requires raised { All IsRaised window.now }
-    ensures { (x y : ℕ) → x < width → y < height
-        → pos (at middle.new (64 * y + x)) ≡ pos 8192 +ℤ across TAPS Q window.now (72 * y + x) }
+    requires small { All IsMiddle middle.old }
+    ensures value { (x y : ℕ) → x < width → y < height
+        → pos (at middle.new (64 * y + x)) ≡ pos 6144 +ℤ across TAPS Q window.now (72 * y + x) }
+    ensures small { All IsMiddle middle.new }
 {
     for y in 0..height {
         line::<TAPS, Q>(window, 72 * y, width, middle, 64 * y);
@@ -123,8 +128,10 @@ pub fn lines_at<const TAPS: usize>(
     requires fraction { fraction < 8 }
     requires size { (width ≤ 64) × (height ≤ 71) }
     requires raised { All IsRaised window.now }
-    ensures { (x y : ℕ) → x < width → y < height
-        → pos (at middle.new (64 * y + x)) ≡ pos 8192 +ℤ across TAPS fraction window.now (72 * y + x) }
+    requires small { All IsMiddle middle.old }
+    ensures value { (x y : ℕ) → x < width → y < height
+        → pos (at middle.new (64 * y + x)) ≡ pos 6144 +ℤ across TAPS fraction window.now (72 * y + x) }
+    ensures small { All IsMiddle middle.new }
 {
     match fraction {
         0 => lines::<TAPS, 0>(window, width, height, middle),

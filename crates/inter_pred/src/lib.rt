@@ -4,7 +4,9 @@
 
 mod between;
 mod block;
+mod bytes;
 mod down;
+mod eight;
 mod interpolation;
 mod line;
 mod prediction;
@@ -14,6 +16,7 @@ mod scratch;
 mod sums;
 mod weighting;
 mod whole;
+mod width;
 mod window;
 
 pub use block::{Block, chroma, luma};

@@ -5,7 +5,7 @@ ghost use Rattle.std.specs.Int.{int_shr};
 ghost use Rattle.spec_inter_prediction.specs.Taps.{IsDepth};
 ghost use Rattle.spec_inter_prediction.specs.Weighting.{clip1, rounded, scaled_offset, default_one, default_two};
 ghost use Rattle.spec_inter_prediction.specs.Weighting.{explicit_one, explicit_two, IsWeight};
-ghost use Rattle.inter_pred.specs.Passes.{IsSmall};
+ghost use Rattle.inter_pred.specs.Passes.{value_of, IsSmall};
 
 use spec_inter_prediction::Weight;
 
@@ -246,4 +246,30 @@ pub fn explicit_two(depth: u32, log2_wd: u32, w: Weight, v: Weight, p: i32, q: i
     let second = product(q, i32::from(v.weight));
     let sum = total(first, second, bias(depth, log2_wd, w, v));
     clip1(shifted(sum, log2_wd + 1), depth)
+}
+
+/// A prediction from what is held of it, 16,896 above.
+#[inline(always)]
+pub fn value_of(held: u16) -> i32
+    ensures value { result ≡ value_of held }
+    ensures small { IsSmall result }
+{
+    i32::from(held) - 16896
+}
+
+/// A sample of 8 bits of one prediction by default weights, in 16 bits.
+#[inline(always)]
+pub fn byte_of_one(p: u16) -> u16
+    ensures { result ≡ default_one 8 (value_of p) }
+{
+    (p.saturating_sub(16864) / 64).min(255)
+}
+
+/// A sample of 8 bits of two predictions by default weights, in 16 bits.
+#[inline(always)]
+pub fn byte_of_two(p: u16, q: u16) -> u16
+    ensures { result ≡ default_two 8 (value_of p) (value_of q) }
+{
+    let half = p / 2 + q / 2 + (p % 2 + q % 2) / 2;
+    (half.saturating_sub(16864) / 64).min(255)
 }

@@ -1,14 +1,16 @@
 //! Blocks of one or two predictions (8.5.3.3.4).
 
 ghost use Rattle.std.specs.Prelude.{◌≡◌, ◌<◌, ◌≤◌, ◌+◌, ◌*◌, ℕ, ℤ, length, cond, nat_le, nat_lt, ◌&&◌};
-ghost use Rattle.std.specs.List.{All};
 ghost use Rattle.spec_inter_prediction.specs.Taps.{IsDepth};
 ghost use Rattle.spec_inter_prediction.specs.Weighting.{weighted_one, weighted_two, IsWeight, IsWeighting};
-ghost use Rattle.inter_pred.specs.Passes.{at, at_z, IsSmall};
+ghost use Rattle.inter_pred.specs.Passes.{at, at_z, value_of};
 ghost use Rattle.inter_pred.specs.Samples.{sample};
 
 use crate::prediction::Prediction;
-use crate::sample::{default_one, default_two, explicit_one, explicit_two};
+use crate::sample::{
+    byte_of_one, byte_of_two, default_one, default_two, explicit_one, explicit_two, value_of,
+};
+use crate::width::in_eights;
 use spec_inter_prediction::{Weight, Weighting};
 
 /// What samples are made by: the bit depth, log2WD, and the weights of the first and the second prediction.
@@ -26,31 +28,39 @@ const NONE: Weight = Weight {
     offset: 0,
 };
 
-/// A sample of one or two predictions.
+/// A sample of one or two predictions, each held 16,896 above.
 #[inline(always)]
 #[tactic(auto, unfolding(crate::specs::Samples::sample))]
-fn sample<const KIND: u32>(scale: Scale, p: i32, q: i32) -> u16
+fn sample<const KIND: u32>(scale: Scale, p: u16, q: u16) -> u16
     requires depth { IsDepth scale.depth }
     requires log2_wd { scale.log2_wd ≤ 13 }
     requires first { IsWeight scale.first }
     requires second { IsWeight scale.second }
-    requires p { IsSmall p }
-    requires q { IsSmall q }
-    ensures { result ≡ sample KIND scale.depth scale.log2_wd scale.first scale.second p q }
+    ensures { result
+        ≡ sample KIND scale.depth scale.log2_wd scale.first scale.second (value_of p) (value_of q) }
 {
     match KIND {
-        0 => default_one(scale.depth, p),
-        1 => default_two(scale.depth, p, q),
-        2 => explicit_one(scale.depth, scale.log2_wd, scale.first, p),
-        _ => explicit_two(scale.depth, scale.log2_wd, scale.first, scale.second, p, q),
+        0 => default_one(scale.depth, value_of(p)),
+        1 => default_two(scale.depth, value_of(p), value_of(q)),
+        2 => explicit_one(scale.depth, scale.log2_wd, scale.first, value_of(p)),
+        3 => explicit_two(
+            scale.depth,
+            scale.log2_wd,
+            scale.first,
+            scale.second,
+            value_of(p),
+            value_of(q),
+        ),
+        4 => byte_of_one(p),
+        _ => byte_of_two(p, q),
     }
 }
 
 /// A line of samples, from a place on.
 fn line<const KIND: u32>(
     scale: Scale,
-    p: &[i32],
-    q: &[i32],
+    p: &[u16],
+    q: &[u16],
     from: usize,
     width: usize,
     out: &mut [u16],
@@ -59,12 +69,11 @@ fn line<const KIND: u32>(
     requires log2_wd { scale.log2_wd ≤ 13 }
     requires first { IsWeight scale.first }
     requires second { IsWeight scale.second }
-    requires p { All IsSmall p.now }
-    requires q { All IsSmall q.now }
     requires room { (from + width ≤ length p.now) × (from + width ≤ length q.now) × (from + width ≤ length out.old) }
     ensures { (i : ℕ) → at out.new i
         ≡ cond (nat_le from i && nat_lt i (from + width))
-        (sample KIND scale.depth scale.log2_wd scale.first scale.second (at_z p.now i) (at_z q.now i)) (at out.old i) }
+        (sample KIND scale.depth scale.log2_wd scale.first scale.second (value_of (at p.now i)) (value_of (at q.now i)))
+        (at out.old i) }
 {
     for k in 0..width {
         out[from + k] = sample::<KIND>(scale, p[from + k], q[from + k]);
@@ -114,9 +123,25 @@ pub fn weigh_one(
         → at out.new (64 * y + x) ≡ weighted_one depth weighting list (at_z prediction.now (64 * y + x)) }
 {
     match weighting {
+        Weighting::Default if depth == 8 => {
+            lines::<4>(
+                unweighted(depth),
+                prediction,
+                prediction,
+                in_eights(width),
+                height,
+                out,
+            );
+        }
         Weighting::Default => {
-            let scale = unweighted(depth);
-            lines::<0>(scale, prediction, prediction, width, height, out);
+            lines::<0>(
+                unweighted(depth),
+                prediction,
+                prediction,
+                width,
+                height,
+                out,
+            );
         }
         Weighting::Explicit(weights) => {
             let scale = Scale {
@@ -153,6 +178,16 @@ pub fn weigh_two(
         ≡ weighted_two depth weighting (at_z list0.now (64 * y + x)) (at_z list1.now (64 * y + x)) }
 {
     match weighting {
+        Weighting::Default if depth == 8 => {
+            lines::<5>(
+                unweighted(depth),
+                list0,
+                list1,
+                in_eights(width),
+                height,
+                out,
+            );
+        }
         Weighting::Default => lines::<1>(unweighted(depth), list0, list1, width, height, out),
         Weighting::Explicit(weights) => {
             let scale = Scale {

@@ -4,7 +4,7 @@ ghost use Rattle.std.specs.Prelude.{◌≡◌, ◌<◌, ◌≤◌, ◌+◌, ◌-
 ghost use Rattle.std.specs.Prelude.{nat_lt, ◌&&◌};
 ghost use Rattle.std.specs.List.{All};
 ghost use Rattle.spec_inter_prediction.specs.Taps.{IsDepth};
-ghost use Rattle.inter_pred.specs.Passes.{at, IsRaised};
+ghost use Rattle.inter_pred.specs.Passes.{at, IsByte, IsRaised};
 
 use crate::reference::RefWindow;
 
@@ -71,6 +71,49 @@ fn gather_line<V: RefWindow>(view: &V, from: Window, y: i32, depth: u32, line: &
 {
     view.row(from.picture, from.component, from.x, y, line);
     raise(line, depth);
+}
+
+/// The samples of a window as they are, of 8 bits, in lines of 72.
+pub fn gather_bytes<V: RefWindow>(view: &V, from: Window, window: &mut [u16; 5112])
+    requires size { (from.width ≤ 71) × (from.height ≤ 71) }
+    requires place { (from.x ≤ℤ pos 1073741824) × (from.y ≤ℤ pos 1073741824) }
+    requires small { (x y : ℤ) → V.reference_at view.now from.picture from.component x y < 256 }
+    requires bytes { All IsByte window.old }
+    ensures value { (i j : ℕ) → i < from.width → j < from.height
+        → at window.new (72 * j + i)
+        ≡ V.reference_at view.now from.picture from.component (from.x +ℤ pos i) (from.y +ℤ pos j) }
+    ensures bytes { All IsByte window.new }
+{
+    for j in 0..from.height {
+        lay_bytes(view, from, from.y + j as i32, window, 72 * j);
+    }
+}
+
+/// A line of them, from a place on.
+fn lay_bytes<V: RefWindow>(view: &V, from: Window, y: i32, window: &mut [u16], to: usize)
+    requires size { from.width ≤ 71 }
+    requires room { to + from.width ≤ length window.old }
+    requires place { from.x ≤ℤ pos 1073741824 }
+    requires small { (x y : ℤ) → V.reference_at view.now from.picture from.component x y < 256 }
+    requires bytes { All IsByte window.old }
+    ensures value { (q : ℕ) → at window.new q
+        ≡ cond (nat_le to q && nat_lt q (to + from.width))
+        (V.reference_at view.now from.picture from.component (from.x +ℤ pos (q - to)) y) (at window.old q) }
+    ensures bytes { All IsByte window.new }
+{
+    byte_line(view, from, y, &mut window[to..to + from.width]);
+}
+
+/// A line of them.
+fn byte_line<V: RefWindow>(view: &V, from: Window, y: i32, line: &mut [u16])
+    requires count { length line.old ≤ 71 }
+    requires place { from.x ≤ℤ pos 1073741824 }
+    requires small { (x y : ℤ) → V.reference_at view.now from.picture from.component x y < 256 }
+    ensures value { (k : ℕ) → k < length line.old
+        → at line.new k ≡ V.reference_at view.now from.picture from.component (from.x +ℤ pos k) y }
+    ensures bytes { All IsByte line.new }
+{
+    view.row(from.picture, from.component, from.x, y, line);
 }
 
 /// Samples at 14 bits.

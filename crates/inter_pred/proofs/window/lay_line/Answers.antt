@@ -2,7 +2,8 @@ use Rattle.std.proofs.Common.{rules, ◌-◌, ◌*◌, ◌^◌, pos, ◌+ℤ◌,
 use Rattle.std.proofs.lemmas.Int.{to_z-of_z}
 use mir.Val.{SFits}
 use mir.Syntax.{w32}
-use Rattle.inter_pred.proofs.Laying.{part_laid, part_raised}
+use Rattle.inter_pred.specs.Passes.{IsRaised}
+use Rattle.inter_pred.proofs.Laying.{part_laid, part_all}
 use Rattle.inter_pred.proofs.window.lay_line.Goals as goal
 
 pub returns-clause-value : goal.returns-clause-value
@@ -15,4 +16,4 @@ returns-clause-value g c =
     (λ i lt. let t = c.gather_line.ensures.value i (search rules) in grind (arith, to_z-of_z, t))
 
 pub returns-clause-raised : goal.returns-clause-raised
-returns-clause-raised g c = part_raised _ _ _ _ (search rules) c.gather_line.ensures.raised
+returns-clause-raised g c = part_all IsRaised _ _ _ _ (search rules) c.gather_line.ensures.raised
