@@ -201,3 +201,39 @@ place_laid plane depth places f e s i j p q filter greatest t from to lo hi new 
     ])
     (λ (b : is_beside plane s e i j ≡ false). cond_no _ _ _ _ n
     (written_apart plane s e from to i j some (end_few _ to eto) b))
+
+written_beside : (plane : Plane) (s e from to i j : ℕ) → 0 < e → to ≤ 8 → is_written plane s (8 * e - 4) from to i j ≡ true
+    → is_beside plane s e i j ≡ true
+written_beside plane s e from to i j p q t = grind (arith, nat_tests)
+
+unwritten : (plane : Plane) (s e from to i j : ℕ) (f : ℕ → ℕ → ℕ) (line : Line) (old : ℕ) → 0 < e → to ≤ 8 →
+    line ≡ across f (8 * e - 4) j → (is_beside plane s e i j ≡ true → old ≡ f i j) →
+    old ≡ cond (is_written plane s (8 * e - 4) from to i j) (nth line (i - (8 * e - 4))) old
+unwritten plane s e from to i j f line old some few el eo =
+    cond_intro (is_written plane s (8 * e - 4) from to i j) _ _ _
+    (λ (w : is_written plane s (8 * e - 4) from to i j ≡ true).
+    let b : is_beside plane s e i j ≡ true = written_beside plane s e from to i j some few w in
+    let at = beside_of plane s e i j b in
+    let k : 8 * e - 4 + (i - (8 * e - 4)) ≡ i = omega (arith, at.low) in
+    let less : i - (8 * e - 4) < 8 = omega (arith, at.high) in
+    eo b
+    ∙ sym (ap (λ (l : Line). nth l (i - (8 * e - 4))) el ∙ nth_is f (8 * e - 4) j (i - (8 * e - 4)) less
+    ∙ ap (λ (x : ℕ). f x j) k))
+    (λ (w : is_written plane s (8 * e - 4) from to i j ≡ false). refl)
+
+-- the lines of a place across an edge whose filter changes none
+pub off_laid : (plane : Plane) (depth : ℕ) (places : ℕ → ℕ → Place) (f : ℕ → ℕ → ℕ) (e s i j : ℕ) (p q : Place)
+    (filter : Filter) (lo hi old : ℕ) →
+    0 < e → lo ≤ i → i < hi → lo % 8 ≡ 0 → hi % 4 ≡ 0 →
+    p ≡ places ((8 * e - 1) / side plane) s → q ≡ places (8 * e / side plane) s →
+    filter
+    ≡ edge_filter plane depth p q (across f (8 * e - 4) (side plane * s))
+    (across f (8 * e - 4) (side plane * s + (side plane - 1))) →
+    ((greatest t : ℕ) (line : Line) → filtered filter greatest t line ≡ line) →
+    (is_beside plane s e i j ≡ true → old ≡ f i j) →
+    old ≡ cond (is_beside plane s e i j) (edge_sample plane depth places f e j (i + 4 - 8 * e)) old
+off_laid plane depth places f e s i j p q filter lo hi old some low high wl wh ep eq ef same eo =
+    place_laid plane depth places f e s i j p q filter (2 ^ depth - 1) (tc plane depth p q)
+    (cond (p.kept || nat_lt (8 * e - 4) lo) 4 0) (cond (q.kept || nat_lt hi (8 * e - 4 + 8)) 4 8) lo hi old old
+    some low high wl wh ep eq ef refl refl refl refl eo
+    (unwritten plane s e _ _ i j f _ old some (end_few (q.kept || nat_lt hi (8 * e - 4 + 8)) _ refl) (same _ _ _) eo)

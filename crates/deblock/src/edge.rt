@@ -2,6 +2,7 @@
 
 ghost use Rattle.std.specs.Prelude.{◌≡◌, ◌<◌, ◌≤◌, ◌+◌, ◌-◌, ◌*◌, ◌/◌, ◌^◌, ◌&&◌, ◌||◌, ℕ, Bool, true, length, cond};
 ghost use Rattle.std.specs.Prelude.{nat_le, nat_lt};
+ghost use Rattle.spec_deblocking.specs.declared.line.Line.{Line};
 ghost use Rattle.spec_deblocking.specs.Lines.{across, nth};
 ghost use Rattle.spec_deblocking.specs.Places.{side};
 ghost use Rattle.spec_deblocking.specs.Filters.{filtered};
@@ -132,6 +133,18 @@ fn filter_lines(pass: &Pass, kernel: Kernel, samples: &[u16], e: usize, s: usize
     }
 }
 
+/// Whether a filter changes no sample.
+#[inline(always)]
+#[tactic(auto, unfolding(spec_deblocking::specs::Filters::filtered))]
+fn is_off(filter: Filter) -> bool
+    ensures { result ≡ true → (greatest tc : ℕ) (line : Line) → filtered filter greatest tc line ≡ line }
+{
+    match filter {
+        Filter::Off => true,
+        Filter::Normal { .. } | Filter::Strong | Filter::Nearest => false,
+    }
+}
+
 /// Filters an edge that has a strength at the lines of a place.
 #[inline(always)]
 fn filter_place<V: Places>(
@@ -167,8 +180,12 @@ fn filter_place<V: Places>(
     let p = place(view, pass.behind.turned, (8 * e - 1) / lines, s);
     let head = read_line(samples, &pass.before, a, lines * s);
     let tail = read_line(samples, &pass.before, a, lines * s + (lines - 1));
+    let filter = edge_filter(pass.plane, pass.bit_depth, &p, q, &head, &tail);
+    if is_off(filter) {
+        return;
+    }
     let kernel = Kernel {
-        filter: edge_filter(pass.plane, pass.bit_depth, &p, q, &head, &tail),
+        filter,
         greatest: greatest_sample(pass.bit_depth),
         tc: tc(pass.plane, pass.bit_depth, &p, q),
         from: first_laid(p.kept, a, pass.behind.across_first),

@@ -4,7 +4,7 @@ use Rattle.deblock.specs.Windows.{seen}
 use Rattle.deblock.specs.Passes.{placed}
 use Rattle.deblock.proofs.Depths.{depth_few}
 use Rattle.deblock.proofs.Flat.{inside_of}
-use Rattle.deblock.proofs.Lines.{high_end, low_first, place_laid}
+use Rattle.deblock.proofs.Lines.{high_end, low_first, off_laid, place_laid}
 use Rattle.deblock.proofs.Edges.{reaches, reads_inside, end_whole}
 use Rattle.deblock.proofs.edge.filter_place.Goals as goal
 
@@ -24,13 +24,13 @@ read_line-tail-requires-clause-inside g c = λ k few.
     c.requires.edge c.requires.within few
     (omega (arith, lines)) (omega (arith, lines, c.side-lines.ensures.value, c.side-lines.ensures.least))
 
-pub edge_filter-requires-clause-first : goal.edge_filter-requires-clause-first
-edge_filter-requires-clause-first g c =
+pub edge_filter-filter-requires-clause-first : goal.edge_filter-filter-requires-clause-first
+edge_filter-filter-requires-clause-first g c =
     let few = depth_few c.args.pass.now.bit_depth c.requires.pass.depth in
     c.read_line-head.ensures.small 16383 (λ k. omega (arith, few, c.requires.bounded k))
 
-pub edge_filter-requires-clause-last : goal.edge_filter-requires-clause-last
-edge_filter-requires-clause-last g c =
+pub edge_filter-filter-requires-clause-last : goal.edge_filter-filter-requires-clause-last
+edge_filter-filter-requires-clause-last g c =
     let few = depth_few c.args.pass.now.bit_depth c.requires.pass.depth in
     c.read_line-tail.ensures.small 16383 (λ k. omega (arith, few, c.requires.bounded k))
 
@@ -54,16 +54,31 @@ returns-clause-value g c = λ i j h.
     place_laid c.args.pass.now.plane c.args.pass.now.bit_depth
     (placed c.args.pass.now.behind.turned (g.V.Places.place_at c.args.view.now))
     (seen c.args.pass.now.before c.args.samples.now)
-    c.args.e c.args.s i j c.place-p.result c.args.q.now c.edge_filter.result c.greatest_sample.result c.tc.result
+    c.args.e c.args.s i j c.place-p.result c.args.q.now c.edge_filter-filter.result c.greatest_sample.result c.tc.result
     c.first_laid.result c.end_laid.result
     c.args.pass.now.behind.across_first c.args.pass.now.behind.across_end _ _
     c.requires.edge at.across_first at.across_end c.requires.pass.first
     (end_whole c.args.pass.now.side c.args.pass.now.behind.across_end c.requires.pass.whole c.requires.pass.end)
     (rw c.side-lines.ensures.value at c.place-p.ensures) c.requires.place
     (rw (c.read_line-head.ensures.value, c.read_line-tail.ensures.value, c.side-lines.ensures.value) at
-    c.edge_filter.ensures)
+    c.edge_filter-filter.ensures)
     c.greatest_sample.ensures.value c.tc.ensures.value c.first_laid.ensures.value c.end_laid.ensures.value
     (c.requires.same i j h) (c.filter_lines.ensures.value i j h)
 
 pub returns-clause-bounded : goal.returns-clause-bounded
 returns-clause-bounded g c = rw c.greatest_sample.ensures.value at c.filter_lines.ensures.bounded
+
+pub returns-then-is_off-clause-value : goal.returns-then-is_off-clause-value
+returns-then-is_off-clause-value g c = λ i j h.
+    let at = inside_of c.args.pass.now.behind i j h in
+    off_laid c.args.pass.now.plane c.args.pass.now.bit_depth
+    (placed c.args.pass.now.behind.turned (g.V.Places.place_at c.args.view.now))
+    (seen c.args.pass.now.before c.args.samples.now)
+    c.args.e c.args.s i j c.place-p.result c.args.q.now c.edge_filter-filter.result
+    c.args.pass.now.behind.across_first c.args.pass.now.behind.across_end _
+    c.requires.edge at.across_first at.across_end c.requires.pass.first
+    (end_whole c.args.pass.now.side c.args.pass.now.behind.across_end c.requires.pass.whole c.requires.pass.end)
+    (rw c.side-lines.ensures.value at c.place-p.ensures) c.requires.place
+    (rw (c.read_line-head.ensures.value, c.read_line-tail.ensures.value, c.side-lines.ensures.value) at
+    c.edge_filter-filter.ensures)
+    (c.is_off.ensures c.if-is_off.true) (c.requires.same i j h)
