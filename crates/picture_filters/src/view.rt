@@ -75,6 +75,7 @@ impl<'a> FilterView for PictureView<'a> {
     }
 
     fn kept(&self, row: usize) -> &[bool] {
-        self.places.kept_row(row, self.format.ctb_size / 4)
+        let kept = self.places.kept_row(row, self.format.ctb_size / 4);
+        if kept.contains(&true) { kept } else { &[] }
     }
 }
