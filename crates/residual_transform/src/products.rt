@@ -11,7 +11,12 @@ ghost use Rattle.residual_transform.specs.Sums.{IsEntry, IsMatrix, IsPartialSum,
 use crate::matrix::{Matrix, row};
 
 /// The transform of a column of a block whose rows have as many values as the matrix: a sum for each place along it.
-pub fn column_sums(values: &[i32], matrix: &Matrix<'_>, column: usize) -> [i32; 32]
+pub fn column_sums<const SIZE: usize>(
+    values: &[i32],
+    matrix: &Matrix<'_>,
+    column: usize,
+) -> [i32; 32]
+    requires same { matrix.now.size ≡ SIZE }
     requires matrix { IsMatrix matrix.now.entries.now matrix.now.stride matrix.now.size }
     requires column { column < matrix.now.size }
     requires count { matrix.now.size * matrix.now.size ≤ length values.now }
@@ -22,14 +27,16 @@ pub fn column_sums(values: &[i32], matrix: &Matrix<'_>, column: usize) -> [i32; 
 {
     let mut sums = [0; 32];
     for k in 0..matrix.size {
-        add_row(&mut sums, row(matrix, k), values[matrix.size * k + column]);
+        add_row::<SIZE>(&mut sums, row(matrix, k), values[matrix.size * k + column]);
     }
     sums
 }
 
 /// Adds a row of a matrix, times a coefficient, to sums.
-fn add_row(sums: &mut [i32; 32], row: &[i32], coefficient: i32)
-    requires count { length row.now ≤ 32 }
+#[inline(always)]
+fn add_row<const SIZE: usize>(sums: &mut [i32; 32], row: &[i32], coefficient: i32)
+    requires count { length row.now ≡ SIZE }
+    requires few { SIZE ≤ 32 }
     requires entries { All IsEntry row.now }
     requires coefficient { Is16 coefficient }
     requires sums { (j : ℕ) → j < length row.now → IsPartialSum (at sums.old j) }
@@ -38,7 +45,7 @@ fn add_row(sums: &mut [i32; 32], row: &[i32], coefficient: i32)
     if coefficient == 0 {
         return;
     }
-    for j in 0..row.len() {
+    for j in 0..SIZE {
         sums[j] = with_product(sums[j], row[j], coefficient);
     }
 }

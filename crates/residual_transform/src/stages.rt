@@ -27,11 +27,17 @@ pub fn inverse(d: &[i32], log2: u32, dst: bool, depth: u32, out: &mut [i32])
     ensures small { All IsResidual out.new }
 {
     let matrix = matrix_of(dst, log2);
-    transform(d, &matrix, depth, out);
+    match log2 {
+        2 => transform::<4>(d, &matrix, depth, out),
+        3 => transform::<8>(d, &matrix, depth, out),
+        4 => transform::<16>(d, &matrix, depth, out),
+        _ => transform::<32>(d, &matrix, depth, out),
+    }
 }
 
 /// Both stages. What is between them stands column after column, so that the second reads its rows as columns.
-fn transform(d: &[i32], matrix: &Matrix<'_>, depth: u32, out: &mut [i32])
+fn transform<const SIZE: usize>(d: &[i32], matrix: &Matrix<'_>, depth: u32, out: &mut [i32])
+    requires same { matrix.now.size ≡ SIZE }
     requires depth { IsDepth depth }
     requires matrix { IsMatrix matrix.now.entries.now matrix.now.stride matrix.now.size }
     requires coefficients { All Is16 d.now }
@@ -45,12 +51,13 @@ fn transform(d: &[i32], matrix: &Matrix<'_>, depth: u32, out: &mut [i32])
     ensures small { All IsResidual out.new }
 {
     let mut between = [0; 1024];
-    transform_columns(d, matrix, &mut between);
-    transform_rows(&between, matrix, depth, out);
+    transform_columns::<SIZE>(d, matrix, &mut between);
+    transform_rows::<SIZE>(&between, matrix, depth, out);
 }
 
 /// The first stage; the column `x` stands at `size * x`.
-fn transform_columns(d: &[i32], matrix: &Matrix<'_>, out: &mut [i32; 1024])
+fn transform_columns<const SIZE: usize>(d: &[i32], matrix: &Matrix<'_>, out: &mut [i32; 1024])
+    requires same { matrix.now.size ≡ SIZE }
     requires matrix { IsMatrix matrix.now.entries.now matrix.now.stride matrix.now.size }
     requires coefficients { All Is16 d.now }
     requires count { length d.now ≡ matrix.now.size * matrix.now.size }
@@ -61,13 +68,19 @@ fn transform_columns(d: &[i32], matrix: &Matrix<'_>, out: &mut [i32; 1024])
     ensures small { All Is16 out.new }
 {
     for column in 0..matrix.size {
-        let sums = column_sums(d, matrix, column);
-        store_held(&sums, out, matrix.size * column, matrix.size);
+        let sums = column_sums::<SIZE>(d, matrix, column);
+        store_held(&sums, out, matrix.size * column, SIZE);
     }
 }
 
 /// The second stage over what the first stored.
-fn transform_rows(g: &[i32; 1024], matrix: &Matrix<'_>, depth: u32, out: &mut [i32])
+fn transform_rows<const SIZE: usize>(
+    g: &[i32; 1024],
+    matrix: &Matrix<'_>,
+    depth: u32,
+    out: &mut [i32],
+)
+    requires same { matrix.now.size ≡ SIZE }
     requires depth { IsDepth depth }
     requires matrix { IsMatrix matrix.now.entries.now matrix.now.stride matrix.now.size }
     requires values { All Is16 g.now }
@@ -78,8 +91,8 @@ fn transform_rows(g: &[i32; 1024], matrix: &Matrix<'_>, depth: u32, out: &mut [i
     ensures small { All IsResidual out.new }
 {
     for line in 0..matrix.size {
-        let sums = column_sums(g, matrix, line);
-        store_residuals(&sums, out, matrix.size * line, matrix.size, depth);
+        let sums = column_sums::<SIZE>(g, matrix, line);
+        store_residuals(&sums, out, matrix.size * line, SIZE, depth);
     }
 }
 

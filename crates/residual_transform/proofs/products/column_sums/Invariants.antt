@@ -4,7 +4,7 @@ use Rattle.spec_transforms.specs.Transforms.{sum_below}
 use Rattle.residual_transform.proofs.products.column_sums.Given as goal
 
 abbrev pub invariant-loop-k : goal.invariant-loop-k
-invariant-loop-k l = record {
+invariant-loop-k g l = record {
   told : (j : ℕ) → j < l.matrix.size
       → at l.sums j
       ≡ sum_below l.k

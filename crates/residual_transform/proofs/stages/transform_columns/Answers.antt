@@ -7,7 +7,7 @@ use Rattle.residual_transform.proofs.stages.transform_columns.Goals as goal
 
 pub loop-column-preserved : goal.loop-column-preserved
 unfolding first_stage
-loop-column-preserved c = record {
+loop-column-preserved g c = record {
   told = λ x y h inside. below_more
       (λ x. (y : ℕ) → y < c.args.matrix.now.size
       → block_in c.args.matrix.now.size c.store_held.new.out y x
@@ -18,7 +18,7 @@ loop-column-preserved c = record {
       let earlier : c.args.matrix.now.size * k + y < c.args.matrix.now.size * c.loop-column.column =
       grind (arith, rows) in
       c.store_held.ensures.before _ earlier ∙ c.loop-column.invariant.told k y below inside)
-      (λ y inside. c.store_held.ensures.here y inside
+      (λ y inside. c.store_held.ensures.here y (omega (arith, c.requires.same, inside))
       ∙ ap (λ (z : ℤ). clip16 (rounded 7 z)) (c.column_sums-sums.ensures.value y inside))
       x h y inside;
   small = c.store_held.ensures.small;

@@ -8,7 +8,7 @@ use Rattle.residual_transform.proofs.stages.transform_rows.Goals as goal
 
 pub loop-line-preserved : goal.loop-line-preserved
 unfolding second_stage
-loop-line-preserved c = record {
+loop-line-preserved g c = record {
   told = λ x y inside h. below_more
       (λ y. (x : ℕ) → x < c.args.matrix.now.size
       → block_in c.args.matrix.now.size c.store_residuals.new.out x y
@@ -19,16 +19,18 @@ loop-line-preserved c = record {
       (λ k below x inside.
       let earlier : c.args.matrix.now.size * k + x < c.args.matrix.now.size * c.loop-line.line = grind (arith, rows) in
       c.store_residuals.ensures.before _ earlier ∙ c.loop-line.invariant.told x k inside below)
-      (λ x inside. c.store_residuals.ensures.here x inside
+      (λ x inside. c.store_residuals.ensures.here x (omega (arith, c.requires.same, inside))
       ∙ ap (λ (z : ℤ). residual_of c.args.depth z) (c.column_sums-sums.ensures.value x inside))
       y h x inside;
   small =
       one_more_line c.args.matrix.now.size c.loop-line.line c.store_residuals.new.out c.loop-line.out
-      c.store_residuals.ensures.before c.store_residuals.ensures.small c.loop-line.invariant.small;
+      c.store_residuals.ensures.before
+      (λ j h. c.store_residuals.ensures.small j (omega (arith, c.requires.same, h)))
+      c.loop-line.invariant.small;
 }
 
 pub returns-clause-small : goal.returns-clause-small
-returns-clause-small c =
+returns-clause-small g c =
     All-from_get_or IsResidual c.loop-line.out (pos 0) (λ k h. c.loop-line.invariant.small k
     (let s : c.loop-line.line ≡ c.args.matrix.now.size = omega arith in
     rw s (omega (arith, c.requires.room, c.loop-line.auto.out, h))))

@@ -4,7 +4,7 @@ use Rattle.spec_transforms.specs.Transforms.{IsResidual, block_in, residual_of, 
 use Rattle.residual_transform.proofs.stages.transform_rows.Given as goal
 
 abbrev pub invariant-loop-line : goal.invariant-loop-line
-invariant-loop-line l = record {
+invariant-loop-line g l = record {
   told : (x y : ℕ) → x < l.matrix.size → y < l.line
       → block_in l.matrix.size l.out x y
       ≡ residual_of l.depth
