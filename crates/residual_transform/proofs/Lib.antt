@@ -1,2 +1,3 @@
 pub mod Bounds
+pub mod Fewer
 pub mod Tables

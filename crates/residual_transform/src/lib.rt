@@ -1,6 +1,7 @@
 //! Residuals of a transform block from its levels (H.265 8.6.2 to 8.6.4).
 #![tactic(auto)]
 
+mod filled;
 mod matrix;
 mod products;
 mod scaling;

@@ -10,41 +10,40 @@ ghost use Rattle.residual_transform.specs.Sums.{IsEntry, IsMatrix, IsPartialSum,
 
 use crate::matrix::{Matrix, row};
 
-/// The transform of a column of a block whose rows have as many values as the matrix: a sum for each place along it.
+/// The transform of a column of a block that has coefficients in its first `count` rows alone: a sum for each place
+/// along it.
 pub fn column_sums<const SIZE: usize>(
     values: &[i32],
     matrix: &Matrix<'_>,
+    count: usize,
     column: usize,
-) -> [i32; 32]
+) -> [i32; SIZE]
     requires same { matrix.now.size ≡ SIZE }
-    requires matrix { IsMatrix matrix.now.entries.now matrix.now.stride matrix.now.size }
-    requires column { column < matrix.now.size }
-    requires count { matrix.now.size * matrix.now.size ≤ length values.now }
+    requires matrix { IsMatrix matrix.now.entries.now matrix.now.stride SIZE }
+    requires column { column < SIZE }
+    requires count { count ≤ SIZE }
+    requires room { SIZE * SIZE ≤ length values.now }
     requires values { All Is16 values.now }
-    ensures value { (j : ℕ) → j < matrix.now.size → at result j ≡ sum_below matrix.now.size
-        (λ k. matrix_in matrix.now.entries.now matrix.now.stride k j *ℤ at values.now (matrix.now.size * k + column)) }
-    ensures small { (j : ℕ) → j < matrix.now.size → IsSum (at result j) }
+    ensures value { (j : ℕ) → j < SIZE → at result j ≡ sum_below count
+        (λ k. matrix_in matrix.now.entries.now matrix.now.stride k j *ℤ at values.now (SIZE * k + column)) }
+    ensures small { (j : ℕ) → j < SIZE → IsSum (at result j) }
 {
-    let mut sums = [0; 32];
-    for k in 0..matrix.size {
-        add_row::<SIZE>(&mut sums, row(matrix, k), values[matrix.size * k + column]);
+    let mut sums = [0; SIZE];
+    for k in 0..count {
+        add_row::<SIZE>(&mut sums, row(matrix, k), values[SIZE * k + column]);
     }
     sums
 }
 
 /// Adds a row of a matrix, times a coefficient, to sums.
 #[inline(always)]
-fn add_row<const SIZE: usize>(sums: &mut [i32; 32], row: &[i32], coefficient: i32)
+fn add_row<const SIZE: usize>(sums: &mut [i32; SIZE], row: &[i32], coefficient: i32)
     requires count { length row.now ≡ SIZE }
-    requires few { SIZE ≤ 32 }
     requires entries { All IsEntry row.now }
     requires coefficient { Is16 coefficient }
-    requires sums { (j : ℕ) → j < length row.now → IsPartialSum (at sums.old j) }
-    ensures value { (j : ℕ) → j < length row.now → at sums.new j ≡ at sums.old j +ℤ at row.now j *ℤ coefficient }
+    requires sums { (j : ℕ) → j < SIZE → IsPartialSum (at sums.old j) }
+    ensures value { (j : ℕ) → j < SIZE → at sums.new j ≡ at sums.old j +ℤ at row.now j *ℤ coefficient }
 {
-    if coefficient == 0 {
-        return;
-    }
     for j in 0..SIZE {
         sums[j] = with_product(sums[j], row[j], coefficient);
     }

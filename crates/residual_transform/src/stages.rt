@@ -1,13 +1,14 @@
 //! The transformation process for scaled transform coefficients (8.6.4), and its rounding (8.6.2).
 
-ghost use Rattle.std.specs.Prelude.{◌≡◌, ℕ, ◌+◌, ◌*◌, ◌^◌, ◌<◌, ◌≤◌, Bool, true, length};
+ghost use Rattle.std.specs.Prelude.{◌≡◌, ℕ, ◌+◌, ◌*◌, ◌^◌, ◌<◌, ◌≤◌, ◌*ℤ◌, Bool, true, length};
 ghost use Rattle.std.specs.List.{All};
 ghost use Rattle.spec_transforms.specs.Matrices.{at, matrix_in};
 ghost use Rattle.spec_transforms.specs.Scaling.{Is16, IsDepth, IsSize, clip16, rounded};
 ghost use Rattle.spec_transforms.specs.Transforms.{IsResidual, block_in, first_stage, residual_of, second_stage};
-ghost use Rattle.spec_transforms.specs.Transforms.{transformed};
+ghost use Rattle.spec_transforms.specs.Transforms.{sum_below, transformed};
 ghost use Rattle.residual_transform.specs.Sums.{IsMatrix, IsSum};
 
+use crate::filled::{filled_columns, filled_rows};
 use crate::matrix::{Matrix, matrix_of};
 use crate::products::{column_sums, held, residual_of};
 
@@ -28,100 +29,129 @@ pub fn inverse(d: &[i32], log2: u32, dst: bool, depth: u32, out: &mut [i32])
 {
     let matrix = matrix_of(dst, log2);
     match log2 {
-        2 => transform::<4>(d, &matrix, depth, out),
-        3 => transform::<8>(d, &matrix, depth, out),
-        4 => transform::<16>(d, &matrix, depth, out),
-        _ => transform::<32>(d, &matrix, depth, out),
+        2 => transform::<4, 16>(d, &matrix, depth, out),
+        3 => transform::<8, 64>(d, &matrix, depth, out),
+        4 => transform::<16, 256>(d, &matrix, depth, out),
+        _ => transform::<32, 1024>(d, &matrix, depth, out),
     }
 }
 
-/// Both stages. What is between them stands column after column, so that the second reads its rows as columns.
-fn transform<const SIZE: usize>(d: &[i32], matrix: &Matrix<'_>, depth: u32, out: &mut [i32])
-    requires same { matrix.now.size ≡ SIZE }
-    requires depth { IsDepth depth }
-    requires matrix { IsMatrix matrix.now.entries.now matrix.now.stride matrix.now.size }
-    requires coefficients { All Is16 d.now }
-    requires count { length d.now ≡ matrix.now.size * matrix.now.size }
-    requires room { length out.old ≡ length d.now }
-    ensures value { (x y : ℕ) → x < matrix.now.size → y < matrix.now.size → block_in matrix.now.size out.new x y
-        ≡ residual_of depth (second_stage (matrix_in matrix.now.entries.now matrix.now.stride) matrix.now.size
-        (first_stage (matrix_in matrix.now.entries.now matrix.now.stride) matrix.now.size
-        (block_in matrix.now.size d.now))
-        x y) }
-    ensures small { All IsResidual out.new }
-{
-    let mut between = [0; 1024];
-    transform_columns::<SIZE>(d, matrix, &mut between);
-    transform_rows::<SIZE>(&between, matrix, depth, out);
-}
-
-/// The first stage; the column `x` stands at `size * x`.
-fn transform_columns<const SIZE: usize>(d: &[i32], matrix: &Matrix<'_>, out: &mut [i32; 1024])
-    requires same { matrix.now.size ≡ SIZE }
-    requires matrix { IsMatrix matrix.now.entries.now matrix.now.stride matrix.now.size }
-    requires coefficients { All Is16 d.now }
-    requires count { length d.now ≡ matrix.now.size * matrix.now.size }
-    requires out { All Is16 out.old }
-    ensures value { (x y : ℕ) → x < matrix.now.size → y < matrix.now.size → block_in matrix.now.size out.new y x
-        ≡ first_stage (matrix_in matrix.now.entries.now matrix.now.stride) matrix.now.size
-        (block_in matrix.now.size d.now) x y }
-    ensures small { All Is16 out.new }
-{
-    for column in 0..matrix.size {
-        let sums = column_sums::<SIZE>(d, matrix, column);
-        store_held(&sums, out, matrix.size * column, SIZE);
-    }
-}
-
-/// The second stage over what the first stored.
-fn transform_rows<const SIZE: usize>(
-    g: &[i32; 1024],
+/// Both stages, over the rows and columns that have coefficients. What is between them stands column after column, so
+/// that the second reads its rows as columns.
+fn transform<const SIZE: usize, const AREA: usize>(
+    d: &[i32],
     matrix: &Matrix<'_>,
     depth: u32,
     out: &mut [i32],
 )
     requires same { matrix.now.size ≡ SIZE }
+    requires area { SIZE * SIZE ≡ AREA }
     requires depth { IsDepth depth }
-    requires matrix { IsMatrix matrix.now.entries.now matrix.now.stride matrix.now.size }
-    requires values { All Is16 g.now }
-    requires room { length out.old ≡ matrix.now.size * matrix.now.size }
-    ensures value { (x y : ℕ) → x < matrix.now.size → y < matrix.now.size → block_in matrix.now.size out.new x y
-        ≡ residual_of depth (second_stage (matrix_in matrix.now.entries.now matrix.now.stride) matrix.now.size
-        (λ i j. block_in matrix.now.size g.now j i) x y) }
+    requires matrix { IsMatrix matrix.now.entries.now matrix.now.stride SIZE }
+    requires coefficients { All Is16 d.now }
+    requires count { length d.now ≡ SIZE * SIZE }
+    requires room { length out.old ≡ length d.now }
+    ensures value { (x y : ℕ) → x < SIZE → y < SIZE → block_in SIZE out.new x y
+        ≡ residual_of depth (second_stage (matrix_in matrix.now.entries.now matrix.now.stride) SIZE
+        (first_stage (matrix_in matrix.now.entries.now matrix.now.stride) SIZE (block_in SIZE d.now)) x y) }
     ensures small { All IsResidual out.new }
 {
-    for line in 0..matrix.size {
-        let sums = column_sums::<SIZE>(g, matrix, line);
-        store_residuals(&sums, out, matrix.size * line, SIZE, depth);
+    let rows = filled_rows::<SIZE>(d);
+    let columns = filled_columns::<SIZE>(d, rows);
+    let mut between = [0; AREA];
+    transform_columns::<SIZE, AREA>(d, matrix, Filled { rows, columns }, &mut between);
+    transform_rows::<SIZE, AREA>(&between, matrix, columns, depth, out);
+}
+
+/// How many rows and columns have coefficients.
+#[derive(Clone, Copy)]
+struct Filled {
+    rows: usize,
+    columns: usize,
+}
+
+/// The first stage; the column `x` stands at `size * x`.
+fn transform_columns<const SIZE: usize, const AREA: usize>(
+    d: &[i32],
+    matrix: &Matrix<'_>,
+    filled: Filled,
+    out: &mut [i32; AREA],
+)
+    requires same { matrix.now.size ≡ SIZE }
+    requires area { SIZE * SIZE ≡ AREA }
+    requires matrix { IsMatrix matrix.now.entries.now matrix.now.stride SIZE }
+    requires coefficients { All Is16 d.now }
+    requires count { length d.now ≡ SIZE * SIZE }
+    requires rows { filled.rows ≤ SIZE }
+    requires columns { filled.columns ≤ SIZE }
+    requires out { All Is16 out.old }
+    ensures value { (x y : ℕ) → x < filled.columns → y < SIZE → block_in SIZE out.new y x
+        ≡ clip16 (rounded 7 (sum_below filled.rows
+        (λ k. matrix_in matrix.now.entries.now matrix.now.stride k y *ℤ at d.now (SIZE * k + x)))) }
+    ensures small { All Is16 out.new }
+{
+    for column in 0..filled.columns {
+        let sums = column_sums::<SIZE>(d, matrix, filled.rows, column);
+        store_held::<SIZE, AREA>(&sums, out, SIZE * column);
+    }
+}
+
+/// The second stage over the columns that the first stored.
+fn transform_rows<const SIZE: usize, const AREA: usize>(
+    g: &[i32; AREA],
+    matrix: &Matrix<'_>,
+    columns: usize,
+    depth: u32,
+    out: &mut [i32],
+)
+    requires same { matrix.now.size ≡ SIZE }
+    requires area { SIZE * SIZE ≡ AREA }
+    requires depth { IsDepth depth }
+    requires matrix { IsMatrix matrix.now.entries.now matrix.now.stride SIZE }
+    requires values { All Is16 g.now }
+    requires columns { columns ≤ SIZE }
+    requires room { length out.old ≡ SIZE * SIZE }
+    ensures value { (x y : ℕ) → x < SIZE → y < SIZE → block_in SIZE out.new x y
+        ≡ residual_of depth (sum_below columns
+        (λ k. matrix_in matrix.now.entries.now matrix.now.stride k x *ℤ block_in SIZE g.now y k)) }
+    ensures small { All IsResidual out.new }
+{
+    for line in 0..SIZE {
+        let sums = column_sums::<SIZE>(g, matrix, columns, line);
+        store_residuals::<SIZE>(&sums, out, SIZE * line, depth);
     }
 }
 
 /// Stores what the first stage makes of sums, from `start` on.
-fn store_held(sums: &[i32; 32], out: &mut [i32; 1024], start: usize, size: usize)
-    requires size { size ≤ 32 }
-    requires sums { (j : ℕ) → j < size → IsSum (at sums.now j) }
-    requires room { start + size ≤ 1024 }
+#[inline(always)]
+fn store_held<const SIZE: usize, const AREA: usize>(
+    sums: &[i32; SIZE],
+    out: &mut [i32; AREA],
+    start: usize,
+)
+    requires sums { (j : ℕ) → j < SIZE → IsSum (at sums.now j) }
+    requires room { start + SIZE ≤ AREA }
     requires out { All Is16 out.old }
-    ensures here { (j : ℕ) → j < size → at out.new (start + j) ≡ clip16 (rounded 7 (at sums.now j)) }
+    ensures here { (j : ℕ) → j < SIZE → at out.new (start + j) ≡ clip16 (rounded 7 (at sums.now j)) }
     ensures before { (i : ℕ) → i < start → at out.new i ≡ at out.old i }
     ensures small { All Is16 out.new }
 {
-    for j in 0..size {
+    for j in 0..SIZE {
         out[start + j] = held(sums[j]);
     }
 }
 
 /// Stores the residuals of sums, from `start` on.
-fn store_residuals(sums: &[i32; 32], out: &mut [i32], start: usize, size: usize, depth: u32)
-    requires size { size ≤ 32 }
+#[inline(always)]
+fn store_residuals<const SIZE: usize>(sums: &[i32; SIZE], out: &mut [i32], start: usize, depth: u32)
     requires depth { IsDepth depth }
-    requires sums { (j : ℕ) → j < size → IsSum (at sums.now j) }
-    requires room { start + size ≤ length out.old }
-    ensures here { (j : ℕ) → j < size → at out.new (start + j) ≡ residual_of depth (at sums.now j) }
+    requires sums { (j : ℕ) → j < SIZE → IsSum (at sums.now j) }
+    requires room { start + SIZE ≤ length out.old }
+    ensures here { (j : ℕ) → j < SIZE → at out.new (start + j) ≡ residual_of depth (at sums.now j) }
     ensures before { (i : ℕ) → i < start → at out.new i ≡ at out.old i }
-    ensures small { (j : ℕ) → j < size → IsResidual (at out.new (start + j)) }
+    ensures small { (j : ℕ) → j < SIZE → IsResidual (at out.new (start + j)) }
 {
-    for j in 0..size {
+    for j in 0..SIZE {
         out[start + j] = residual_of(sums[j], depth);
     }
 }

@@ -12,7 +12,7 @@ loop-j-preserved b c =
     let g : SFits w32 (at c.loop-j.sums c.loop-j.j) = search rules in
     let h : SFits w32 (at c.args.row.now c.loop-j.j) = search rules in
     let lt : c.loop-j.j < length c.loop-j.sums =
-    omega (arith, c.loop-j.invariant.long, c.requires.few, c.loop-j-test.true) in
+    omega (arith, c.loop-j.invariant.long, c.loop-j-test.true) in
     let added = rw (to_z-of_z w32 _ g, to_z-of_z w32 _ h) at c.with_product.ensures in
     let was = c.loop-j.invariant.rest c.loop-j.j (omega arith) in
     record {

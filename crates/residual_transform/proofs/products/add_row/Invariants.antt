@@ -6,5 +6,5 @@ abbrev pub invariant-loop-j : goal.invariant-loop-j
 invariant-loop-j g l = record {
   done : (i : ℕ) → i < l.j → at l.sums i ≡ at l.fn.sums i +ℤ at l.row i *ℤ l.coefficient;
   rest : (i : ℕ) → l.j ≤ i → at l.sums i ≡ at l.fn.sums i;
-  long : length l.sums ≡ 32;
+  long : length l.sums ≡ g.row.SIZE;
 }

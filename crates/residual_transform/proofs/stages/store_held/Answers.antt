@@ -9,7 +9,7 @@ use Rattle.spec_transforms.specs.Scaling.{Is16}
 use Rattle.residual_transform.proofs.stages.store_held.Goals as goal
 
 pub loop-j-preserved : goal.loop-j-preserved
-loop-j-preserved c =
+loop-j-preserved b c =
     let f : SFits w32 c.held.result = search rules in
     let lt : c.args.start + c.loop-j.j < length c.loop-j.out =
     omega (arith, c.loop-j.invariant.long, c.loop-j-test.true, c.requires.room) in

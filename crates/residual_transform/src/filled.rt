@@ -1,0 +1,64 @@
+//! How far from its first row and its first column a block has coefficients.
+
+ghost use Rattle.std.specs.Prelude.{◌≡◌, ℕ, ◌+◌, ◌*◌, ◌<◌, ◌≤◌, true, pos, length};
+ghost use Rattle.spec_transforms.specs.Matrices.{at};
+
+/// How many rows there are up to the last one with a coefficient.
+pub fn filled_rows<const SIZE: usize>(d: &[i32]) -> usize
+    requires room { length d.now ≡ SIZE * SIZE }
+    ensures count { result ≤ SIZE }
+    ensures value { (i : ℕ) → SIZE * result ≤ i → at d.now i ≡ pos 0 }
+{
+    for k in 0..SIZE {
+        let row = SIZE - 1 - k;
+        if !is_zero_row::<SIZE>(d, SIZE * row) {
+            return row + 1;
+        }
+    }
+    0
+}
+
+/// Whether a row has no coefficient.
+#[inline(always)]
+fn is_zero_row<const SIZE: usize>(d: &[i32], start: usize) -> bool
+    requires room { start + SIZE ≤ length d.now }
+    ensures { result ≡ true → (k : ℕ) → k < SIZE → at d.now (start + k) ≡ pos 0 }
+{
+    let mut zero = true;
+    for k in 0..SIZE {
+        zero &= d[start + k] == 0;
+    }
+    zero
+}
+
+/// How many columns there are up to the last one with a coefficient in the first `rows` rows.
+pub fn filled_columns<const SIZE: usize>(d: &[i32], rows: usize) -> usize
+    requires room { length d.now ≡ SIZE * SIZE }
+    requires rows { rows ≤ SIZE }
+    ensures count { result ≤ SIZE }
+    ensures value { (x y : ℕ) → result ≤ x → x < SIZE → y < rows → at d.now (SIZE * y + x) ≡ pos 0 }
+{
+    for k in 0..SIZE {
+        let column = SIZE - 1 - k;
+        if !is_zero_column::<SIZE>(d, rows, column) {
+            return column + 1;
+        }
+    }
+    0
+}
+
+/// Whether a column has no coefficient in the first `rows` rows.
+#[inline(always)]
+fn is_zero_column<const SIZE: usize>(d: &[i32], rows: usize, column: usize) -> bool
+    requires room { length d.now ≡ SIZE * SIZE }
+    requires rows { rows ≤ SIZE }
+    requires column { column < SIZE }
+    ensures { result ≡ true → (y : ℕ) → y < rows → at d.now (SIZE * y + column) ≡ pos 0 }
+{
+    for y in 0..rows {
+        if d[SIZE * y + column] != 0 {
+            return false;
+        }
+    }
+    true
+}
