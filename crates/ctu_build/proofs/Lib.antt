@@ -11,3 +11,5 @@ pub mod Indices
 pub mod Offered
 pub mod Rectangles
 pub mod Parts
+pub mod Edges
+pub mod Writing

@@ -10,6 +10,7 @@ ghost use Rattle.spec_reconstruction.specs.Parameters.{depth_of};
 ghost use Rattle.spec_reconstruction.specs.Prediction.{is_inter, offered, place_of_sample};
 ghost use Rattle.spec_reconstruction.specs.Sound.{IsFormat};
 
+use crate::edge::write_edge;
 use crate::parameters::depth_of;
 use crate::place::Place;
 use crate::unit_samples::UnitSamples;
@@ -85,6 +86,6 @@ pub(crate) fn gather(intra: &IntraUnit<'_>, place: Place, samples: &UnitSamples,
         };
         neighbours(&offered, place.c, place.x, place.y, place.log2, depth, edge);
     } else {
-        neighbours(samples, place.c, place.x, place.y, place.log2, depth, edge);
+        write_edge(samples, place, depth, edge);
     }
 }

@@ -4,6 +4,7 @@
 
 mod blocks;
 mod coding;
+mod edge;
 mod intra_border;
 mod items;
 mod levels;

@@ -29,9 +29,7 @@ pub(crate) fn copy(cells: &mut [u16], first: usize, samples: &[u16])
         ≡ cond (nat_le first q && nat_lt q (first + length samples.now)) (slice_index_or samples.now (q - first) 0)
         (slice_index_or cells.old q 0) }
 {
-    for k in 0..samples.len() {
-        cells[first + k] = samples[k];
-    }
+    cells[first..first + samples.len()].copy_from_slice(samples);
 }
 
 /// The cell of the first sample of a line of a square.
@@ -56,9 +54,28 @@ pub(crate) fn lay_lines(values: &mut [u16], place: Place, block: &[u16])
         (slice_index_or block.now (2 ^ place.log2 * (j - (place.y + 1)) + (i - (place.x + 1))) 0)
         (slice_index_or values.old (cell c i j) 0) }
 {
-    let n = place.side();
-    for line in 0..n {
-        lay_line(values, first_of(place, line), block, n * line, n);
+    match place.log2 {
+        2 => lay_square::<4>(values, place, block),
+        3 => lay_square::<8>(values, place, block),
+        4 => lay_square::<16>(values, place, block),
+        _ => lay_square::<32>(values, place, block),
+    }
+}
+
+/// Samples over a square of `N` on a side.
+fn lay_square<const N: usize>(values: &mut [u16], place: Place, block: &[u16])
+    requires place { IsInside place }
+    requires side { N ≡ 2 ^ place.log2 }
+    requires room { length values.old ≡ 25155 }
+    requires block { 2 ^ place.log2 * 2 ^ place.log2 ≤ length block.now }
+    ensures { (c i j : ℕ) → c < 3 → i < 129 → j < 65
+        → slice_index_or values.new (cell c i j) 0
+        ≡ cond (inside_of place (2 ^ place.log2) c i j)
+        (slice_index_or block.now (2 ^ place.log2 * (j - (place.y + 1)) + (i - (place.x + 1))) 0)
+        (slice_index_or values.old (cell c i j) 0) }
+{
+    for line in 0..N {
+        lay_line::<N>(values, first_of(place, line), block, N * line);
     }
 }
 
@@ -70,9 +87,36 @@ pub(crate) fn mark_lines(known: &mut [bool], place: Place)
         → slice_index_or known.new (cell c i j) false
         ≡ cond (inside_of place (2 ^ place.log2) c i j) true (slice_index_or known.old (cell c i j) false) }
 {
-    let n = place.side();
-    for line in 0..n {
-        fill(known, first_of(place, line), n, true);
+    match place.log2 {
+        2 => mark_square::<4>(known, place),
+        3 => mark_square::<8>(known, place),
+        4 => mark_square::<16>(known, place),
+        _ => mark_square::<32>(known, place),
+    }
+}
+
+/// The samples of a square of `N` on a side are known.
+fn mark_square<const N: usize>(known: &mut [bool], place: Place)
+    requires place { IsInside place }
+    requires side { N ≡ 2 ^ place.log2 }
+    requires room { length known.old ≡ 25155 }
+    ensures { (c i j : ℕ) → c < 3 → i < 129 → j < 65
+        → slice_index_or known.new (cell c i j) false
+        ≡ cond (inside_of place (2 ^ place.log2) c i j) true (slice_index_or known.old (cell c i j) false) }
+{
+    for line in 0..N {
+        mark_line::<N>(known, first_of(place, line));
+    }
+}
+
+/// `N` samples from a cell on are known.
+pub(crate) fn mark_line<const N: usize>(known: &mut [bool], first: usize)
+    requires { first + N ≤ length known.old }
+    ensures { (q : ℕ) → slice_index_or known.new q false
+        ≡ cond (nat_le first q && nat_lt q (first + N)) true (slice_index_or known.old q false) }
+{
+    for k in 0..N {
+        known[first + k] = true;
     }
 }
 
@@ -98,52 +142,84 @@ pub(crate) fn add_lines(
         (slice_index_or values.old (cell c i j) 0))
         (slice_index_or values.old (cell c i j) 0) }
 {
-    let n = place.side();
-    for line in 0..n {
+    match place.log2 {
+        2 => add_square::<4>(values, known, place, residuals, depth),
+        3 => add_square::<8>(values, known, place, residuals, depth),
+        4 => add_square::<16>(values, known, place, residuals, depth),
+        _ => add_square::<32>(values, known, place, residuals, depth),
+    }
+}
+
+/// Residuals added to the samples of a square of `N` on a side that are known.
+fn add_square<const N: usize>(
+    values: &mut [u16],
+    known: &[bool],
+    place: Place,
+    residuals: &[i32],
+    depth: u32,
+)
+    requires place { IsInside place }
+    requires side { N ≡ 2 ^ place.log2 }
+    requires room { length values.old ≡ 25155 }
+    requires known { length known.now ≡ 25155 }
+    requires block { 2 ^ place.log2 * 2 ^ place.log2 ≤ length residuals.now }
+    requires depth { IsDepth depth }
+    requires residuals { All IsResidual residuals.now }
+    ensures { (c i j : ℕ) → c < 3 → i < 129 → j < 65
+        → slice_index_or values.new (cell c i j) 0
+        ≡ cond (inside_of place (2 ^ place.log2) c i j)
+        (added depth (slice_index_or known.now (cell c i j) false)
+        (at residuals.now (2 ^ place.log2 * (j - (place.y + 1)) + (i - (place.x + 1))))
+        (slice_index_or values.old (cell c i j) 0))
+        (slice_index_or values.old (cell c i j) 0) }
+{
+    for line in 0..N {
         let line = Line {
             first: first_of(place, line),
-            from: n * line,
-            n,
+            from: N * line,
         };
-        add_line(values, known, line, residuals, depth);
+        add_line::<N>(values, known, line, residuals, depth);
     }
 }
 
-/// Samples over a line from a place on.
-fn lay_line(values: &mut [u16], first: usize, block: &[u16], from: usize, n: usize)
-    requires room { first + n ≤ length values.old }
-    requires enough { from + n ≤ length block.now }
+/// `N` samples of a block over the cells from one on.
+fn lay_line<const N: usize>(values: &mut [u16], first: usize, block: &[u16], from: usize)
+    requires room { first + N ≤ length values.old }
+    requires enough { from + N ≤ length block.now }
     ensures { (q : ℕ) → slice_index_or values.new q 0
-        ≡ cond (nat_le first q && nat_lt q (first + n)) (slice_index_or block.now (from + (q - first)) 0)
+        ≡ cond (nat_le first q && nat_lt q (first + N)) (slice_index_or block.now (from + (q - first)) 0)
         (slice_index_or values.old q 0) }
 {
-    for k in 0..n {
-        values[first + k] = block[from + k];
-    }
+    values[first..first + N].copy_from_slice(&block[from..from + N]);
 }
 
-/// A line of a block: the cell of its first sample, the number of that sample in the block, and how many it has.
+/// A line of a block: the cell of its first sample, and the number of that sample in the block.
 #[derive(Clone, Copy)]
 struct Line {
     first: usize,
     from: usize,
-    n: usize,
 }
 
-/// Residuals added to the samples of a line that are known.
-fn add_line(values: &mut [u16], known: &[bool], line: Line, residuals: &[i32], depth: u32)
-    requires room { line.first + line.n ≤ length values.old }
-    requires known { line.first + line.n ≤ length known.now }
-    requires enough { line.from + line.n ≤ length residuals.now }
+/// Residuals added to the samples of a line of `N` that are known.
+fn add_line<const N: usize>(
+    values: &mut [u16],
+    known: &[bool],
+    line: Line,
+    residuals: &[i32],
+    depth: u32,
+)
+    requires room { line.first + N ≤ length values.old }
+    requires known { line.first + N ≤ length known.now }
+    requires enough { line.from + N ≤ length residuals.now }
     requires depth { IsDepth depth }
     requires residuals { All IsResidual residuals.now }
     ensures { (q : ℕ) → slice_index_or values.new q 0
-        ≡ cond (nat_le line.first q && nat_lt q (line.first + line.n))
+        ≡ cond (nat_le line.first q && nat_lt q (line.first + N))
         (added depth (slice_index_or known.now q false) (at residuals.now (line.from + (q - line.first)))
         (slice_index_or values.old q 0))
         (slice_index_or values.old q 0) }
 {
-    for k in 0..line.n {
+    for k in 0..N {
         let place = line.first + k;
         values[place] = added(values[place], known[place], residuals[line.from + k], depth);
     }

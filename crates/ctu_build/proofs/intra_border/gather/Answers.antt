@@ -9,4 +9,4 @@ returns-then-intra c =
 pub returns-else-intra : goal.returns-else-intra
 returns-else-intra c =
     all_gathered c.args.intra.now.format.now _ _ c.args.place _ _ c.if-intra.false c.depth_of-depth.ensures.value
-    c.neighbours-else-intra.ensures
+    c.write_edge.ensures

@@ -1,10 +1,10 @@
 use Rattle.std.proofs.Common.{◌≡◌, ℕ, ◌+◌, ◌^◌, ◌<◌, ◌==◌, cond, true, false, nat_le, nat_lt, ◌&&◌, slice_index_or}
 use Rattle.std.proofs.Common.{length}
 use Rattle.ctu_build.specs.Held.{cell}
-use Rattle.ctu_build.proofs.lines.mark_lines.Given as goal
+use Rattle.ctu_build.proofs.lines.mark_square.Given as goal
 
 abbrev pub invariant-loop-line : goal.invariant-loop-line
-invariant-loop-line l = record {
+invariant-loop-line g l = record {
   count : length l.known ≡ 25155;
   told : (c i j : ℕ) → c < 3 → i < 129 → j < 65
       → slice_index_or l.known (cell c i j) false
