@@ -1,6 +1,6 @@
 //! The motion of a coding tree unit in that of its picture.
 
-ghost use Rattle.std.specs.Prelude.{◌≡◌, ℕ, ◌+◌, ◌-◌, ◌*◌, ◌<◌, ◌≤◌, ◌==◌, ◌&&◌, nat_le, nat_lt, if◌then◌else◌};
+ghost use Rattle.std.specs.Prelude.{◌≡◌, ℕ, ◌+◌, ◌-◌, ◌*◌, ◌<◌, ◌≤◌, ◌==◌, ◌&&◌, nat_le, nat_lt, true, if◌then◌else◌};
 ghost use Rattle.ctu_motion.specs.Held.{held};
 ghost use Rattle.picture_buffer.specs.Motion.{HasPlaces, motions_of};
 ghost use Rattle.picture_motion.specs.Units.{IsBlock, IsSmall};
@@ -10,8 +10,8 @@ use crate::pointing::pointing_motion;
 use crate::unit::Unit;
 use ctu_motion::UnitMotion;
 use motion_candidates::MotionView;
-use picture_buffer::MotionField;
-use spec_motion::SliceMotion;
+use picture_buffer::{MotionField, PlaceMotion};
+use spec_motion::{Motion, SliceMotion, Vector};
 
 /// The motion of a unit over that of the picture.
 pub fn lay_unit(unit: &Unit, slice: &SliceMotion, motion: &UnitMotion, field: &mut MotionField)
@@ -73,8 +73,61 @@ fn lay_row(
         else motions_of field.old i j) }
     ensures sides { (across down : ℕ) → HasPlaces field.old across down → HasPlaces field.new across down }
 {
+    let mut last = None;
+    let mut place = None;
     for column in 0..block.columns {
-        let place = pointing_motion(slice, motion.motion(column + 1, row + 1));
+        let here = motion.motion(column + 1, row + 1);
+        place = pointing_behind(slice, last, place, here);
+        last = here;
         field.put(block.x + column, block.y + row, place);
+    }
+}
+
+/// The motion of a place with the pictures that it points to, by that of the place before.
+#[inline(always)]
+fn pointing_behind(
+    slice: &SliceMotion,
+    last: Option<Motion>,
+    place: Option<PlaceMotion>,
+    here: Option<Motion>,
+) -> Option<PlaceMotion>
+    requires { place ≡ pointing_motion slice.now last }
+    ensures { result ≡ pointing_motion slice.now here }
+{
+    if is_same(here, last) {
+        place
+    } else {
+        pointing_motion(slice, here)
+    }
+}
+
+/// Whether two motions are the same.
+#[inline(always)]
+fn is_same(motion: Option<Motion>, other: Option<Motion>) -> bool
+    ensures { result ≡ true → motion ≡ other }
+{
+    match (motion, other) {
+        (Some(motion), Some(other)) => {
+            is_same_vector(motion.list_0, other.list_0)
+                && is_same_vector(motion.list_1, other.list_1)
+        }
+        (None, None) => true,
+        (None, Some(_)) | (Some(_), None) => false,
+    }
+}
+
+/// Whether two vectors are the same.
+#[inline(always)]
+fn is_same_vector(vector: Option<Vector>, other: Option<Vector>) -> bool
+    ensures { result ≡ true → vector ≡ other }
+{
+    match (vector, other) {
+        (Some(vector), Some(other)) => {
+            vector.mv.x == other.mv.x
+                && vector.mv.y == other.mv.y
+                && vector.ref_idx == other.ref_idx
+        }
+        (None, None) => true,
+        (None, Some(_)) | (Some(_), None) => false,
     }
 }

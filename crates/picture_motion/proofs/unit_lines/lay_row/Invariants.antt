@@ -11,4 +11,5 @@ invariant-loop-column l = record {
       → motions_of l.field i j
       ≡ cond (j == l.block.y + l.row && (nat_le l.block.x i && nat_lt i (l.block.x + l.column)))
       (pointing_motion l.slice (held l.motion (i - l.block.x + 1) (l.row + 1))) (motions_of l.fn.field i j);
+  same : l.place ≡ pointing_motion l.slice l.last;
 }
