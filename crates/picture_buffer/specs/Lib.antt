@@ -1,3 +1,4 @@
 pub mod Planes
+pub mod Packed
 pub mod Motion
 pub mod Pictures

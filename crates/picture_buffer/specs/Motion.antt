@@ -1,6 +1,7 @@
 -- The motion of a picture by column and row of places, each a block of 4x4 luma samples (8.5.3.2).
 use Rattle.std.specs.Prelude.{◌≡◌, ℕ, ◌+◌, ◌*◌, ◌≤◌, ◌&&◌, nat_lt, List, length, slice_index_or, Option, None}
 use Rattle.std.specs.Prelude.{if◌then◌else◌}
+use Rattle.picture_buffer.specs.declared.packed.PackedMotion.{PackedMotion}
 use Rattle.picture_buffer.specs.declared.place_motion.PlaceMotion.{PlaceMotion}
 
 -- a picture's places, row after row: None where a place is predicted in intra mode
@@ -10,7 +11,7 @@ pub record FieldPlaces : Type 0 where
   pub places : List (Option PlaceMotion)
 
 -- a field of sides up to 2048 has a value at each place
-pub record IsField (across down : ℕ) (places : List (Option PlaceMotion)) : Type 0 where
+pub record IsField (across down : ℕ) (places : List PackedMotion) : Type 0 where
   pub columns : across ≤ 2048
   pub rows : down ≤ 2048
   pub count : length places ≡ across * down

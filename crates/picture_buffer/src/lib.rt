@@ -4,6 +4,7 @@
 
 mod bases;
 mod motion_field;
+mod packed;
 mod picture;
 mod place_motion;
 mod plane;

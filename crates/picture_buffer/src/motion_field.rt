@@ -3,7 +3,9 @@
 ghost use Rattle.std.specs.Prelude.{◌≡◌, ℕ, ◌+◌, ◌-◌, ◌*◌, ◌<◌, ◌≤◌, ◌==◌, ◌&&◌, nat_le, nat_lt, length};
 ghost use Rattle.std.specs.Prelude.{slice_index_or, IfOk, None, if◌then◌else◌};
 ghost use Rattle.picture_buffer.specs.Motion.{HasPlaces, motions_of};
+ghost use Rattle.picture_buffer.specs.Packed.{unpacked};
 
+use crate::packed::{NO_MOTION, PackedMotion};
 use crate::place_motion::PlaceMotion;
 use std::alloc::{AllocError, Global};
 use std::marker::Model;
@@ -13,15 +15,17 @@ use std::marker::Model;
 pub struct MotionField {
     across: u32,
     down: u32,
-    places: Vec<Option<PlaceMotion>>,
+    places: Vec<PackedMotion>,
 }
 
 impl Model for MotionField {
+    ghost use Rattle.std.specs.Prelude.{map};
     ghost use Rattle.picture_buffer.specs.Motion.{FieldPlaces, IsField};
+    ghost use Rattle.picture_buffer.specs.Packed.{unpacked};
 
     ghost Value = { FieldPlaces };
 
-    ghost view = { λ f. record { across = f.across; down = f.down; places = f.places.items } };
+    ghost view = { λ f. record { across = f.across; down = f.down; places = map unpacked f.places.items } };
 
     ghost invariant = { λ f. IsField f.across f.down f.places.items };
 }
@@ -35,7 +39,7 @@ impl MotionField {
         ensures sides { IfOk result (λ f. HasPlaces f across down) }
         ensures places { IfOk result (λ f. (x y : ℕ) → motions_of f x y ≡ None) }
     {
-        let places = vec![in alloc; None; across as usize * down as usize]?;
+        let places = vec![in alloc; NO_MOTION; across as usize * down as usize]?;
         Ok(MotionField {
             across,
             down,
@@ -49,7 +53,7 @@ impl MotionField {
         ensures sides { (across down : ℕ) → HasPlaces self.old across down → HasPlaces self.new across down }
         ensures places { (x y : ℕ) → motions_of self.new x y ≡ None }
     {
-        self.places.fill(None);
+        self.places.fill(NO_MOTION);
     }
 
     /// How many places a row has.
@@ -72,14 +76,13 @@ impl MotionField {
         ensures { result ≡ motions_of self.now x y }
     {
         if x < self.across as usize && y < self.down as usize {
-            self.places[self.across as usize * y + x]
+            self.places[self.across as usize * y + x].motion()
         } else {
             None
         }
     }
 
     /// The motion of a place.
-    #[tactic(auto, unfolding(crate::specs::Motion::motions_of))]
     pub fn put(&mut self, x: usize, y: usize, motion: Option<PlaceMotion>)
         requires column { x < self.old.across }
         requires row { y < self.old.down }
@@ -87,7 +90,34 @@ impl MotionField {
         ensures places { (i j : ℕ)
             → motions_of self.new i j ≡ (if i == x && j == y then motion else motions_of self.old i j) }
     {
+        self.put_packed(x, y, PackedMotion::new(motion));
+    }
+
+    /// One motion over so many places of a row.
+    pub fn put_run(&mut self, x: usize, y: usize, count: usize, motion: Option<PlaceMotion>)
+        requires columns { x + count ≤ self.old.across }
+        requires row { y < self.old.down }
+        ensures sides { (across down : ℕ) → HasPlaces self.old across down → HasPlaces self.new across down }
+        ensures places { (i j : ℕ) → motions_of self.new i j
+            ≡ (if j == y && (nat_le x i && nat_lt i (x + count)) then motion else motions_of self.old i j) }
+    {
+        let _ = &self.across;
+        let packed = PackedMotion::new(motion);
+        for k in 0..count {
+            self.put_packed(x + k, y, packed);
+        }
+    }
+
+    /// The motion of a place, packed.
+    #[tactic(auto, unfolding(crate::specs::Motion::motions_of))]
+    fn put_packed(&mut self, x: usize, y: usize, packed: PackedMotion)
+        requires column { x < self.old.across }
+        requires row { y < self.old.down }
+        ensures sides { (across down : ℕ) → HasPlaces self.old across down → HasPlaces self.new across down }
+        ensures places { (i j : ℕ)
+            → motions_of self.new i j ≡ (if i == x && j == y then unpacked packed else motions_of self.old i j) }
+    {
         let place = self.across as usize * y + x;
-        self.places[place] = motion;
+        self.places[place] = packed;
     }
 }
