@@ -57,13 +57,15 @@ fn whole<V: RefWindow, const TAPS: usize>(
         (first.y +ℤ pos y +ℤ pos j))) }
 {
     let before = (TAPS / 2) as i32 - 1;
+    let wide = in_eights(first.width);
     let place = Window {
         x: first.x + before,
         y: first.y + before,
+        width: wide,
         ..first
     };
     gather_bytes(view, place, &mut scratch.bytes);
-    copy_bytes(&scratch.bytes, first.width, first.height, &mut out.samples);
+    copy_bytes(&scratch.bytes, wide, first.height, &mut out.samples);
 }
 
 /// A block at whole lines and a fraction of a column.
@@ -87,7 +89,7 @@ fn across<V: RefWindow, const TAPS: usize>(
     let (width, height) = (first.width, first.height);
     let window = Window {
         y: first.y + ((TAPS / 2) as i32 - 1),
-        width: width + TAPS - 1,
+        width: in_eights(width + TAPS - 1),
         ..first
     };
     gather_bytes(view, window, &mut scratch.bytes);
@@ -120,14 +122,14 @@ fn down<V: RefWindow, const TAPS: usize>(
         (λ i j. pos (V.reference_at view.now first.picture first.component (first.x +ℤ pos x +ℤ pos i)
         (first.y +ℤ pos y +ℤ pos j))) }
 {
-    let (width, height) = (first.width, first.height);
+    let (wide, height) = (in_eights(first.width), first.height);
     let window = Window {
         x: first.x + ((TAPS / 2) as i32 - 1),
+        width: wide,
         height: height + TAPS - 1,
         ..first
     };
     gather_bytes(view, window, &mut scratch.bytes);
-    let wide = in_eights(width);
     filter_bytes::<TAPS, 72>(
         fraction,
         &scratch.bytes,
@@ -159,7 +161,7 @@ fn both<V: RefWindow, const TAPS: usize>(
     let (width, height) = (first.width, first.height);
     let lines = height + TAPS - 1;
     let window = Window {
-        width: width + TAPS - 1,
+        width: in_eights(width + TAPS - 1),
         height: lines,
         ..first
     };

@@ -10,6 +10,6 @@ returns g c x y m n =
     down_joined (g.V.RefWindow.reference_at c.args.view.now c.args.first.picture c.args.first.component) g.row.TAPS
     c.args.fraction c.args.first.x c.args.first.y _ _ _ c.args.first.width c.args.first.height x y
     c.requires.taps m n (omega (arith, ints)) (omega (arith, ints))
-    (λ i j p q. c.gather_bytes.ensures.value i j p (omega arith)) in
+    (λ i j p q. c.gather_bytes.ensures.value i j (omega arith) (omega arith)) in
     value_is _ (64 * y + x) _ (omega arith)
     (c.filter_bytes.ensures.value x y (omega arith) n ∙ ap (λ (z : ℤ). pos 16896 +ℤ z) e)

@@ -9,5 +9,5 @@ returns g c x y m n =
     let e =
     whole_bytes (g.V.RefWindow.reference_at c.args.view.now c.args.first.picture c.args.first.component) g.row.TAPS
     x y _ c.args.first.x c.args.first.y _ _
-    c.requires.taps (omega (arith, ints)) (omega (arith, ints)) (c.gather_bytes.ensures.value x y m n) in
-    sample_is _ (64 * y + x) _ _ (omega arith) (c.copy_bytes.ensures x y m n) e
+    c.requires.taps (omega (arith, ints)) (omega (arith, ints)) (c.gather_bytes.ensures.value x y (omega arith) n) in
+    sample_is _ (64 * y + x) _ _ (omega arith) (c.copy_bytes.ensures x y (omega arith) n) e
