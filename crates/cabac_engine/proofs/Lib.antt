@@ -1,2 +1,4 @@
 pub mod Reading
+pub mod Stepping
+pub mod Held
 pub mod Trailing

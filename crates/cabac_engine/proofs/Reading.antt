@@ -1,13 +1,14 @@
 -- Numbers that are read bit by bit from a place on.
 use Rattle.std.proofs.Common.{◌≡◌, ℕ, suc, ◌+◌, ◌-◌, ◌*◌, ◌/◌, ◌%◌, ◌^◌, ◌<◌, ◌≤◌, Bool, true, false, List, length}
-use Rattle.std.proofs.Common.{take, drop, Some, None, refl, sym, ap, subst, ◌∙◌, arith, length-drop}
-use Rattle.std.specs.Prelude.{slice_index, nat_lt}
-use Rattle.std.proofs.lemmas.Bool.{lt-ltb, le-ltb}
+use Rattle.std.proofs.Common.{take, drop, Some, None, refl, sym, ap, ◌∙◌, arith, length-drop}
+use Rattle.std.specs.Prelude.{slice_index, nat_lt, nat_le}
+use Rattle.std.proofs.lemmas.Bool.{lt-ltb, le-ltb, leb-true, leb-false}
 use Rattle.spec_bits.specs.Bits.{bits, bit_of, digit, number_after, number_of}
 use Rattle.spec_bits.proofs.Numbers.{doubled_below}
-use Rattle.spec_bits.proofs.Places.{length-bits, drop-bits_at}
+use Rattle.spec_bits.proofs.Places.{drop-bits_at}
 use Rattle.spec_bits.specs.Bits.{u_at}
-use Rattle.spec_cabac.specs.Engine.{Engine, left, number_at, pcm_start_at}
+use Rattle.spec_cabac.specs.Engine.{Engine, left, number_at}
+use Rattle.cabac_engine.specs.Ahead.{Ahead}
 
 -- the value so far and the bits to come spell the whole
 pub record ReadsOn (value n i at : ℕ) (bytes : List ℕ) : Type 0 where
@@ -34,75 +35,43 @@ ReadsOn-bit value n i at next bytes b d place bit is lt inside r =
       small = rw is (doubled_below value i b r.small);
     }
 
--- an engine over bytes
-abbrev pub engine : ℕ → ℕ → List ℕ → ℕ → Engine
-engine range offset bytes at = record { range = range; offset = offset; bits = bits bytes; at = at }
-
--- how many bits it leaves
-pub length-left : (range offset at : ℕ) (bytes : List ℕ)
-    → length (left (engine range offset bytes at)) ≡ 8 * length bytes - at
-length-left range offset at bytes = length-drop at (bits bytes) ∙ ap (λ n. n - at) (length-bits bytes)
+-- an engine over a register
+abbrev pub engine : ℕ → Ahead → Engine
+engine range a = record { range = range; offset = a.offset; bits = a.bits; at = a.at }
 
 -- a number where bits lack, and where they are there
-none_of : (n range offset at : ℕ) (bytes : List ℕ) → 8 * length bytes - at < n
-    → number_at n (engine range offset bytes at) ≡ None
+pub number_none : (n : ℕ) (e : Engine) → nat_le n (length e.bits - e.at) ≡ false → number_at n e ≡ None
 unfolding number_at u_at
-none_of n range offset at bytes few =
-    let short : nat_lt (length (left (engine range offset bytes at))) n ≡ true =
-    lt-ltb _ _ (omega (arith, length-left range offset at bytes)) in
+number_none n e few =
+    let short : nat_lt (length (left e)) n ≡ true =
+    lt-ltb _ _ (omega (arith, length-drop e.at e.bits, leb-false n (length e.bits - e.at) few)) in
     rw short refl
 
-pub number_none : (n range offset at : ℕ) (bytes : List ℕ) (e : Engine) → engine range offset bytes at ≡ e
-    → 8 * length bytes - at < n → number_at n e ≡ None
-number_none n range offset at bytes e is few =
-    subst (λ (f : Engine). number_at n f ≡ None) is (none_of n range offset at bytes few)
-
-some_of : (n range offset at : ℕ) (bytes : List ℕ) → n ≤ 8 * length bytes - at
-    → number_at n (engine range offset bytes at)
-    ≡ Some (number_of (take n (drop at (bits bytes))), engine range offset bytes (at + n))
+pub number_some : (n : ℕ) (e : Engine) → nat_le n (length e.bits - e.at) ≡ true
+    → number_at n e
+    ≡ Some (number_of (take n (left e)), record { range = e.range; offset = e.offset; bits = e.bits; at = e.at + n })
 unfolding number_at u_at
-some_of n range offset at bytes enough =
-    let long : nat_lt (length (left (engine range offset bytes at))) n ≡ false =
-    le-ltb _ _ (omega (arith, length-left range offset at bytes)) in
+number_some n e enough =
+    let long : nat_lt (length (left e)) n ≡ false =
+    le-ltb _ _ (omega (arith, length-drop e.at e.bits, leb-true n (length e.bits - e.at) enough)) in
     rw long refl
 
-pub number_some : (n range offset at : ℕ) (bytes : List ℕ) (e : Engine) → engine range offset bytes at ≡ e
-    → n ≤ 8 * length bytes - at
-    → number_at n e ≡ Some (number_of (take n (drop at (bits bytes))), engine range offset bytes (at + n))
-number_some n range offset at bytes e is enough =
-    subst (λ (f : Engine). number_at n f
-    ≡ Some (number_of (take n (drop at (bits bytes))), engine range offset bytes (at + n)))
-    is (some_of n range offset at bytes enough)
-
--- the byte of PCM samples, where it isn't there and where it is
-no_byte : (range offset at : ℕ) (bytes : List ℕ) → length bytes ≤ (at + 7) / 8
-    → pcm_start_at (engine range offset bytes at) ≡ None
-unfolding pcm_start_at
-no_byte range offset at bytes over =
-    let past : nat_lt (8 * ((at + 7) / 8)) (length (bits bytes)) ≡ false =
-    le-ltb _ _ (omega (arith, length-bits bytes)) in
-    rw past refl
-
-pub pcm_start_none : (range offset at : ℕ) (bytes : List ℕ) (e : Engine) → engine range offset bytes at ≡ e
-    → length bytes ≤ (at + 7) / 8 → pcm_start_at e ≡ None
-pcm_start_none range offset at bytes e is over =
-    subst (λ (f : Engine). pcm_start_at f ≡ None) is (no_byte range offset at bytes over)
-
-a_byte : (range offset at : ℕ) (bytes : List ℕ) → (at + 7) / 8 < length bytes
-    → pcm_start_at (engine range offset bytes at) ≡ Some ((at + 7) / 8, engine range offset bytes (8 * ((at + 7) / 8)))
-unfolding pcm_start_at
-a_byte range offset at bytes inside =
-    let there : nat_lt (8 * ((at + 7) / 8)) (length (bits bytes)) ≡ true =
-    lt-ltb _ _ (omega (arith, length-bits bytes)) in
-    rw there refl
-
-pub pcm_start_some : (range offset at : ℕ) (bytes : List ℕ) (e : Engine) → engine range offset bytes at ≡ e
-    → (at + 7) / 8 < length bytes
-    → pcm_start_at e ≡ Some ((at + 7) / 8, engine range offset bytes (8 * ((at + 7) / 8)))
-pcm_start_some range offset at bytes e is inside =
-    subst (λ (f : Engine). pcm_start_at f ≡ Some ((at + 7) / 8, engine range offset bytes (8 * ((at + 7) / 8)))) is
-    (a_byte range offset at bytes inside)
+-- the same offset, bits and place, whatever is held
+pub record Same (a b : Ahead) : Type 0 where
+  pub offset : b.offset ≡ a.offset
+  pub bits : b.bits ≡ a.bits
+  pub at : b.at ≡ a.at
 
 pub same_engine : (e : Engine) (r o a : ℕ) (b : List Bool) → r ≡ e.range → o ≡ e.offset → b ≡ e.bits → a ≡ e.at
     → ◌≡◌ {A = Engine} (record { range = r; offset = o; bits = b; at = a }) e
 same_engine e r o a b range offset bits at = rw (range, offset, bits, at) refl
+
+-- a number is read off a register, and its offset set
+pub numbered : (n range value at : ℕ) (a m b : Ahead) → Same a m → true ≡ nat_le n (length a.bits - a.at)
+    → value ≡ number_of (take n (drop m.at m.bits)) → at ≡ m.at + n → b.offset ≡ a.offset
+    → b.bits ≡ m.bits → b.at ≡ at → number_at n (engine range a) ≡ Some (value, engine range b)
+numbered n range value at a m b same enough is place offset_is bits_is at_is =
+    rw (number_some n (engine range a) (sym enough), is, offset_is, at_is, place, bits_is, same.bits, same.at) refl
+
+pub same_view : (range : ℕ) (a m : Ahead) → Same a m → ◌≡◌ {A = Engine} (engine range m) (engine range a)
+same_view range a m same = rw (same.offset, same.bits, same.at) refl

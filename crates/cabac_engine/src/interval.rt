@@ -7,7 +7,7 @@ ghost use Rattle.spec_cabac.specs.Engine.{Engine, IsLive, start_at, doublings, r
 ghost use Rattle.spec_cabac.specs.Engine.{terminate_at, number_at, pcm_start_at, sample_at, pcm_end_at, is_trailing};
 ghost use Rattle.cabac_engine.specs.Steps.{Steps, state_of};
 
-use crate::places::{is_stop, number_at};
+use crate::register::Register;
 use spec_cabac::{after_lps, after_mps, lps_range};
 use std::marker::Model;
 
@@ -17,21 +17,20 @@ use std::marker::Model;
 #[derive(Debug, Drop)]
 pub struct Interval<'a> {
     range: u32,
-    offset: u32,
-    bytes: &'a [u8],
-    at: u64,
+    register: Register<'a>,
 }
 
 impl<'a> Model for Interval<'a> {
-    ghost use Rattle.std.specs.Prelude.{◌^◌, ◌*◌, ◌<◌, ◌≤◌, length};
-    ghost use Rattle.spec_bits.specs.Bits.{bits};
     ghost use Rattle.spec_cabac.specs.Engine.{Engine};
 
     ghost Value = { Engine };
 
-    ghost view = { λ i. record { range = i.range; offset = i.offset; bits = bits i.bytes.now; at = i.at } };
-
-    ghost invariant = { λ i. (length i.bytes.now < 2 ^ 60) × (i.at ≤ 8 * length i.bytes.now) };
+    ghost view = { λ i. record {
+      range = i.range;
+      offset = i.register.offset;
+      bits = i.register.bits;
+      at = i.register.at;
+    } };
 }
 
 impl<'a> Interval<'a> {
@@ -44,9 +43,7 @@ impl<'a> Interval<'a> {
     {
         let mut interval = Interval {
             range: 510,
-            offset: 0,
-            bytes,
-            at: 0,
+            register: Register::placed(bytes, 0, 0),
         };
         interval.pcm_end()?;
         Some(interval)
@@ -66,12 +63,12 @@ impl<'a> Interval<'a> {
         let lps = lps_range(u32::from(*context / 2), self.range);
         let mps = *context % 2 == 1;
         let rest = self.range - lps;
-        if rest <= self.offset {
-            self.renormalize(lps, self.offset - rest)?;
+        if self.register.reaches(rest) {
+            self.renormalize(lps, rest)?;
             *context = after_lps(*context);
             Some(!mps)
         } else {
-            self.renormalize(rest, self.offset)?;
+            self.renormalize(rest, 0)?;
             *context = after_mps(*context);
             Some(mps)
         }
@@ -85,10 +82,10 @@ impl<'a> Interval<'a> {
         ensures value { Gives result self.old self.new (bypass_at self.old) }
         ensures live { OnSome result (IsLive self.new) }
     {
-        let offset = 2 * self.offset + self.number(1)?;
-        let bin = self.range <= offset;
-        self.offset = if bin { offset - self.range } else { offset };
-        Some(bin)
+        if !self.register.has(1) {
+            return None;
+        }
+        Some(self.register.halve(self.range))
     }
 
     /// A bin before termination (9.3.4.3.5). After a 1 no bin may be asked before the engine starts anew.
@@ -99,11 +96,11 @@ impl<'a> Interval<'a> {
         ensures live { IfSome result (λ ended. ended ≡ false → IsLive self.new) }
     {
         let range = self.range - 2;
-        if range <= self.offset {
+        if self.register.reaches(range) {
             self.range = range;
             Some(true)
         } else {
-            self.renormalize(range, self.offset)?;
+            self.renormalize(range, 0)?;
             Some(false)
         }
     }
@@ -114,11 +111,12 @@ impl<'a> Interval<'a> {
     pub fn after_pcm(&mut self) -> Option<u64>
         ensures value { Gives result self.old self.new (pcm_start_at self.old) }
     {
-        let byte = (self.at + 7) / 8;
-        if byte >= self.bytes.len() as u64 {
+        let byte = (self.register.at() + 7) / 8;
+        if 8 * byte >= self.register.length() {
             return None;
         }
-        self.at = 8 * byte;
+        let offset = self.register.offset();
+        self.register.place(offset, 8 * byte);
         Some(byte)
     }
 
@@ -128,7 +126,12 @@ impl<'a> Interval<'a> {
         ensures value { Gives result self.old self.new (sample_at size self.old) }
         ensures small { IfSome result (λ sample. sample < 2 ^ size) }
     {
-        self.number(size)
+        if !self.register.has(size) {
+            return None;
+        }
+        let sample = self.register.number(size);
+        self.register.place(self.register.offset(), self.register.at() + u64::from(size));
+        Some(sample)
     }
 
     /// Starts anew behind PCM samples (9.3.2.5); `None` where fewer than nine bits are left.
@@ -137,9 +140,12 @@ impl<'a> Interval<'a> {
         ensures value { Steps result self.old self.new (pcm_end_at self.old) }
         ensures live { OnSome result (IsLive self.new) }
     {
-        let offset = self.number(9)?;
+        if !self.register.has(9) {
+            return None;
+        }
+        let offset = self.register.number(9);
         self.range = 510;
-        self.offset = offset.min(509);
+        self.register.place(offset.min(509), self.register.at() + 9);
         Some(())
     }
 
@@ -149,7 +155,7 @@ impl<'a> Interval<'a> {
     pub fn is_trailing(&self) -> bool
         ensures { result ≡ is_trailing self.now }
     {
-        is_stop(self.bytes, self.at.saturating_sub(1))
+        self.register.is_stopped()
     }
 
     /// ivlCurrRange, ivlOffset, and how many bits are left.
@@ -158,9 +164,17 @@ impl<'a> Interval<'a> {
     {
         [
             u64::from(self.range),
-            u64::from(self.offset),
-            8 * self.bytes.len() as u64 - self.at,
+            u64::from(self.register.offset()),
+            self.register.length() - self.register.at(),
         ]
+    }
+
+    /// How many bits from the next one on are read ahead: behind [`start`](Self::start) 48 or more, where so many are
+    /// left.
+    pub fn ahead(&self) -> u32
+        ensures { result + self.now.at ≤ length self.now.bits }
+    {
+        self.register.held()
     }
 
     /// The interval of these bytes whose [`state`](Self::state) this is.
@@ -176,43 +190,29 @@ impl<'a> Interval<'a> {
     {
         Interval {
             range: state[0] as u32,
-            offset: state[1] as u32,
-            bytes,
-            at: 8 * bytes.len() as u64 - state[2],
+            register: Register::placed(bytes, state[1] as u32, 8 * bytes.len() as u64 - state[2]),
         }
     }
 
-    /// Takes a range from 2 on and an offset, and doubles both until the range is at least 256 (9.3.4.3.3).
+    /// Takes a number off the offset, takes a range from 2 on, and doubles both until the range is at least 256
+    /// (9.3.4.3.3).
     #[inline(always)]
-    #[tactic(auto, unfolding(spec_cabac::specs::Engine::renormalized_at))]
-    fn renormalize(&mut self, range: u32, offset: u32) -> Option<()>
+    #[tactic(auto, using(crate::proofs::Stepping::renormalized_none))]
+    fn renormalize(&mut self, range: u32, less: u32) -> Option<()>
         requires low { 2 ≤ range }
         requires high { range ≤ 510 }
-        requires below { offset < range }
-        ensures value { Steps result self.old self.new (renormalized_at range offset self.old) }
+        requires less { less ≤ self.old.offset }
+        requires below { self.old.offset - less < range }
+        ensures value { Steps result self.old self.new (renormalized_at range (self.old.offset - less) self.old) }
         ensures live { OnSome result (IsLive self.new) }
     {
         let n = doublings(range);
-        let more = self.number(n)?;
-        self.range = range << n;
-        self.offset = (offset << n) + more;
-        Some(())
-    }
-
-    /// The number that the next `n` bits spell; `None` where fewer are left.
-    #[inline(always)]
-    fn number(&mut self, n: u32) -> Option<u32>
-        requires { n ≤ 32 }
-        ensures value { Gives result self.old self.new (number_at n self.old) }
-        ensures small { IfSome result (λ number. number < 2 ^ n) }
-        ensures range { self.new.range ≡ self.old.range }
-    {
-        if 8 * self.bytes.len() as u64 - self.at < u64::from(n) {
+        if !self.register.has(n) {
             return None;
         }
-        let number = number_at(self.bytes, self.at, n);
-        self.at += u64::from(n);
-        Some(number)
+        self.register.renormalize(less, n);
+        self.range = range << n;
+        Some(())
     }
 }
 

@@ -3,5 +3,6 @@
 
 mod interval;
 mod places;
+mod register;
 
 pub use interval::Interval;

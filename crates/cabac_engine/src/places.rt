@@ -23,6 +23,15 @@ pub fn number_at(bytes: &[u8], at: u64, n: u32) -> u32
     value
 }
 
+/// The number that the bits of a byte spell.
+#[inline(always)]
+pub fn byte_at(bytes: &[u8], place: usize) -> u8
+    requires inside { place < length bytes.now }
+    ensures { result ≡ number_of (take 8 (drop (8 * place) (bits bytes.now))) }
+{
+    bytes[place]
+}
+
 /// The bit at a place.
 #[inline(always)]
 pub fn bit_at(bytes: &[u8], at: u64) -> bool

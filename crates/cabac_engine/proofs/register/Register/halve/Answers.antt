@@ -1,0 +1,56 @@
+use Rattle.std.proofs.Common.{◌≡◌, ◌<◌, ◌≤◌, nat_le, ℕ, List, arith, ap, ◌∙◌}
+use Rattle.cabac_engine.specs.Ahead.{Ahead, IsKept, ahead, lengthened, reduced}
+use Rattle.cabac_engine.proofs.Held.{halved, Halved}
+use Rattle.cabac_engine.proofs.register.Register.halve.Goals as goal
+
+half : (value held next range from : ℕ) (bytes : List ℕ) (a : Ahead) → ahead value held next bytes ≡ a → from ≡ range
+    → IsKept value held next bytes → 1 ≤ a.held → a.offset < range → range ≤ 510
+    → Halved value held next from bytes
+half value held next range from bytes a view is kept some below high =
+    let held_is = ap (λ (x : Ahead). x.held) view in
+    let offset_is = ap (λ (x : Ahead). x.offset) view in
+    halved value held next from bytes kept (omega (arith, held_is)) (omega (arith, offset_is, is)) (omega (arith, is))
+
+pub invariant_of-self : goal.invariant_of-self
+invariant_of-self c =
+    ((half c.self.inside.value c.self.inside.held c.self.inside.next c.args.range c.from.result
+    c.self.inside.bytes.now c.args.self.now c.self.view_is c.from.ensures c.self.invariant c.requires.held
+    c.requires.below c.requires.small).over c.if-bin.true).kept
+
+pub invariant_of-self-else-bin : goal.invariant_of-self-else-bin
+invariant_of-self-else-bin c =
+    ((half c.self.inside.value c.self.inside.held c.self.inside.next c.args.range c.from.result
+    c.self.inside.bytes.now c.args.self.now c.self.view_is c.from.ensures c.self.invariant c.requires.held
+    c.requires.below c.requires.small).under c.if-bin.false).kept
+
+pub returns-then-bin-clause-bin : goal.returns-then-bin-clause-bin
+returns-then-bin-clause-bin c =
+    let w = lengthened (ahead c.self.inside.value c.self.inside.held c.self.inside.next c.self.inside.bytes.now) in
+    (half c.self.inside.value c.self.inside.held c.self.inside.next c.args.range c.from.result
+    c.self.inside.bytes.now c.args.self.now c.self.view_is c.from.ensures c.self.invariant c.requires.held
+    c.requires.below c.requires.small).test ∙ ap (λ x. nat_le x w) c.from.ensures
+    ∙ ap (λ (a : Ahead). nat_le c.args.range (lengthened a)) c.self.view_is
+
+pub returns-else-bin-clause-bin : goal.returns-else-bin-clause-bin
+returns-else-bin-clause-bin c =
+    let w = lengthened (ahead c.self.inside.value c.self.inside.held c.self.inside.next c.self.inside.bytes.now) in
+    (half c.self.inside.value c.self.inside.held c.self.inside.next c.args.range c.from.result
+    c.self.inside.bytes.now c.args.self.now c.self.view_is c.from.ensures c.self.invariant c.requires.held
+    c.requires.below c.requires.small).test ∙ ap (λ x. nat_le x w) c.from.ensures
+    ∙ ap (λ (a : Ahead). nat_le c.args.range (lengthened a)) c.self.view_is
+
+pub returns-then-bin-clause-offset : goal.returns-then-bin-clause-offset
+returns-then-bin-clause-offset c =
+    let w = lengthened (ahead c.self.inside.value c.self.inside.held c.self.inside.next c.self.inside.bytes.now) in
+    ((half c.self.inside.value c.self.inside.held c.self.inside.next c.args.range c.from.result
+    c.self.inside.bytes.now c.args.self.now c.self.view_is c.from.ensures c.self.invariant c.requires.held
+    c.requires.below c.requires.small).over c.if-bin.true).top ∙ ap (λ x. reduced x w) c.from.ensures
+    ∙ ap (λ (a : Ahead). reduced c.args.range (lengthened a)) c.self.view_is
+
+pub returns-else-bin-clause-offset : goal.returns-else-bin-clause-offset
+returns-else-bin-clause-offset c =
+    let w = lengthened (ahead c.self.inside.value c.self.inside.held c.self.inside.next c.self.inside.bytes.now) in
+    ((half c.self.inside.value c.self.inside.held c.self.inside.next c.args.range c.from.result
+    c.self.inside.bytes.now c.args.self.now c.self.view_is c.from.ensures c.self.invariant c.requires.held
+    c.requires.below c.requires.small).under c.if-bin.false).top ∙ ap (λ x. reduced x w) c.from.ensures
+    ∙ ap (λ (a : Ahead). reduced c.args.range (lengthened a)) c.self.view_is
