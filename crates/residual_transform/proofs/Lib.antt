@@ -1,3 +1,4 @@
 pub mod Bounds
+pub mod Eights
 pub mod Fewer
 pub mod Tables

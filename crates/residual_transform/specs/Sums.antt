@@ -1,6 +1,7 @@
--- Bounds of what a stage of a transform adds up.
-use Rattle.std.specs.Prelude.{ℕ, ◌+◌, ◌*◌, ◌<◌, ◌≤◌, ℤ, pos, negsuc, ◌≤ℤ◌, List, length}
+-- Bounds of what a stage of a transform adds up, and a level scaled by what its block has in common.
+use Rattle.std.specs.Prelude.{ℕ, ◌+◌, ◌*◌, ◌<◌, ◌≤◌, ℤ, pos, negsuc, ◌*ℤ◌, ◌≤ℤ◌, List, length}
 use Rattle.std.specs.List.{All}
+use Rattle.spec_transforms.specs.Scaling.{clip16, rounded}
 
 abbrev pub IsEntry : ℤ → Type 0
 IsEntry v = (negsuc 89 ≤ℤ v) × (v ≤ℤ pos 90)
@@ -18,3 +19,7 @@ pub record IsMatrix (entries : List ℤ) (stride size : ℕ) : Type 0 where
   pub few : size ≤ 32
   pub inside : (k : ℕ) → k < size → stride * k + size ≤ length entries
   pub small : All IsEntry entries
+
+-- a level under a scaling factor and a quantizer, rounded and held to 16 bits
+abbrev pub scaled_by : ℕ → ℕ → ℕ → ℤ → ℤ
+scaled_by quantizer shift factor level = clip16 (rounded shift (level *ℤ pos (factor * quantizer)))

@@ -11,22 +11,22 @@ pub fn filled_rows<const SIZE: usize>(d: &[i32]) -> usize
 {
     for k in 0..SIZE {
         let row = SIZE - 1 - k;
-        if !is_zero_row::<SIZE>(d, SIZE * row) {
+        if !is_zero::<SIZE>(d, SIZE * row) {
             return row + 1;
         }
     }
     0
 }
 
-/// Whether a row has no coefficient.
+/// Whether as many numbers from `start` on are all 0.
 #[inline(always)]
-fn is_zero_row<const SIZE: usize>(d: &[i32], start: usize) -> bool
-    requires room { start + SIZE ≤ length d.now }
-    ensures { result ≡ true → (k : ℕ) → k < SIZE → at d.now (start + k) ≡ pos 0 }
+pub fn is_zero<const COUNT: usize>(numbers: &[i32], start: usize) -> bool
+    requires room { start + COUNT ≤ length numbers.now }
+    ensures { result ≡ true → (k : ℕ) → k < COUNT → at numbers.now (start + k) ≡ pos 0 }
 {
     let mut zero = true;
-    for k in 0..SIZE {
-        zero &= d[start + k] == 0;
+    for k in 0..COUNT {
+        zero &= numbers[start + k] == 0;
     }
     zero
 }

@@ -5,7 +5,9 @@ ghost use Rattle.std.specs.Prelude.{slice_index};
 ghost use Rattle.std.specs.List.{All};
 ghost use Rattle.spec_transforms.specs.Matrices.{at};
 ghost use Rattle.spec_transforms.specs.Scaling.{Is16, IsDepth, IsParameter, IsSize, clip16, quantizer, rounded, scaled};
+ghost use Rattle.residual_transform.specs.Sums.{scaled_by};
 
+use crate::filled::is_zero;
 use spec_transforms::LEVEL_SCALE;
 
 /// The scaled coefficients `out` of the `levels` of a block of 2^`log2` columns and rows, both row after row.
@@ -24,10 +26,73 @@ pub fn scale(levels: &[i32], log2: u32, qp: u32, factors: &[u8], depth: u32, out
         → at out.new i ≡ scaled depth log2 qp (slice_index factors.now i) (at levels.now i) }
     ensures small { All Is16 out.new }
 {
-    let quantizer = quantizer(qp);
-    let shift = depth + log2 - 5;
-    for i in 0..levels.len() {
-        out[i] = scaled(levels[i], factors[i], quantizer, shift);
+    let scaling = Scaling {
+        quantizer: quantizer(qp),
+        shift: depth + log2 - 5,
+    };
+    for k in 0..levels.len() / 8 {
+        scale_eight(levels, factors, scaling, 8 * k, out);
+    }
+}
+
+/// What a level is multiplied by besides its scaling factor, and how many bits of the product are shifted out.
+#[derive(Clone, Copy)]
+struct Scaling {
+    quantizer: u32,
+    shift: u32,
+}
+
+/// Scales eight levels from `start` on, which mostly are all 0.
+fn scale_eight(levels: &[i32], factors: &[u8], scaling: Scaling, start: usize, out: &mut [i32])
+    requires quantizer { scaling.quantizer ≤ 1179648 }
+    requires some_shift { 1 ≤ scaling.shift }
+    requires shift { scaling.shift ≤ 14 }
+    requires levels { All Is16 levels.now }
+    requires count { start + 8 ≤ length levels.now }
+    requires factors { length factors.now ≡ length levels.now }
+    requires room { length out.old ≡ length levels.now }
+    ensures here { (j : ℕ) → j < 8 → at out.new (start + j)
+        ≡ scaled_by scaling.quantizer scaling.shift (slice_index factors.now (start + j)) (at levels.now (start + j)) }
+    ensures before { (i : ℕ) → i < start → at out.new i ≡ at out.old i }
+    ensures small { (j : ℕ) → j < 8 → Is16 (at out.new (start + j)) }
+{
+    if is_zero::<8>(levels, start) {
+        lay_zeros(out, start);
+    } else {
+        scale_levels(levels, factors, scaling, start, out);
+    }
+}
+
+/// Stores eight coefficients of 0 from `start` on.
+#[inline(always)]
+fn lay_zeros(out: &mut [i32], start: usize)
+    requires room { start + 8 ≤ length out.old }
+    ensures here { (j : ℕ) → j < 8 → at out.new (start + j) ≡ pos 0 }
+    ensures before { (i : ℕ) → i < start → at out.new i ≡ at out.old i }
+{
+    for j in 0..8 {
+        out[start + j] = 0;
+    }
+}
+
+/// Stores eight scaled levels from `start` on.
+#[inline(always)]
+fn scale_levels(levels: &[i32], factors: &[u8], scaling: Scaling, start: usize, out: &mut [i32])
+    requires quantizer { scaling.quantizer ≤ 1179648 }
+    requires some_shift { 1 ≤ scaling.shift }
+    requires shift { scaling.shift ≤ 14 }
+    requires levels { All Is16 levels.now }
+    requires count { start + 8 ≤ length levels.now }
+    requires factors { length factors.now ≡ length levels.now }
+    requires room { length out.old ≡ length levels.now }
+    ensures here { (j : ℕ) → j < 8 → at out.new (start + j)
+        ≡ scaled_by scaling.quantizer scaling.shift (slice_index factors.now (start + j)) (at levels.now (start + j)) }
+    ensures before { (i : ℕ) → i < start → at out.new i ≡ at out.old i }
+    ensures small { (j : ℕ) → j < 8 → Is16 (at out.new (start + j)) }
+{
+    for j in 0..8 {
+        let i = start + j;
+        out[i] = scaled(levels[i], factors[i], scaling.quantizer, scaling.shift);
     }
 }
 
@@ -47,12 +112,9 @@ fn scaled(level: i32, factor: u8, quantizer: u32, shift: u32) -> i32
     requires quantizer { quantizer ≤ 1179648 }
     requires some_shift { 1 ≤ shift }
     requires shift { shift ≤ 14 }
-    ensures value { result ≡ clip16 (rounded shift (level *ℤ pos (factor * quantizer))) }
+    ensures value { result ≡ scaled_by quantizer shift factor level }
     ensures small { Is16 result }
 {
-    if level == 0 {
-        return 0;
-    }
     held(rounded(product(level, u32::from(factor) * quantizer), shift))
 }
 
