@@ -146,7 +146,7 @@ fn line(
 {
     let first = line.n * line.y;
     let place = met(line.n, pred_angle(direction.mode), line.y);
-    met_line(reference, place, line.n, first, out);
+    met_line(reference, place, direction.log2, first, out);
     if has_edge(direction) {
         let main = sides.main;
         out[first] = stepped(direction.depth, main[1], sides.side[line.y + 1], main[0]);
@@ -178,20 +178,45 @@ fn met(n: usize, angle: i32, y: usize) -> usize
     }
 }
 
-/// A line of samples between those that it meets.
-fn met_line(reference: &[u16; 98], place: usize, n: usize, first: usize, out: &mut [u16])
-    requires n { n ≤ 32 }
-    requires place { place ≤ 64 * n }
-    requires out { first + n ≤ length out.old }
+/// A line of 2^`log2` samples between those that it meets.
+fn met_line(reference: &[u16; 98], place: usize, log2: u32, first: usize, out: &mut [u16])
+    requires log2 { (2 ≤ log2) × (log2 ≤ 5) }
+    requires place { place ≤ 64 * 2 ^ log2 }
+    requires out { first + 2 ^ log2 ≤ length out.old }
     ensures { (q : ℕ) → at out.new q
-        ≡ cond (nat_le first q && nat_lt q (first + n))
+        ≡ cond (nat_le first q && nat_lt q (first + 2 ^ log2))
+        (between (place % 32) (at reference.now (place / 32 + (q - first) + 1))
+        (at reference.now (place / 32 + (q - first) + 2)))
+        (at out.old q) }
+{
+    match log2 {
+        2 => met_samples::<4>(reference, place, first, out),
+        3 => met_samples::<8>(reference, place, first, out),
+        4 => met_samples::<16>(reference, place, first, out),
+        _ => met_samples::<32>(reference, place, first, out),
+    }
+}
+
+/// So many samples of a line, between those that they meet.
+#[inline(always)]
+fn met_samples<const COUNT: usize>(
+    reference: &[u16; 98],
+    place: usize,
+    first: usize,
+    out: &mut [u16],
+)
+    requires few { COUNT ≤ 32 }
+    requires place { place ≤ 64 * COUNT }
+    requires out { first + COUNT ≤ length out.old }
+    ensures { (q : ℕ) → at out.new q
+        ≡ cond (nat_le first q && nat_lt q (first + COUNT))
         (between (place % 32) (at reference.now (place / 32 + (q - first) + 1))
         (at reference.now (place / 32 + (q - first) + 2)))
         (at out.old q) }
 {
     let whole = place / 32;
     let part = (place % 32) as u32;
-    for x in 0..n {
+    for x in 0..COUNT {
         out[first + x] = between(part, reference[whole + x + 1], reference[whole + x + 2]);
     }
 }

@@ -17,28 +17,48 @@ pub fn planar(edge: &[u16], log2: u32, out: &mut [u16])
 {
     let n = columns(log2);
     for y in 0..n {
-        planar_line(edge, log2, n, y, out);
+        planar_line(edge, log2, y, out);
     }
 }
 
 /// A line of the planar prediction.
-fn planar_line(edge: &[u16], log2: u32, n: usize, y: usize, out: &mut [u16])
+fn planar_line(edge: &[u16], log2: u32, y: usize, out: &mut [u16])
     requires log2 { (2 ≤ log2) × (log2 ≤ 5) }
-    requires n { n ≡ 2 ^ log2 }
-    requires few { n ≤ 32 }
-    requires y { y < n }
-    requires edge { length edge.now ≡ 4 * n + 1 }
-    requires out { n * y + n ≤ length out.old }
+    requires y { y < 2 ^ log2 }
+    requires edge { length edge.now ≡ 4 * 2 ^ log2 + 1 }
+    requires out { 2 ^ log2 * y + 2 ^ log2 ≤ length out.old }
     ensures { (q : ℕ) → at out.new q
-        ≡ cond (nat_le (n * y) q && nat_lt q (n * y + n)) (planar log2 edge.now (q - n * y) y) (at out.old q) }
+        ≡ cond (nat_le (2 ^ log2 * y) q && nat_lt q (2 ^ log2 * y + 2 ^ log2)) (planar log2 edge.now (q - 2 ^ log2 * y) y)
+        (at out.old q) }
 {
-    let left = edge[2 * n - (y + 1)];
-    let right = edge[2 * n + 1 + n];
-    let below = edge[2 * n - (n + 1)];
-    for x in 0..n {
-        let across = part_way(n, x, left, right);
-        let down = part_way(n, y, edge[2 * n + 1 + x], below);
-        out[n * y + x] = mean_of(log2, n, across, down);
+    match log2 {
+        2 => planar_samples::<4>(edge, log2, y, out),
+        3 => planar_samples::<8>(edge, log2, y, out),
+        4 => planar_samples::<16>(edge, log2, y, out),
+        _ => planar_samples::<32>(edge, log2, y, out),
+    }
+}
+
+/// A line of the planar prediction of so many columns.
+#[inline(always)]
+fn planar_samples<const COUNT: usize>(edge: &[u16], log2: u32, y: usize, out: &mut [u16])
+    requires log2 { (2 ≤ log2) × (log2 ≤ 5) }
+    requires n { COUNT ≡ 2 ^ log2 }
+    requires few { COUNT ≤ 32 }
+    requires y { y < COUNT }
+    requires edge { length edge.now ≡ 4 * COUNT + 1 }
+    requires out { COUNT * y + COUNT ≤ length out.old }
+    ensures { (q : ℕ) → at out.new q
+        ≡ cond (nat_le (COUNT * y) q && nat_lt q (COUNT * y + COUNT)) (planar log2 edge.now (q - COUNT * y) y)
+        (at out.old q) }
+{
+    let left = edge[2 * COUNT - (y + 1)];
+    let right = edge[2 * COUNT + 1 + COUNT];
+    let below = edge[2 * COUNT - (COUNT + 1)];
+    for x in 0..COUNT {
+        let across = part_way(COUNT, x, left, right);
+        let down = part_way(COUNT, y, edge[2 * COUNT + 1 + x], below);
+        out[COUNT * y + x] = mean_of(log2, COUNT, across, down);
     }
 }
 

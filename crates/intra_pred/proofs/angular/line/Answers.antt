@@ -19,7 +19,7 @@ returns-then-has_edge c =
     line_edged d.edges d.log2 c.args.line.n d.mode d.depth c.met-place.result c.args.line.y c.stepped.result
     c.args.sides.now.main.now c.args.sides.now.side.now c.args.reference.now c.args.out.now c.met_line.new.out
     c.requires.n c.requires.y room c.requires.reference e c.met-place.ensures.greatest
-    (sym c.has_edge.ensures ∙ c.if-has_edge.true) c.stepped.ensures c.met_line.ensures
+    (sym c.has_edge.ensures ∙ c.if-has_edge.true) c.stepped.ensures (rw (← c.requires.n) at c.met_line.ensures)
 
 pub returns-else-has_edge : goal.returns-else-has_edge
 returns-else-has_edge c =
@@ -32,4 +32,4 @@ returns-else-has_edge c =
     line_plain d.edges d.log2 c.args.line.n d.mode d.depth c.met-place.result c.args.line.y c.args.sides.now.main.now
     c.args.sides.now.side.now c.args.reference.now c.args.out.now c.met_line.new.out
     c.requires.n c.requires.y c.requires.reference e c.met-place.ensures.greatest
-    (sym c.has_edge.ensures ∙ c.if-has_edge.false) c.met_line.ensures
+    (sym c.has_edge.ensures ∙ c.if-has_edge.false) (rw (← c.requires.n) at c.met_line.ensures)
