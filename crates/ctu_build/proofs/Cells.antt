@@ -1,6 +1,6 @@
 -- Cells, what is known in them, and how they are changed.
 use Rattle.std.proofs.Common.{◌≡◌, ℕ, ◌+◌, ◌-◌, ◌*◌, ◌<◌, ◌≤◌, ◌==◌, ◌&&◌, cond, nat_le, nat_lt, Bool, true, false, ℤ}
-use Rattle.std.proofs.Common.{List, ◌∷◌, [], Option, Some, None, inl, inr, length, get_or, replicate, take, drop, ap}
+use Rattle.std.proofs.Common.{List, ◌∷◌, [], Option, Some, None, inl, inr, get_or, replicate, take, drop, ap}
 use Rattle.std.proofs.Common.{◌∙◌, refl, arith, if◌then◌else◌, unwrap_or}
 use Rattle.std.proofs.Math.ListN.{get_or-eq_default}
 use Rattle.std.proofs.lemmas.Bool.{cases_lt}
@@ -137,23 +137,22 @@ line_marked known known' c column line n first at fits hc hl marks i j k hi hj h
     ∙ ap (λ (b : Bool). cond b true (get_or known (cell i j k) false))
     (line_inside c column line n i j k fits hc hl hi hj hk)
 
-pub line_copied : (values values' samples : List ℕ) (c column line first : ℕ) → first ≡ cell c column line
-    → column + length samples ≤ 129 → c < 3 → line < 65
+pub line_copied : (values values' : List ℕ) (f : ℕ → ℕ) (c column line n first : ℕ) → first ≡ cell c column line
+    → column + n ≤ 129 → c < 3 → line < 65
     → ((q : ℕ)
-    → get_or values' q 0
-    ≡ cond (nat_le first q && nat_lt q (first + length samples)) (get_or samples (q - first) 0) (get_or values q 0))
+    → get_or values' q 0 ≡ cond (nat_le first q && nat_lt q (first + n)) (f (q - first)) (get_or values q 0))
     → (i j k : ℕ) → i < 3 → j < 129 → k < 65
     → get_or values' (cell i j k) 0
-    ≡ cond ((i == c) && ((k == line) && (nat_le column j && nat_lt j (column + length samples))))
-    (get_or samples (j - column) 0) (get_or values (cell i j k) 0)
-line_copied values values' samples c column line first at fits hc hl copies i j k hi hj hk =
+    ≡ cond ((i == c) && ((k == line) && (nat_le column j && nat_lt j (column + n)))) (f (j - column))
+    (get_or values (cell i j k) 0)
+line_copied values values' f c column line n first at fits hc hl copies i j k hi hj hk =
     copies (cell i j k)
-    ∙ ap (λ (f : ℕ). cond (nat_le f (cell i j k) && nat_lt (cell i j k) (f + length samples))
-    (get_or samples (cell i j k - f) 0) (get_or values (cell i j k) 0))
+    ∙ ap (λ (m : ℕ). cond (nat_le m (cell i j k) && nat_lt (cell i j k) (m + n)) (f (cell i j k - m))
+    (get_or values (cell i j k) 0))
     at
-    ∙ ap (λ (b : Bool). cond b (get_or samples (cell i j k - cell c column line) 0) (get_or values (cell i j k) 0))
-    (line_inside c column line (length samples) i j k fits hc hl hi hj hk)
-    ∙ cond_at _ (λ m. get_or samples m 0) _ _ _ (line_place c column line (length samples) i j k)
+    ∙ ap (λ (b : Bool). cond b (f (cell i j k - cell c column line)) (get_or values (cell i j k) 0))
+    (line_inside c column line n i j k fits hc hl hi hj hk)
+    ∙ cond_at _ f _ _ _ (line_place c column line n i j k)
 
 -- cells of which those of the lines in use are cleared
 pub none_left : (known first second third : List Bool) (values : List ℕ) (lines count : ℕ) → AreCells values known lines

@@ -183,7 +183,7 @@ fn add_square<const N: usize>(
 }
 
 /// `N` samples of a block over the cells from one on.
-fn lay_line<const N: usize>(values: &mut [u16], first: usize, block: &[u16], from: usize)
+pub(crate) fn lay_line<const N: usize>(values: &mut [u16], first: usize, block: &[u16], from: usize)
     requires room { first + N ≤ length values.old }
     requires enough { from + N ≤ length block.now }
     ensures { (q : ℕ) → slice_index_or values.new q 0

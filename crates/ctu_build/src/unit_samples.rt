@@ -9,7 +9,7 @@ ghost use Rattle.spec_transforms.specs.Scaling.{IsDepth};
 ghost use Rattle.spec_transforms.specs.Transforms.{IsResidual, block_in};
 ghost use Rattle.std.specs.List.{All};
 
-use crate::lines::{add_lines, copy, fill, lay_lines, mark_lines};
+use crate::lines::{add_lines, copy, fill, lay_line, lay_lines, mark_line, mark_lines};
 use crate::place::Place;
 use ctu_records::Rectangle;
 use intra_pred::Border;
@@ -134,6 +134,46 @@ impl UnitSamples {
             ≡ rectangle_laid c area (λ x y. slice_index_or samples.now (64 * (y - area.y) + (x - area.x)) 0)
             (held self.old) }
     {
+        match area.width {
+            4 => self.lay_rows::<4>(c, area, samples),
+            8 => self.lay_rows::<8>(c, area, samples),
+            16 => self.lay_rows::<16>(c, area, samples),
+            32 => self.lay_rows::<32>(c, area, samples),
+            64 => self.lay_rows::<64>(c, area, samples),
+            _ => self.lay_parts(c, area, samples),
+        }
+    }
+
+    /// A rectangle of `N` columns.
+    fn lay_rows<const N: usize>(&mut self, c: u8, area: Rectangle, samples: &[u16; 4096])
+        requires c { c < 3 }
+        requires width { area.width ≡ N }
+        requires x { area.x + area.width ≤ 64 }
+        requires y { area.y + area.height ≤ 64 }
+        ensures { held self.new
+            ≡ rectangle_laid c area (λ x y. slice_index_or samples.now (64 * (y - area.y) + (x - area.x)) 0)
+            (held self.old) }
+    {
+        for line in 0..usize::from(area.height) {
+            self.put_row::<N>(
+                usize::from(c),
+                usize::from(area.x) + 1,
+                usize::from(area.y) + 1 + line,
+                samples,
+                64 * line,
+            );
+        }
+    }
+
+    /// A rectangle of any width.
+    fn lay_parts(&mut self, c: u8, area: Rectangle, samples: &[u16; 4096])
+        requires c { c < 3 }
+        requires x { area.x + area.width ≤ 64 }
+        requires y { area.y + area.height ≤ 64 }
+        ensures { held self.new
+            ≡ rectangle_laid c area (λ x y. slice_index_or samples.now (64 * (y - area.y) + (x - area.x)) 0)
+            (held self.old) }
+    {
         let width = usize::from(area.width);
         for line in 0..usize::from(area.height) {
             self.put_line(
@@ -143,6 +183,30 @@ impl UnitSamples {
                 &samples[64 * line..64 * line + width],
             );
         }
+    }
+
+    /// `N` samples of a line of a component from a column on become known: those from a place on.
+    fn put_row<const N: usize>(
+        &mut self,
+        c: usize,
+        column: usize,
+        line: usize,
+        samples: &[u16],
+        from: usize,
+    )
+        requires c { c < 3 }
+        requires columns { column + N ≤ 129 }
+        requires line { line < 65 }
+        requires enough { from + N ≤ length samples.now }
+        ensures { (i j k : ℕ) → held self.new i j k
+            ≡ (if (i == c) && ((k == line) && (nat_le column j && nat_lt j (column + N)))
+            then Some (slice_index_or samples.now (from + (j - column)) 0)
+            else held self.old i j k) }
+    {
+        let first = cell(c, column, line);
+        lay_line::<N>(&mut self.values, first, samples, from);
+        mark_line::<N>(&mut self.known, first);
+        self.lines = self.lines.max(line + 1);
     }
 
     /// Residuals added to a square.

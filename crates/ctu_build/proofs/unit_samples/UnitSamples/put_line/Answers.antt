@@ -11,7 +11,7 @@ returns c =
     (line_bounds a.c a.column a.line (length a.values.now) i j k r.columns r.c r.line)
     (line_marked _ _ a.c a.column a.line (length a.values.now) _ c.cell-first.ensures r.columns r.c r.line
     (λ q. c.fill.ensures q false) i j k)
-    (line_copied _ _ a.values.now a.c a.column a.line _ c.cell-first.ensures r.columns r.c r.line c.copy.ensures i j k)
+    (line_copied _ _ (λ m. get_or a.values.now m 0) a.c a.column a.line (length a.values.now) _ c.cell-first.ensures r.columns r.c r.line c.copy.ensures i j k)
 
 pub invariant_of-self : goal.invariant_of-self
 invariant_of-self c =
@@ -24,4 +24,4 @@ invariant_of-self c =
     (line_lines a.c a.column a.line (length a.values.now) _ (omega arith))
     (line_marked _ _ a.c a.column a.line (length a.values.now) _ c.cell-first.ensures r.columns r.c r.line
     (λ q. c.fill.ensures q false))
-    (line_copied _ _ a.values.now a.c a.column a.line _ c.cell-first.ensures r.columns r.c r.line c.copy.ensures)
+    (line_copied _ _ (λ m. get_or a.values.now m 0) a.c a.column a.line (length a.values.now) _ c.cell-first.ensures r.columns r.c r.line c.copy.ensures)

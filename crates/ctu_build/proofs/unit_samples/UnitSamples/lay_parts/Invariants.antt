@@ -1,7 +1,7 @@
 use Rattle.std.proofs.Common.{◌≡◌, ℕ, ◌-◌, cond, Some}
 use Rattle.ctu_build.specs.Held.{held}
 use Rattle.ctu_build.proofs.Rectangles.{area_sample, in_area}
-use Rattle.ctu_build.proofs.unit_samples.UnitSamples.lay_rectangle.Given as goal
+use Rattle.ctu_build.proofs.unit_samples.UnitSamples.lay_parts.Given as goal
 
 abbrev pub invariant-loop-line : goal.invariant-loop-line
 invariant-loop-line l = (i j k : ℕ)

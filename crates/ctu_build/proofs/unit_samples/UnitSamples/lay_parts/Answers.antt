@@ -1,6 +1,6 @@
 use Rattle.std.proofs.Common.{rules}
 use Rattle.ctu_build.proofs.Rectangles.{area_laid}
-use Rattle.ctu_build.proofs.unit_samples.UnitSamples.lay_rectangle.Goals as goal
+use Rattle.ctu_build.proofs.unit_samples.UnitSamples.lay_parts.Goals as goal
 
 pub returns : goal.returns
 returns c = area_laid c.args.samples.now c.args.c c.args.area _ _ c.loop-line.line (search rules) c.loop-line.invariant
