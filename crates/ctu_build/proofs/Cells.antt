@@ -6,7 +6,8 @@ use Rattle.std.proofs.Math.ListN.{get_or-eq_default}
 use Rattle.std.proofs.lemmas.Bool.{cases_lt}
 use Rattle.std.proofs.lemmas.Bool.Decides.{nat_tests}
 use Rattle.std.proofs.lemmas.List.{get_or-drop, get_or-replicate, get_or-take, length-replicate}
-use Rattle.ctu_build.specs.Held.{AreCells, Cells, added, cell, held, inside_of}
+use Rattle.ctu_build.specs.Held.{AreCells, Cells, added, cell, held, inside_of, lines_of}
+use Rattle.ctu_build.specs.declared.extents.Extents.{Extents}
 use Rattle.ctu_build.specs.declared.place.Place.{Place}
 use Rattle.spec_reconstruction.specs.Known.{with_residual}
 
@@ -17,10 +18,13 @@ same_at n k d = elim (cases_lt k n) [
 ]
 
 -- cells of which none was used
-pub are_new : (n : ℕ) (values : List ℕ) (known : List Bool) → values ≡ replicate n 0 → known ≡ replicate n false
-    → AreCells values known 0
-are_new n values known v k = record {
-  few = omega arith;
+pub are_new : (n : ℕ) (values : List ℕ) (known : List Bool) (extents : Extents) → values ≡ replicate n 0
+    → known ≡ replicate n false → ((c : ℕ) → lines_of extents c ≤ 65) → AreCells values known extents
+are_new n values known extents v k few = record {
+  few = few;
+  luma = few 0;
+  cb = few 1;
+  cr = few 2;
   zeros = λ c i j hc hi hj none. rw v (same_at n (cell c i j) 0);
   unused = λ c i j hc hi hj le. rw k (same_at n (cell c i j) false);
 }
@@ -35,21 +39,32 @@ nothing_held cells none c i j = let z = none c i j in grind (arith, nat_tests)
 pub new_held : (n : ℕ) (cells : Cells) → cells.known ≡ replicate n false → (c i j : ℕ) → held cells c i j ≡ None
 new_held n cells e = nothing_held cells (λ c i j hc hi hj. rw e (same_at n (cell c i j) false))
 
+-- a sample behind the lines in use, where none was marked
+before_line : (b : Bool) (j lines lines' : ℕ) (k k' : Bool) → k' ≡ cond b true k → (b ≡ true → j < lines') → lines' ≤ j
+    → (lines ≤ j → k ≡ false) → lines ≤ lines' → k' ≡ false
+before_line true j lines lines' k k' e lies le unused more = absurd (omega (arith, lies refl))
+before_line false j lines lines' k k' e lies le unused more = e ∙ unused (omega arith)
+
 -- cells that become known, of lines before one
-pub are_laid : (values values' : List ℕ) (known known' : List Bool) (lines lines' : ℕ) (inside : ℕ → ℕ → ℕ → Bool)
-    (sample : ℕ → ℕ → ℕ → ℕ)
-    → AreCells values known lines → lines' ≤ 65 → lines ≤ lines' → ((c i j : ℕ) → inside c i j ≡ true → j < lines')
+pub are_laid : (values values' : List ℕ) (known known' : List Bool) (extents extents' : Extents)
+    (inside : ℕ → ℕ → ℕ → Bool) (sample : ℕ → ℕ → ℕ → ℕ)
+    → AreCells values known extents → ((c : ℕ) → lines_of extents' c ≤ 65)
+    → ((c : ℕ) → lines_of extents c ≤ lines_of extents' c)
+    → ((c i j : ℕ) → inside c i j ≡ true → j < lines_of extents' c)
     → ((c i j : ℕ) → c < 3 → i < 129 → j < 65
     → get_or known' (cell c i j) false ≡ cond (inside c i j) true (get_or known (cell c i j) false))
     → ((c i j : ℕ) → c < 3 → i < 129 → j < 65
     → get_or values' (cell c i j) 0 ≡ cond (inside c i j) (sample c i j) (get_or values (cell c i j) 0))
-    → AreCells values' known' lines'
-are_laid values values' known known' lines lines' inside sample are few more lies marks lays = record {
+    → AreCells values' known' extents'
+are_laid values values' known known' extents extents' inside sample are few more lies marks lays = record {
   few = few;
+  luma = few 0;
+  cb = few 1;
+  cr = few 2;
   zeros = λ c i j hc hi hj none. let m = marks c i j hc hi hj in
       let l = lays c i j hc hi hj in let z = are.zeros c i j hc hi hj in grind (arith, nat_tests);
-  unused = λ c i j hc hi hj le. let m = marks c i j hc hi hj in
-      let u = are.unused c i j hc hi hj in let n = lies c i j in grind (arith, nat_tests);
+  unused = λ c i j hc hi hj le. before_line (inside c i j) j _ _ _ _ (marks c i j hc hi hj) (lies c i j) le
+      (λ less. are.unused c i j hc hi hj less) (more c);
 }
 
 -- what residuals leave where no sample is known
@@ -60,16 +75,19 @@ none_added false k depth r v v' e none zero = e ∙ zero
 none_added true k depth r v v' e none zero = rw (e, none) zero
 
 -- cells whose known samples are changed
-pub are_added : (values values' : List ℕ) (known : List Bool) (lines depth : ℕ) (inside : ℕ → ℕ → ℕ → Bool)
-    (residual : ℕ → ℕ → ℤ)
-    → AreCells values known lines
+pub are_added : (values values' : List ℕ) (known : List Bool) (extents : Extents) (depth : ℕ)
+    (inside : ℕ → ℕ → ℕ → Bool) (residual : ℕ → ℕ → ℤ)
+    → AreCells values known extents
     → ((c i j : ℕ) → c < 3 → i < 129 → j < 65
     → get_or values' (cell c i j) 0
     ≡ cond (inside c i j) (added depth (get_or known (cell c i j) false) (residual i j) (get_or values (cell c i j) 0))
     (get_or values (cell c i j) 0))
-    → AreCells values' known lines
-are_added values values' known lines depth inside residual are adds = record {
+    → AreCells values' known extents
+are_added values values' known extents depth inside residual are adds = record {
   few = are.few;
+  luma = are.luma;
+  cb = are.cb;
+  cr = are.cr;
   zeros = λ c i j hc hi hj none. none_added (inside c i j) _ depth (residual i j) _ _ (adds c i j hc hi hj) none
       (are.zeros c i j hc hi hj none);
   unused = are.unused;
@@ -101,11 +119,12 @@ held_laid old new values values' known known' c i j x inside ov ok nv nk lies ma
     rw (ov, ok, nv, nk) (grind (arith, nat_tests))
 
 -- a line of cells
-pub line_held : (values : List ℕ) (known : List Bool) (lines c i j : ℕ) (cells : Cells) → AreCells values known lines
+pub line_held : (values : List ℕ) (known : List Bool) (extents : Extents) (c i j : ℕ) (cells : Cells)
+    → AreCells values known extents
     → cells.values ≡ values → cells.known ≡ known → c < 3 → i < 129 → j < 65
     → get_or values (cell c i j) 0 ≡ unwrap_or (held cells c i j) 0
 unfolding held
-line_held values known lines c i j cells are v k hc hi hj =
+line_held values known extents c i j cells are v k hc hi hj =
     let z = are.zeros c i j hc hi hj in rw (v, k) (grind (arith, nat_tests))
 
 -- a line of cells from a column on, by place
@@ -154,41 +173,51 @@ line_copied values values' f c column line n first at fits hc hl copies i j k hi
     (line_inside c column line n i j k fits hc hl hi hj hk)
     ∙ cond_at _ f _ _ _ (line_place c column line n i j k)
 
--- cells of which those of the lines in use are cleared
-pub none_left : (known first second third : List Bool) (values : List ℕ) (lines count : ℕ) → AreCells values known lines
-    → count ≡ 129 * lines
-    → ((q : ℕ) → get_or first q false ≡ cond (nat_le 0 q && nat_lt q (0 + count)) false (get_or known q false))
-    → ((q : ℕ) → get_or second q false ≡ cond (nat_le 8385 q && nat_lt q (8385 + count)) false (get_or first q false))
-    → ((q : ℕ) → get_or third q false ≡ cond (nat_le 16770 q && nat_lt q (16770 + count)) false (get_or second q false))
+-- what is left in a cell, where the lines in use of three components are cleared
+left_at : {A : Type 0} (none was first second third : A) (extents : Extents) (luma cb cr c i j : ℕ)
+    → ((c : ℕ) → lines_of extents c ≤ 65) → c < 3 → i < 129 → j < 65
+    → luma ≡ 129 * extents.luma → cb ≡ 129 * extents.cb → cr ≡ 129 * extents.cr
+    → first ≡ cond (nat_le 0 (cell c i j) && nat_lt (cell c i j) (0 + luma)) none was
+    → second ≡ cond (nat_le 8385 (cell c i j) && nat_lt (cell c i j) (8385 + cb)) none first
+    → third ≡ cond (nat_le 16770 (cell c i j) && nat_lt (cell c i j) (16770 + cr)) none second
+    → (lines_of extents c ≤ j → was ≡ none) → third ≡ none
+left_at none was first second third extents luma cb cr c i j few hc hi hj el eb er x y z u =
+    let f = few 0 in
+    let g = few 1 in
+    let h = few 2 in
+    grind (arith, nat_tests)
+
+pub none_left : (known first second third : List Bool) (values : List ℕ) (extents : Extents) (luma cb cr : ℕ)
+    → AreCells values known extents
+    → luma ≡ 129 * extents.luma → cb ≡ 129 * extents.cb → cr ≡ 129 * extents.cr
+    → ((q : ℕ) → get_or first q false ≡ cond (nat_le 0 q && nat_lt q (0 + luma)) false (get_or known q false))
+    → ((q : ℕ) → get_or second q false ≡ cond (nat_le 8385 q && nat_lt q (8385 + cb)) false (get_or first q false))
+    → ((q : ℕ) → get_or third q false ≡ cond (nat_le 16770 q && nat_lt q (16770 + cr)) false (get_or second q false))
     → (c i j : ℕ) → c < 3 → i < 129 → j < 65 → get_or third (cell c i j) false ≡ false
-none_left known first second third values lines count are e a b d c i j hc hi hj =
-    let u = are.unused c i j hc hi hj in
-    let f = are.few in
-    let x = a (cell c i j) in
-    let y = b (cell c i j) in
-    let z = d (cell c i j) in
-    grind (arith, nat_tests)
+none_left known first second third values extents luma cb cr are el eb er x y z c i j hc hi hj =
+    left_at false _ _ _ _ extents luma cb cr c i j are.few hc hi hj el eb er (x (cell c i j)) (y (cell c i j))
+    (z (cell c i j)) (are.unused c i j hc hi hj)
 
-pub zeros_left : (values first second third : List ℕ) (known : List Bool) (lines count : ℕ)
-    → AreCells values known lines → count ≡ 129 * lines
-    → ((q : ℕ) → get_or first q 0 ≡ cond (nat_le 0 q && nat_lt q (0 + count)) 0 (get_or values q 0))
-    → ((q : ℕ) → get_or second q 0 ≡ cond (nat_le 8385 q && nat_lt q (8385 + count)) 0 (get_or first q 0))
-    → ((q : ℕ) → get_or third q 0 ≡ cond (nat_le 16770 q && nat_lt q (16770 + count)) 0 (get_or second q 0))
+pub zeros_left : (values first second third : List ℕ) (known : List Bool) (extents : Extents) (luma cb cr : ℕ)
+    → AreCells values known extents
+    → luma ≡ 129 * extents.luma → cb ≡ 129 * extents.cb → cr ≡ 129 * extents.cr
+    → ((q : ℕ) → get_or first q 0 ≡ cond (nat_le 0 q && nat_lt q (0 + luma)) 0 (get_or values q 0))
+    → ((q : ℕ) → get_or second q 0 ≡ cond (nat_le 8385 q && nat_lt q (8385 + cb)) 0 (get_or first q 0))
+    → ((q : ℕ) → get_or third q 0 ≡ cond (nat_le 16770 q && nat_lt q (16770 + cr)) 0 (get_or second q 0))
     → (c i j : ℕ) → c < 3 → i < 129 → j < 65 → get_or third (cell c i j) 0 ≡ 0
-zeros_left values first second third known lines count are e a b d c i j hc hi hj =
-    let u = are.unused c i j hc hi hj in
-    let n = are.zeros c i j hc hi hj in
-    let f = are.few in
-    let x = a (cell c i j) in
-    let y = b (cell c i j) in
-    let z = d (cell c i j) in
-    grind (arith, nat_tests)
+zeros_left values first second third known extents luma cb cr are el eb er x y z c i j hc hi hj =
+    left_at 0 _ _ _ _ extents luma cb cr c i j are.few hc hi hj el eb er (x (cell c i j)) (y (cell c i j))
+    (z (cell c i j)) (λ le. are.zeros c i j hc hi hj (are.unused c i j hc hi hj le))
 
-pub are_cleared : (values : List ℕ) (known : List Bool)
+pub are_cleared : (values : List ℕ) (known : List Bool) (extents : Extents)
     → ((c i j : ℕ) → c < 3 → i < 129 → j < 65 → get_or values (cell c i j) 0 ≡ 0)
-    → ((c i j : ℕ) → c < 3 → i < 129 → j < 65 → get_or known (cell c i j) false ≡ false) → AreCells values known 0
-are_cleared values known zeros none = record {
-  few = omega arith;
+    → ((c i j : ℕ) → c < 3 → i < 129 → j < 65 → get_or known (cell c i j) false ≡ false)
+    → ((c : ℕ) → lines_of extents c ≤ 65) → AreCells values known extents
+are_cleared values known extents zeros none few = record {
+  few = few;
+  luma = few 0;
+  cb = few 1;
+  cr = few 2;
   zeros = λ c i j hc hi hj n. zeros c i j hc hi hj;
   unused = λ c i j hc hi hj le. none c i j hc hi hj;
 }
@@ -200,13 +229,21 @@ pub line_bounds : (c column line n i j k : ℕ) → column + n ≤ 129 → c < 3
 line_bounds c column line n i j k fits hc hl is =
     (grind (arith, nat_tests), (grind (arith, nat_tests), grind (arith, nat_tests)))
 
-pub line_lines : (c column line n lines : ℕ) → line + 1 ≤ lines
-    → (i j k : ℕ) → ((i == c) && ((k == line) && (nat_le column j && nat_lt j (column + n)))) ≡ true → k < lines
-line_lines c column line n lines more i j k is = grind (arith, nat_tests)
+pub line_lines : (c column line n : ℕ) (extents : Extents) → line + 1 ≤ lines_of extents c
+    → (i j k : ℕ) → ((i == c) && ((k == line) && (nat_le column j && nat_lt j (column + n)))) ≡ true
+    → k < lines_of extents i
+line_lines c column line n extents more i j k is =
+    let same : i ≡ c = grind (arith, nat_tests) in
+    let at : k ≡ line = grind (arith, nat_tests) in
+    rw (same, at) (omega arith)
 
-pub place_lines : (place : Place) (n lines : ℕ) → place.y + 1 + n ≤ lines → (c i j : ℕ) → inside_of place n c i j ≡ true
-    → j < lines
-place_lines place n lines more c i j is = grind (arith, nat_tests)
+pub place_lines : (place : Place) (n : ℕ) (extents : Extents) (d end : ℕ) → d ≡ place.c → end ≡ place.y + 1 + n
+    → end ≤ lines_of extents d
+    → (c i j : ℕ) → inside_of place n c i j ≡ true → j < lines_of extents c
+place_lines place n extents d end at last more c i j is =
+    let same : c ≡ d = grind (arith, nat_tests) in
+    let lt : j < end = grind (arith, nat_tests) in
+    rw same (omega arith)
 
 -- a part of the cells that is a line
 pub line_part : (values : List ℕ) (c line first n j : ℕ) → first ≡ cell c 0 line → j < n

@@ -6,6 +6,7 @@ use Rattle.ctu_records.specs.declared.item.Square.{Square}
 use Rattle.ctu_records.specs.Places.{inside}
 use Rattle.spec_reconstruction.specs.Known.{Known, clipped}
 use Rattle.spec_slice_data.specs.Residual.{samples_of_place}
+use Rattle.ctu_build.specs.declared.extents.Extents.{Extents}
 use Rattle.ctu_build.specs.declared.place.Place.{Place}
 
 -- where a sample's cell is: three components of 65 lines of 129 cells
@@ -25,12 +26,19 @@ unfoldable pub held : Cells → Known
 held cells c column line =
     if nat_lt c 3 && (nat_lt column 129 && nat_lt line 65) then in_cell cells (cell c column line) else None
 
--- cells that have 0 where no sample is known, as in all lines from one on
-pub record AreCells (values : List ℕ) (known : List Bool) (lines : ℕ) : Type 0 where
-  pub few : lines ≤ 65
+-- how many lines of a component are in use
+abbrev pub lines_of : Extents → ℕ → ℕ
+lines_of extents c = if c == 0 then extents.luma else (if c == 1 then extents.cb else extents.cr)
+
+-- cells that have 0 where no sample is known, as in all lines of a component from one on
+pub record AreCells (values : List ℕ) (known : List Bool) (extents : Extents) : Type 0 where
+  pub few : (c : ℕ) → lines_of extents c ≤ 65
+  pub luma : extents.luma ≤ 65
+  pub cb : extents.cb ≤ 65
+  pub cr : extents.cr ≤ 65
   pub zeros : (c i j : ℕ) → c < 3 → i < 129 → j < 65 → slice_index_or known (cell c i j) false ≡ false
       → slice_index_or values (cell c i j) 0 ≡ 0
-  pub unused : (c i j : ℕ) → c < 3 → i < 129 → j < 65 → lines ≤ j → slice_index_or known (cell c i j) false ≡ false
+  pub unused : (c i j : ℕ) → c < 3 → i < 129 → j < 65 → lines_of extents c ≤ j → slice_index_or known (cell c i j) false ≡ false
 
 -- a sample and a residual, where the sample is known
 unfoldable pub added : ℕ → Bool → ℤ → ℕ → ℕ

@@ -5,6 +5,7 @@
 mod blocks;
 mod coding;
 mod edge;
+mod extents;
 mod intra_border;
 mod items;
 mod levels;

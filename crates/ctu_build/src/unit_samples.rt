@@ -9,6 +9,7 @@ ghost use Rattle.spec_transforms.specs.Scaling.{IsDepth};
 ghost use Rattle.spec_transforms.specs.Transforms.{IsResidual, block_in};
 ghost use Rattle.std.specs.List.{All};
 
+use crate::extents::Extents;
 use crate::lines::{add_lines, copy, fill, lay_line, lay_lines, mark_line, mark_lines};
 use crate::place::Place;
 use ctu_records::Rectangle;
@@ -25,8 +26,8 @@ pub struct UnitSamples {
     values: [u16; 25155],
     /// Where one is.
     known: [bool; 25155],
-    /// From this line on none is known.
-    lines: usize,
+    /// From which lines on none is.
+    lines: Extents,
 }
 
 impl Model for UnitSamples {
@@ -57,7 +58,11 @@ impl UnitSamples {
         UnitSamples {
             values: [0; 25155],
             known: [false; 25155],
-            lines: 0,
+            lines: Extents {
+                luma: 0,
+                cb: 0,
+                cr: 0,
+            },
         }
     }
 
@@ -65,14 +70,19 @@ impl UnitSamples {
     pub fn restart(&mut self)
         ensures { (c column line : ℕ) → held self.new c column line ≡ None }
     {
-        let count = 129 * self.lines;
-        fill(&mut self.values, 0, count, 0);
-        fill(&mut self.values, ROOM, count, 0);
-        fill(&mut self.values, 2 * ROOM, count, 0);
-        fill(&mut self.known, 0, count, false);
-        fill(&mut self.known, ROOM, count, false);
-        fill(&mut self.known, 2 * ROOM, count, false);
-        self.lines = 0;
+        let lines = self.lines;
+        let (luma, cb, cr) = (129 * lines.luma, 129 * lines.cb, 129 * lines.cr);
+        fill(&mut self.values, 0, luma, 0);
+        fill(&mut self.values, ROOM, cb, 0);
+        fill(&mut self.values, 2 * ROOM, cr, 0);
+        fill(&mut self.known, 0, luma, false);
+        fill(&mut self.known, ROOM, cb, false);
+        fill(&mut self.known, 2 * ROOM, cr, false);
+        self.lines = Extents {
+            luma: 0,
+            cb: 0,
+            cr: 0,
+        };
     }
 
     /// A sample beside the unit.
@@ -99,7 +109,7 @@ impl UnitSamples {
         let first = cell(c, column, line);
         copy(&mut self.values, first, values);
         fill(&mut self.known, first, values.len(), true);
-        self.lines = self.lines.max(line + 1);
+        self.lines = self.lines.with(c, line + 1);
     }
 
     /// A line of a component, columns 0 to 128: the samples, 0 where none is known.
@@ -122,7 +132,8 @@ impl UnitSamples {
     {
         lay_lines(&mut self.values, place, block);
         mark_lines(&mut self.known, place);
-        self.lines = self.lines.max(place.y as usize + 1 + place.side());
+        let end = place.y as usize + 1 + place.side();
+        self.lines = self.lines.with(usize::from(place.c), end);
     }
 
     /// A rectangle of samples over what was there, from lines of 64.
@@ -206,7 +217,7 @@ impl UnitSamples {
         let first = cell(c, column, line);
         lay_line::<N>(&mut self.values, first, samples, from);
         mark_line::<N>(&mut self.known, first);
-        self.lines = self.lines.max(line + 1);
+        self.lines = self.lines.with(c, line + 1);
     }
 
     /// Residuals added to a square.

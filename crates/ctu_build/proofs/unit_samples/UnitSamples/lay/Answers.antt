@@ -15,6 +15,9 @@ invariant_of-self c =
     let p = c.args.place in
     are_laid _ _ _ _ _ _ (inside_of p (2 ^ p.log2))
     (λ d i j. get_or c.args.block.now (2 ^ p.log2 * (j - (p.y + 1)) + (i - (p.x + 1))) 0)
-    c.self.invariant (omega (arith, c.self.invariant.few, c.requires.place.y, c.side.ensures.value)) (omega arith)
-    (place_lines p (2 ^ p.log2) _ (omega (arith, c.side.ensures.value)))
+    c.self.invariant
+    (λ d. c.with-self-inside.ensures.few d 65 (omega (arith, c.requires.place.y, c.side.ensures.value)) (c.self.invariant.few d))
+    c.with-self-inside.ensures.more
+    (place_lines p (2 ^ p.log2) _ c.from.result _ (search rules) (omega (arith, c.side.ensures.value))
+    c.with-self-inside.ensures.here)
     c.mark_lines.ensures c.lay_lines.ensures
