@@ -10,7 +10,7 @@ use crate::pointing::pointing_motion;
 use crate::unit::Unit;
 use ctu_motion::UnitMotion;
 use motion_candidates::MotionView;
-use picture_buffer::{MotionField, PlaceMotion};
+use picture_buffer::MotionField;
 use spec_motion::{Motion, SliceMotion, Vector};
 
 /// The motion of a unit over that of the picture.
@@ -73,32 +73,32 @@ fn lay_row(
         else motions_of field.old i j) }
     ensures sides { (across down : ℕ) → HasPlaces field.old across down → HasPlaces field.new across down }
 {
-    let mut last = None;
-    let mut place = None;
-    for column in 0..block.columns {
+    let mut column = 0;
+    while column < block.columns {
         let here = motion.motion(column + 1, row + 1);
-        place = pointing_behind(slice, last, place, here);
-        last = here;
-        field.put(block.x + column, block.y + row, place);
+        let end = run_end(motion, row, column, block.columns);
+        let place = pointing_motion(slice, here);
+        field.put_run(block.x + column, block.y + row, end - column, place);
+        column = end;
     }
 }
 
-/// The motion of a place with the pictures that it points to, by that of the place before.
-#[inline(always)]
-fn pointing_behind(
-    slice: &SliceMotion,
-    last: Option<Motion>,
-    place: Option<PlaceMotion>,
-    here: Option<Motion>,
-) -> Option<PlaceMotion>
-    requires { place ≡ pointing_motion slice.now last }
-    ensures { result ≡ pointing_motion slice.now here }
+/// The column behind those from one on that have its motion.
+fn run_end(motion: &UnitMotion, row: usize, column: usize, columns: usize) -> usize
+    requires column { column < columns }
+    requires columns { columns ≤ 16 }
+    requires row { row < 16 }
+    ensures more { column < result }
+    ensures inside { result ≤ columns }
+    ensures same { (i : ℕ) → column ≤ i → i < result
+        → held motion.now (i + 1) (row + 1) ≡ held motion.now (column + 1) (row + 1) }
 {
-    if is_same(here, last) {
-        place
-    } else {
-        pointing_motion(slice, here)
+    let here = motion.motion(column + 1, row + 1);
+    let mut end = column + 1;
+    while end < columns && is_same(motion.motion(end + 1, row + 1), here) {
+        end += 1;
     }
+    end
 }
 
 /// Whether two motions are the same.
