@@ -7,14 +7,14 @@ use crate::place_motion::{PlaceMotion, PlaceVector};
 use ctu_records::Mv;
 use spec_motion::{Reference, Vector};
 
-/// The mark of a list without a vector.
-const WITHOUT_VECTOR: u8 = 0;
-/// The mark of a vector into a short-term reference picture.
-const SHORT_TERM: u8 = 1;
-/// The mark of a vector into a long-term reference picture.
-const LONG_TERM: u8 = 2;
 /// The first mark of a place without motion.
-const WITHOUT_MOTION: u8 = 3;
+const WITHOUT_MOTION: u8 = 0;
+/// The mark of a list without a vector.
+const WITHOUT_VECTOR: u8 = 1;
+/// The mark of a vector into a short-term reference picture.
+const SHORT_TERM: u8 = 2;
+/// The mark of a vector into a long-term reference picture.
+const LONG_TERM: u8 = 3;
 
 /// The motion of a place. What stands at a list without a vector is passed over.
 #[derive(Clone, Copy)]
@@ -31,7 +31,7 @@ pub(crate) struct PackedMotion {
     pub(crate) mark_1: u8,
 }
 
-/// A place without motion.
+/// A place without motion, of zeros, as memory is cleared fastest.
 pub(crate) const NO_MOTION: PackedMotion = PackedMotion {
     order_0: 0,
     order_1: 0,
@@ -42,7 +42,7 @@ pub(crate) const NO_MOTION: PackedMotion = PackedMotion {
     ref_idx_0: 0,
     ref_idx_1: 0,
     mark_0: WITHOUT_MOTION,
-    mark_1: WITHOUT_VECTOR,
+    mark_1: WITHOUT_MOTION,
 };
 
 /// What stands at a list without a vector.
