@@ -1,11 +1,13 @@
 -- The command line: which words are taken, and what they ask for.
-use Rattle.std.specs.Prelude.{ℕ, ◌+◌, ◌-◌, ◌*◌, ◌&&◌, Bool, true, false, List, [], ◌∷◌, ◌++◌, not, map, codes, bytes_eq}
-use Rattle.std.specs.Prelude.{Option, Some, None, option_map, option_and_then, if◌then◌else◌, nat_le, string_bytes}
+use Rattle.std.specs.Prelude.{ℕ, Bool, true, false, List, [], ◌∷◌, ◌++◌, not, map, codes, bytes_eq}
+use Rattle.std.specs.Prelude.{Option, Some, None, option_map, option_and_then, if◌then◌else◌, string_bytes}
 use Rattle.std.specs.Prelude.{String}
 use Rattle.std.specs.Global.{Global}
+use Rattle.std.specs.Str.Parse.{digits_value, without_leading_plus}
 use Rattle.clap.specs.Words.{App, Kinds, Row, Rule, fault_of, first_of, new_app, new_rule, subcommand_of, with_rule}
 use Rattle.clap.specs.Words.{with_subcommand}
 use Rattle.clap.specs.Simple.{on_top}
+use Rattle.clap.specs.ValueTests.{is_unsigned_in}
 use Rattle.clap.specs.declared.builder.action.ArgAction.TheVariants.{SetTrue}
 use Rattle.clap.specs.declared.builder.value_parser.ValueParser.TheVariants as vp
 use Rattle.decoder.specs.declared.options.Options.{Options}
@@ -33,27 +35,15 @@ program_command = with_subcommand
     (on_top (λ s. record s { no_binary_name = true; subcommand_required = true }) (new_app (codes "hevcdec")))
     decode_command.top
 
--- whether a byte is a decimal digit, and whether it is one that a number of two digits may begin with
-abbrev pub is_digit : ℕ → Bool
-is_digit byte = nat_le 48 byte && nat_le byte 57
-
-abbrev pub is_first_digit : ℕ → Bool
-is_first_digit byte = nat_le 49 byte && nat_le byte 57
-
--- the number from 1 to 99 that decimal digits spell, with no sign and no zero before it
-abbrev pub number_of : List ℕ → Option ℕ
-number_of (a ∷ []) = if is_first_digit a then Some (a - 48) else None
-number_of (a ∷ b ∷ []) = if is_first_digit a && is_digit b then Some (10 * (a - 48) + (b - 48)) else None
-number_of _ = None
-
--- a number that is at most so much
-abbrev pub at_most : ℕ → ℕ → Option ℕ
-at_most most n = if nat_le n most then Some n else None
+-- the number from 1 to most that clap reads from a text: decimal digits behind at most one plus
+abbrev pub number_in : ℕ → List ℕ → Option ℕ
+number_in most text =
+    if is_unsigned_in 1 most text then Some (digits_value 10 (without_leading_plus text)) else None
 
 -- what the option of a number says: 4 where it isn't given
 abbrev pub number_given : ℕ → Option (List ℕ) → Option ℕ
 number_given most None = Some 4
-number_given most (Some text) = option_and_then (at_most most) (number_of text)
+number_given most (Some text) = number_in most text
 
 -- whether the flag no-hash is given
 abbrev pub is_set : Option (List ℕ) → Bool

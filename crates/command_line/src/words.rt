@@ -1,12 +1,12 @@
 //! The words of the command line.
 
-ghost use Rattle.std.specs.Prelude.{◌≡◌, ◌≢◌, ◌-◌, ◌≤◌, None, Some, Err, IfOk, IfSome, false, option_and_then};
+ghost use Rattle.std.specs.Prelude.{◌≡◌, ◌≢◌, ◌≤◌, None, Some, Err, IfOk, IfSome, false, option_and_then};
 ghost use Rattle.std.specs.Prelude.{option_map};
 ghost use Rattle.clap.specs.Words.{app_of, first_of, found_of, kind_of, rows_of, rule_of, subcommand_rows_of};
 ghost use Rattle.clap.specs.declared.builder.command.Command.TheViews.{out-Command};
 ghost use Rattle.decoder.specs.Options.{IsInRange};
-ghost use Rattle.command_line.specs.Words.{decode_command, flag_rule, is_digit, is_first_digit, is_set, number_given};
-ghost use Rattle.command_line.specs.Words.{number_of, number_rule, options_of, program_command, words_taken};
+ghost use Rattle.command_line.specs.Words.{decode_command, flag_rule, is_set, number_given, number_in};
+ghost use Rattle.command_line.specs.Words.{number_rule, options_of, program_command, words_taken};
 
 use clap::builder::ValueParser;
 use clap::error::ErrorKind;
@@ -175,43 +175,19 @@ fn number_given(most: u32, text: Option<&str>) -> Option<u32>
     ensures value { result ≡ number_given most (option_map (λ t. t.now) text.entry) }
     ensures in_range { IfSome result (λ n. (1 ≤ n) × (n ≤ most)) }
 {
-    let Some(text) = text else {
-        return Some(DEFAULT);
-    };
-    let n = number_of(text.as_bytes())?;
-    if n <= most { Some(n) } else { None }
-}
-
-/// The number from 1 to 99 that decimal digits spell, with no sign and no zero before it.
-fn number_of(text: &[u8]) -> Option<u32>
-    ensures value { result ≡ number_of text.now }
-    ensures some { IfSome result (λ n. 1 ≤ n) }
-{
     match text {
-        [a] if is_first_digit(*a) => Some(digit(*a)),
-        [a, b] if is_first_digit(*a) && is_digit(*b) => Some(10 * digit(*a) + digit(*b)),
-        _ => None,
+        Some(text) => number_in(most, text),
+        None => Some(DEFAULT),
     }
 }
 
-/// The value of a decimal digit.
-fn digit(byte: u8) -> u32
-    requires { 48 ≤ byte }
-    ensures { result ≡ byte - 48 }
+/// The number from 1 to `most` that a text spells: decimal digits behind at most one plus.
+fn number_in(most: u32, text: &str) -> Option<u32>
+    ensures value { result ≡ number_in most text.now }
+    ensures in_range { IfSome result (λ n. (1 ≤ n) × (n ≤ most)) }
 {
-    u32::from(byte - b'0')
-}
-
-/// Whether a byte is a decimal digit.
-fn is_digit(byte: u8) -> bool
-    ensures { result ≡ is_digit byte }
-{
-    b'0' <= byte && byte <= b'9'
-}
-
-/// Whether a byte is a decimal digit that a number may begin with.
-fn is_first_digit(byte: u8) -> bool
-    ensures { result ≡ is_first_digit byte }
-{
-    b'1' <= byte && byte <= b'9'
+    match text.parse::<u32>() {
+        Ok(n) => { if 1 <= n && n <= most { Some(n) } else { None } }
+        Err(_) => None,
+    }
 }
