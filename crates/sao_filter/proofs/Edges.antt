@@ -9,7 +9,7 @@ use Rattle.spec_sample_adaptive_offset.specs.Plane.{OffsetPlane, edge_sample, ma
 use Rattle.sao_filter.specs.declared.row.OffsetRow.{OffsetRow}
 use Rattle.sao_filter.specs.declared.block.Block.{Block}
 use Rattle.sao_filter.specs.Row.{HasLines, IsRow, at, plane_of, samples_of, top}
-use Rattle.sao_filter.specs.Units.{IsBlock, reads_unit, shift}
+use Rattle.sao_filter.specs.Units.{IsBlock, ReadsLine, reads_unit, shift}
 use Rattle.sao_filter.specs.Laying.{LaysLine, between}
 use Rattle.sao_filter.proofs.Laid.{line_of_run}
 use Rattle.sao_filter.proofs.Beside.{block_is, first_of, may_is, second_of, stands}
@@ -115,22 +115,21 @@ part_inside row block line from to c l is few low t =
     record { left = a.left; right = omega (arith, b.right, some); above = a.above; below = a.below }
 
 -- they are among the lines that the row has
+pub line_room : (row : OffsetRow) (block : Block) (samples : List ℕ) (line from to c l : ℕ) →
+    IsRow row → IsBlock row block → line < block.lines → HasLines row samples → l ≤ 2 →
+    PartInside row line from to c l →
+    row.width * (line + block.skip + l - 1) + (to + c - 1) ≤ length samples
+line_room row block samples line from to c l of_row of_block inside has low in_picture =
+    room row.width (line + block.skip + l - 1)
+    (min (row.size * row.row + row.size + 1) row.height - (row.size * row.row - 1)) (to + c - 1) (length samples)
+    (omega (arith, of_row.begins, inside, of_block.lines, of_block.skip, in_picture.above, in_picture.below))
+    has (omega (arith, in_picture.right))
+
 pub part_room : (row : OffsetRow) (block : Block) (samples : List ℕ) (line from to c l : ℕ) →
     IsPart row block line from to → HasLines row samples → l ≤ 2 → PartInside row line from to c l →
     row.width * (line + block.skip + l - 1) + (to + c - 1) ≤ length samples
 part_room row block samples line from to c l is has low in_picture =
-    room row.width (line + block.skip + l - 1)
-    (min (row.size * row.row + row.size + 1) row.height - (row.size * row.row - 1)) (to + c - 1) (length samples)
-    (omega (
-      arith,
-      is.of_row.begins,
-      is.inside,
-      is.of_block.lines,
-      is.of_block.skip,
-      in_picture.above,
-      in_picture.below,
-    ))
-    has (omega (arith, in_picture.right))
+    line_room row block samples line from to c l is.of_row is.of_block is.inside has low in_picture
 
 neighbour_index : (width t line skip from i c l first : ℕ) → first ≡ width * (line + skip + l - 1) + (from + c - 1) →
     skip ≡ min t 1 → from ≤ i → 0 < from + c →
@@ -214,6 +213,123 @@ part_laid row block samples offsets line from to c l start first count a b new o
     (sample_is row samples line block.skip from i start starts is.of_block.skip at)
     (neighbour_is row samples line block.skip from i c l a a_is is.of_block.skip at one.left)
     (neighbour_is row samples line block.skip from i (2 - c) (2 - l) b b_is is.of_block.skip at two.left))
+
+-- where a sample of a line stands
+data Stands (from to i : ℕ) : Type 0 where
+  First : i < from + 1 → Stands from to i
+  Between : from + 1 ≤ i → i < to - 1 → Stands from to i
+  Last : to - 1 ≤ i → Stands from to i
+
+stands_by : (from to i : ℕ) (first last : Bool) → first ≡ nat_lt i (from + 1) → last ≡ nat_le (to - 1) i → Stands from to i
+stands_by from to i true last f l = First (grind (arith, nat_tests))
+stands_by from to i false true f l = Last (grind (arith, nat_tests))
+stands_by from to i false false f l = Between (grind (arith, nat_tests)) (grind (arith, nat_tests))
+
+-- what both neighbours of a part ask
+abbrev pub part_reads_both : OffsetRow → Block → ℕ → ℕ → ℕ → ℕ → ℕ → Bool
+part_reads_both row block line from to c l =
+    part_reads row block line from to c l && part_reads row block line from to (2 - c) (2 - l)
+
+sample_may : (row : OffsetRow) (block : Block) (line c l i : ℕ) → IsRow row → IsBlock row block → line < block.lines →
+    c ≤ 2 → l ≤ 2 → part_reads_both row block line block.from (block.from + 1) c l ≡ true →
+    part_reads_both row block line (block.from + 1) (block.to - 1) c l ≡ true →
+    part_reads_both row block line (block.to - 1) block.to c l ≡ true → block.from ≤ i → i < block.to →
+    Stands block.from block.to i →
+    (may_read (plane_of row) i (top row + line) c l && may_read (plane_of row) i (top row + line) (2 - c) (2 - l)) ≡ true
+sample_may row block line c l i of_row of_block inside few low head middle tail at below (First lt) =
+    let is : IsPart row block line block.from (block.from + 1) = record {
+      of_row = of_row;
+      of_block = of_block;
+      inside = inside;
+      low = omega arith;
+      some = omega arith;
+      high = omega arith;
+      alike = λ more. absurd (omega (arith, more));
+    } in
+    both_may row block line block.from (block.from + 1) c l i is few low at lt ∙ head
+sample_may row block line c l i of_row of_block inside few low head middle tail at below (Between low_end high_end) =
+    let is : IsPart row block line (block.from + 1) (block.to - 1) = record {
+      of_row = of_row;
+      of_block = of_block;
+      inside = inside;
+      low = omega arith;
+      some = omega arith;
+      high = omega arith;
+      alike = λ more. (omega arith, omega arith);
+    } in
+    both_may row block line (block.from + 1) (block.to - 1) c l i is few low low_end high_end ∙ middle
+sample_may row block line c l i of_row of_block inside few low head middle tail at below (Last le) =
+    let is : IsPart row block line (block.to - 1) block.to = record {
+      of_row = of_row;
+      of_block = of_block;
+      inside = inside;
+      low = omega arith;
+      some = omega arith;
+      high = omega arith;
+      alike = λ more. absurd (omega (arith, more));
+    } in
+    both_may row block line (block.to - 1) block.to c l i is few low le below ∙ tail
+
+-- a line reads where its first sample, those between and its last do
+pub line_reads : (row : OffsetRow) (block : Block) (line c l : ℕ) → IsRow row → IsBlock row block →
+    line < block.lines → c ≤ 2 → l ≤ 2 → part_reads_both row block line block.from (block.from + 1) c l ≡ true →
+    part_reads_both row block line (block.from + 1) (block.to - 1) c l ≡ true →
+    part_reads_both row block line (block.to - 1) block.to c l ≡ true → ReadsLine row block c l line
+line_reads row block line c l of_row of_block inside few low head middle tail i at below =
+    sample_may row block line c l i of_row of_block inside few low head middle tail at below
+    (stands_by block.from block.to i _ _ refl refl)
+
+-- the neighbours of a line that reads are inside the picture
+line_inside : (row : OffsetRow) (block : Block) (line c l : ℕ) → IsBlock row block →
+    ((i : ℕ) → block.from ≤ i → i < block.to → may_read (plane_of row) i (top row + line) c l ≡ true) →
+    PartInside row line block.from block.to c l
+line_inside row block line c l is reads =
+    let some = is.some in
+    let a = inside (plane_of row) block.from (top row + line) c l (reads block.from (omega arith) some) in
+    let b =
+    inside (plane_of row) (block.to - 1) (top row + line) c l (reads (block.to - 1) (omega arith) (omega arith)) in
+    record { left = a.left; right = omega (arith, b.right, some); above = a.above; below = a.below }
+
+pub first_inside : (row : OffsetRow) (block : Block) (line c l : ℕ) → IsBlock row block → ReadsLine row block c l line →
+    PartInside row line block.from block.to c l
+first_inside row block line c l is reads =
+    line_inside row block line c l is
+    (λ i at below. first_of (may_read (plane_of row) i (top row + line) c l) _ (reads i at below))
+
+pub second_inside : (row : OffsetRow) (block : Block) (line c l : ℕ) → IsBlock row block → ReadsLine row block c l line →
+    PartInside row line block.from block.to (2 - c) (2 - l)
+second_inside row block line c l is reads =
+    line_inside row block line (2 - c) (2 - l) is
+    (λ i at below. second_of (may_read (plane_of row) i (top row + line) c l) _ (reads i at below))
+
+-- a line whose neighbours may be read
+pub line_laid : (row : OffsetRow) (block : Block) (samples : List ℕ) (offsets : List ℤ)
+    (line c l start first count a b : ℕ) (new old : List ℕ) →
+    IsBlock row block → ReadsLine row block c l line →
+    start ≡ row.width * (line + block.skip) + block.from → first ≡ row.width * line + block.from →
+    count + block.from ≡ block.to →
+    a ≡ row.width * (line + block.skip + l - 1) + (block.from + c - 1) →
+    b ≡ row.width * (line + block.skip + (2 - l) - 1) + (block.from + (2 - c) - 1) →
+    ((q : ℕ)
+    → at new q
+    ≡ cond (nat_le first q && nat_lt q (first + count))
+    (edge_moved row.depth offsets (at samples (start + (q - first))) (at samples (a + (q - first)))
+    (at samples (b + (q - first))))
+    (at old q)) →
+    LaysLine row.width line block.from block.to
+    (λ i. edge_sample (plane_of row) (samples_of row samples) offsets c l i (top row + line)) old new
+line_laid row block samples offsets line c l start first count a b new old is reads starts begins many a_is b_is
+    wrote =
+    let one = first_inside row block line c l is reads in
+    let two = second_inside row block line c l is reads in
+    line_of_run row.width line block.from block.to first count new old
+    (λ k. edge_moved row.depth offsets (at samples (start + k)) (at samples (a + k)) (at samples (b + k)))
+    (λ i. edge_sample (plane_of row) (samples_of row samples) offsets c l i (top row + line))
+    begins many (omega (arith, is.to)) wrote
+    (λ i at below. edge_read row samples offsets c l i (top row + line) _ _ _ (reads i at below)
+    (sample_is row samples line block.skip block.from i start starts is.skip at)
+    (neighbour_is row samples line block.skip block.from i c l a a_is is.skip at one.left)
+    (neighbour_is row samples line block.skip block.from i (2 - c) (2 - l) b b_is is.skip at two.left))
 
 -- a part whose neighbours may not be read
 pub part_stays : (row : OffsetRow) (block : Block) (samples : List ℕ) (offsets : List ℤ)

@@ -1,11 +1,11 @@
 -- The units that the samples of a run read.
-use Rattle.std.specs.Prelude.{◌≡◌, ◌<◌, ℕ, ◌+◌, ◌-◌, ◌*◌, ◌==◌, nat_lt, min, Bool, ◌&&◌, List, ℤ, pos, slice_index_or}
-use Rattle.std.specs.Prelude.{if◌then◌else◌}
-use Rattle.spec_sample_adaptive_offset.specs.Plane.{OffsetPlane, meets}
+use Rattle.std.specs.Prelude.{◌≡◌, ◌<◌, ◌≤◌, ℕ, ◌+◌, ◌-◌, ◌*◌, ◌==◌, nat_lt, min, Bool, true, ◌&&◌, List, ℤ, pos}
+use Rattle.std.specs.Prelude.{slice_index_or, if◌then◌else◌}
+use Rattle.spec_sample_adaptive_offset.specs.Plane.{OffsetPlane, may_read, meets}
 use Rattle.spec_sample_adaptive_offset.specs.Offsets.{offset_value, band_index, edge_index}
 use Rattle.sao_filter.specs.declared.row.OffsetRow.{OffsetRow}
 use Rattle.sao_filter.specs.declared.block.Block.{Block}
-use Rattle.sao_filter.specs.Row.{top, lines_of}
+use Rattle.sao_filter.specs.Row.{top, lines_of, plane_of}
 
 -- the unit that a neighbour stands in, counted as the neighbour is: 0, 1, 2 are before, at and behind
 abbrev pub shift : ℕ → Bool → Bool → ℕ
@@ -25,6 +25,13 @@ pub record IsBlock (row : OffsetRow) (block : Block) : Type 0 where
   pub some : block.from < block.to
   pub lines : block.lines ≡ lines_of row
   pub skip : block.skip ≡ min (top row) 1
+
+-- both neighbours of each sample of a line of a block may be read; where the first one stands is counted as in may_read
+abbrev pub ReadsLine : OffsetRow → Block → ℕ → ℕ → ℕ → Type 0
+ReadsLine row block across down line =
+    (i : ℕ) → block.from ≤ i → i < block.to
+    → (may_read (plane_of row) i (top row + line) across down
+    && may_read (plane_of row) i (top row + line) (2 - across) (2 - down)) ≡ true
 
 abbrev pub IsBandTable : ℕ → ℕ → List ℤ → List ℤ → Type 0
 IsBandTable depth position offsets table =

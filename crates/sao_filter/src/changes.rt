@@ -122,17 +122,11 @@ pub fn band_moved(sample: u16, table: &[i16; 32], depth: u32) -> u16
 
 /// One more than the sign of a difference.
 #[inline(always)]
-fn compared(sample: u16, other: u16) -> usize
+fn compared(sample: u16, other: u16) -> u16
     ensures value { result ≡ compared sample other }
     ensures few { result ≤ 2 }
 {
-    if sample < other {
-        0
-    } else if sample == other {
-        1
-    } else {
-        2
-    }
+    u16::from(other <= sample) + u16::from(other < sample)
 }
 
 /// A sample by edge offset, between its two neighbours.
@@ -144,7 +138,29 @@ pub fn edge_moved(sample: u16, first: u16, second: u16, table: &[i16; 5], depth:
 {
     moved(
         sample,
-        table[compared(sample, first) + compared(sample, second)],
+        chosen(table, compared(sample, first) + compared(sample, second)),
         depth,
     )
+}
+
+/// An entry of a table of five.
+#[inline(always)]
+fn chosen(table: &[i16; 5], signs: u16) -> i16
+    requires { signs < 5 }
+    ensures { result ≡ slice_index_or table.now signs (pos 0) }
+{
+    let mut change = table[4];
+    if signs == 3 {
+        change = table[3];
+    }
+    if signs == 2 {
+        change = table[2];
+    }
+    if signs == 1 {
+        change = table[1];
+    }
+    if signs == 0 {
+        change = table[0];
+    }
+    change
 }

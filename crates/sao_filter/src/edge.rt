@@ -1,10 +1,10 @@
 //! Blocks with edge offset.
 
-ghost use Rattle.std.specs.Prelude.{◌≡◌, ◌≤◌, ◌<◌, ◌+◌, ◌-◌, ◌*◌, ◌==◌, ◌&&◌, ℕ, ℤ, List, length};
+ghost use Rattle.std.specs.Prelude.{◌≡◌, ◌≤◌, ◌<◌, ◌+◌, ◌-◌, ◌*◌, ◌==◌, ◌&&◌, ℕ, ℤ, List, true, length};
 ghost use Rattle.spec_sample_adaptive_offset.specs.Plane.{edge_sample, first_column, first_line, may_read, meets};
 ghost use Rattle.sao_filter.specs.Laying.{LaysLine, LaysLines};
 ghost use Rattle.sao_filter.specs.Row.{HasLines, IsRow, plane_of, samples_of, top, unit_in, units_of};
-ghost use Rattle.sao_filter.specs.Units.{IsBlock, IsEdgeTable, reads_unit, shift};
+ghost use Rattle.sao_filter.specs.Units.{IsBlock, IsEdgeTable, ReadsLine, reads_unit, shift};
 
 use crate::block::Block;
 use crate::changes::edge_changes;
@@ -164,7 +164,77 @@ fn edge_part(
     edge_run(lines, run, beside, &edge.table, row.depth, out);
 }
 
-/// A line of a block with edge offset: its first sample, those between, and its last.
+/// Whether both neighbours of each sample of a line of a block may be read.
+fn reads_line(row: &OffsetRow<'_>, block: Block, edge: &Edge, line: usize) -> bool
+    requires row { IsRow row.now }
+    requires block { IsBlock row.now block }
+    requires edge { (edge.now.column ≤ 2) × (edge.now.line ≤ 1) }
+    requires line { line < block.lines }
+    ensures { result ≡ true → ReadsLine row.now block edge.now.column edge.now.line line }
+{
+    let first = block.from + 1;
+    let last = block.to - 1;
+    let head = Part {
+        line,
+        from: block.from,
+        to: first,
+    };
+    let middle = Part {
+        line,
+        from: first,
+        to: last,
+    };
+    let tail = Part {
+        line,
+        from: last,
+        to: block.to,
+    };
+    if !reads_both(row, block, edge, head) {
+        return false;
+    }
+    if !reads_both(row, block, edge, middle) {
+        return false;
+    }
+    reads_both(row, block, edge, tail)
+}
+
+/// A line of a block, both neighbours of each of whose samples may be read.
+fn whole_line(
+    row: &OffsetRow<'_>,
+    lines: &[u16],
+    block: Block,
+    edge: &Edge,
+    line: usize,
+    out: &mut [u16],
+)
+    requires row { IsRow row.now }
+    requires block { IsBlock row.now block }
+    requires lines { HasLines row.now lines.now }
+    requires edge { (edge.now.column ≤ 2) × (edge.now.line ≤ 1) }
+    requires line { line < block.lines }
+    requires reads { ReadsLine row.now block edge.now.column edge.now.line line }
+    requires out { row.now.width * block.lines ≤ length out.old }
+    ensures { (offsets : List ℤ) → IsEdgeTable row.now.depth offsets edge.now.table
+        → LaysLine row.now.width line block.from block.to
+        (λ i. edge_sample (plane_of row.now) (samples_of row.now lines.now) offsets edge.now.column edge.now.line i
+        (top row.now + line))
+        out.old out.new }
+{
+    let width = row.width;
+    let read = line + block.skip;
+    let run = Run {
+        from: width * read + block.from,
+        first: width * line + block.from,
+        count: block.to - block.from,
+    };
+    let beside = Neighbours {
+        first: width * (read + edge.line - 1) + (block.from + edge.column - 1),
+        second: width * (read + (2 - edge.line) - 1) + (block.from + (2 - edge.column) - 1),
+    };
+    edge_run(lines, run, beside, &edge.table, row.depth, out);
+}
+
+/// A line of a block with edge offset, whole or in parts: its first sample, those between, and its last.
 fn edge_line(
     row: &OffsetRow<'_>,
     lines: &[u16],
@@ -185,6 +255,10 @@ fn edge_line(
         (top row.now + line))
         out.old out.new }
 {
+    if reads_line(row, block, edge, line) {
+        whole_line(row, lines, block, edge, line, out);
+        return;
+    }
     let first = block.from + 1;
     let head = Part {
         line,

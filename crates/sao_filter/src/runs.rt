@@ -79,12 +79,13 @@ pub fn edge_run(
         (at lines.now (beside.first + (q - run.first))) (at lines.now (beside.second + (q - run.first))))
         (at out.old q) }
 {
+    let table = *table;
     for k in 0..run.count {
         out[run.first + k] = edge_moved(
             lines[run.from + k],
             lines[beside.first + k],
             lines[beside.second + k],
-            table,
+            &table,
             depth,
         );
     }
