@@ -1,13 +1,13 @@
 -- Edge after edge, and place after place.
-use Rattle.std.proofs.Common.{◌≡◌, ℕ, ◌+◌, ◌-◌, ◌*◌, ◌/◌, ◌%◌, ◌<◌, ◌≤◌, Bool, true, false, ◌&&◌, ◌||◌, cond, nat_le}
-use Rattle.std.proofs.Common.{nat_lt, refl, ap, sym, subst, ◌∙◌, inl, inr, ◌⊎◌, arith, if◌then◌else◌, min}
+use Rattle.std.proofs.Common.{◌≡◌, ℕ, ◌+◌, ◌-◌, ◌*◌, ◌/◌, ◌%◌, ◌<◌, ◌≤◌, Bool, true, false, ◌&&◌, ◌||◌, cond}
+use Rattle.std.proofs.Common.{nat_lt, refl, ap, sym, subst, ◌∙◌, inl, inr, ◌⊎◌, arith}
 use Rattle.std.proofs.lemmas.Bool.Decides.{nat_tests}
 use Rattle.spec_deblocking.specs.declared.place.Place.{Place}
 use Rattle.spec_deblocking.specs.declared.place.Plane.{Plane}
 use Rattle.spec_deblocking.specs.declared.place.Plane.TheVariants.{Luma, Chroma}
-use Rattle.spec_deblocking.specs.Lines.{across, nth}
-use Rattle.spec_deblocking.specs.Places.{side, place_before, place_behind}
-use Rattle.spec_deblocking.specs.Planes.{filtered_line, edge_sample, vertical}
+use Rattle.spec_deblocking.specs.Lines.{across}
+use Rattle.spec_deblocking.specs.Places.{side, place_behind}
+use Rattle.spec_deblocking.specs.Planes.{edge_sample, vertical}
 use Rattle.spec_deblocking.proofs.Across.{nth_is}
 use Rattle.spec_deblocking.proofs.Unchanged.{sample_off}
 use Rattle.deblock.specs.declared.pass.Pass.{Pass}

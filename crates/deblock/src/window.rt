@@ -105,6 +105,27 @@ fn nth(line: &Line, k: usize) -> u32
 
 /// Lays a part of a line across an edge.
 #[inline(always)]
+fn write_part(out: &mut [u16], w: &Window, a: usize, b: usize, from: usize, to: usize, line: &Line)
+    requires window { IsWindow w.now }
+    requires room { length out.old ≡ size w.now }
+    requires a { a ≤ 65536 }
+    requires order { from ≤ to }
+    requires to { to ≤ 8 }
+    requires inside { (k : ℕ) → from ≤ k → k < to → holds w.now (a + k) b ≡ true }
+    requires line { AreSmall 16383 line.now }
+    ensures value { (i j : ℕ) → holds w.now i j ≡ true
+        → seen w.now out.new i j
+        ≡ cond (j == b && (nat_le (a + from) i && nat_lt i (a + to))) (nth line.now (i - a)) (seen w.now out.old i j) }
+    ensures small { (greatest : ℕ) → AreSmall greatest line.now → IsBounded greatest out.old
+        → IsBounded greatest out.new }
+{
+    for k in from..to {
+        put(out, w, a + k, b, nth(line, k) as u16);
+    }
+}
+
+/// Lays a part of a line across an edge, which mostly is all of it.
+#[inline(always)]
 pub fn write_line(
     out: &mut [u16],
     w: &Window,
@@ -127,7 +148,9 @@ pub fn write_line(
     ensures small { (greatest : ℕ) → AreSmall greatest line.now → IsBounded greatest out.old
         → IsBounded greatest out.new }
 {
-    for k in from..to {
-        put(out, w, a + k, b, nth(line, k) as u16);
+    if from == 0 && to == 8 {
+        write_part(out, w, a, b, 0, 8, line);
+    } else {
+        write_part(out, w, a, b, from, to, line);
     }
 }

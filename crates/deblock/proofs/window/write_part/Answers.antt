@@ -1,6 +1,6 @@
 use Rattle.std.proofs.Common.{◌≡◌, arith}
 use Rattle.deblock.proofs.Laying.{line_more, line_none, line_end}
-use Rattle.deblock.proofs.window.write_line.Goals as goal
+use Rattle.deblock.proofs.window.write_part.Goals as goal
 
 pub loop-k-init : goal.loop-k-init
 loop-k-init c = record {

@@ -3,7 +3,7 @@ use Rattle.std.specs.Prelude.{◌==◌}
 use Rattle.spec_deblocking.specs.Lines.{nth}
 use Rattle.deblock.specs.Samples.{AreSmall, IsBounded}
 use Rattle.deblock.specs.Windows.{holds, seen}
-use Rattle.deblock.proofs.window.write_line.Given as goal
+use Rattle.deblock.proofs.window.write_part.Given as goal
 
 abbrev pub invariant-loop-k : goal.invariant-loop-k
 invariant-loop-k l = record {
