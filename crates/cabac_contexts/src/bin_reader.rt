@@ -90,11 +90,7 @@ impl<'a> BinReader<'a> {
         ensures value { Takes (λ x. x) result self.old self.new (fixed n) }
         ensures small { IfOk result (λ value. value < 2 ^ n) }
     {
-        let mut value = 0;
-        for _ in 0..n {
-            value = 2 * value + u32::from(self.bypass()?);
-        }
-        Ok(value)
+        self.interval.bypass_bins(n).ok_or(DATA_END)
     }
 
     /// How many bypass bins are 1 before the first 0; the breach where 32 are.

@@ -1,4 +1,5 @@
 pub mod Reading
 pub mod Stepping
+pub mod Bypasses
 pub mod Held
 pub mod Trailing

@@ -8,7 +8,7 @@ use Rattle.spec_bits.proofs.Numbers.{doubled_below}
 use Rattle.spec_bits.proofs.Places.{drop-bits_at}
 use Rattle.spec_bits.specs.Bits.{u_at}
 use Rattle.spec_cabac.specs.Engine.{Engine, left, number_at}
-use Rattle.cabac_engine.specs.Ahead.{Ahead}
+use Rattle.cabac_engine.specs.Ahead.{Ahead, engine}
 
 -- the value so far and the bits to come spell the whole
 pub record ReadsOn (value n i at : ℕ) (bytes : List ℕ) : Type 0 where
@@ -34,10 +34,6 @@ ReadsOn-bit value n i at next bytes b d place bit is lt inside r =
           ∙ r.told);
       small = rw is (doubled_below value i b r.small);
     }
-
--- an engine over a register
-abbrev pub engine : ℕ → Ahead → Engine
-engine range a = record { range = range; offset = a.offset; bits = a.bits; at = a.at }
 
 -- a number where bits lack, and where they are there
 pub number_none : (n : ℕ) (e : Engine) → nat_le n (length e.bits - e.at) ≡ false → number_at n e ≡ None

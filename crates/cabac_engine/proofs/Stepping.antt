@@ -7,9 +7,9 @@ use Rattle.std.proofs.lemmas.Bool.{leb-true, leb-false}
 use Rattle.spec_bits.specs.Bits.{number_of}
 use Rattle.spec_cabac.specs.Engine.{Engine, IsLive, doublings, renormalized_at, bypass_at, started_at}
 use Rattle.spec_cabac.proofs.Renormalization.{Doubled-range, scaled_below}
-use Rattle.cabac_engine.specs.Ahead.{Ahead, lengthened, reduced}
+use Rattle.cabac_engine.specs.Ahead.{Ahead, lengthened, reduced, engine}
 use Rattle.cabac_engine.proofs.Held.{spelled_below}
-use Rattle.cabac_engine.proofs.Reading.{Same, engine, number_none, number_some}
+use Rattle.cabac_engine.proofs.Reading.{Same, number_none, number_some}
 
 pub renormalized_none : (range offset : ℕ) (e : Engine) → false ≡ nat_le (doublings range) (length e.bits - e.at)
     → renormalized_at range offset e ≡ None
@@ -67,7 +67,7 @@ pub bypass_none : (e : Engine) → false ≡ nat_le 1 (length e.bits - e.at) →
 unfolding bypass_at
 bypass_none e few = rw (number_none 1 e (sym few)) refl
 
-bypasses_if : (range : ℕ) (a : Ahead) (test : Bool) → nat_le range (lengthened a) ≡ test
+pub bypasses_if : (range : ℕ) (a : Ahead) (test : Bool) → nat_le range (lengthened a) ≡ test
     → true ≡ nat_le 1 (length a.bits - a.at)
     → bypass_at (engine range a)
     ≡ Some (test, record { range = range; offset = reduced range (lengthened a); bits = a.bits; at = a.at + 1 })

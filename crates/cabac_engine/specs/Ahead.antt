@@ -2,6 +2,7 @@
 use Rattle.std.specs.Prelude.{◌≡◌, ℕ, ◌+◌, ◌-◌, ◌*◌, ◌/◌, ◌%◌, ◌^◌, ◌<◌, ◌≤◌, Bool, List, length, take, drop, nat_le}
 use Rattle.std.specs.Prelude.{if◌then◌else◌}
 use Rattle.spec_bits.specs.Bits.{bits, number_of}
+use Rattle.spec_cabac.specs.Engine.{Engine}
 
 -- ivlOffset, how many bits are read ahead, the bits of the substream, and the place of the one that is read next
 pub record Ahead : Type 0 where
@@ -31,3 +32,7 @@ reduced range number = if nat_le range number then number - range else number
 abbrev pub ahead : ℕ → ℕ → ℕ → List ℕ → Ahead
 ahead value held next bytes =
     record { offset = value / 2 ^ held; held = held; bits = bits bytes; at = 8 * next - held }
+
+-- the engine of a range and a register
+abbrev pub engine : ℕ → Ahead → Engine
+engine range a = record { range = range; offset = a.offset; bits = a.bits; at = a.at }

@@ -5,7 +5,7 @@ ghost use Rattle.std.specs.Prelude.{false};
 ghost use Rattle.spec_bits.specs.Bits.{bits, Finds, Gives};
 ghost use Rattle.spec_cabac.specs.Engine.{Engine, IsLive, start_at, doublings, renormalized_at, decision_at, bypass_at};
 ghost use Rattle.spec_cabac.specs.Engine.{terminate_at, number_at, pcm_start_at, sample_at, pcm_end_at, is_trailing};
-ghost use Rattle.cabac_engine.specs.Steps.{Steps, state_of};
+ghost use Rattle.cabac_engine.specs.Steps.{Steps, state_of, bypasses_after};
 
 use crate::register::Register;
 use spec_cabac::{after_lps, after_mps, lps_range};
@@ -86,6 +86,21 @@ impl<'a> Interval<'a> {
             return None;
         }
         Some(self.register.halve(self.range))
+    }
+
+    /// The number that `n` bypass bins spell, the greatest digit first; `None` where one of them lacks bits.
+    #[inline(always)]
+    pub fn bypass_bins(&mut self, n: u32) -> Option<u32>
+        requires live { IsLive self.old }
+        requires few { n ≤ 32 }
+        ensures value { Gives result self.old self.new (bypasses_after n 0 self.old) }
+        ensures live { OnSome result (IsLive self.new) }
+        ensures small { IfSome result (λ value. value < 2 ^ n) }
+    {
+        if !self.register.has(n) {
+            return None;
+        }
+        Some(self.register.halve_times(self.range, n))
     }
 
     /// A bin before termination (9.3.4.3.5). After a 1 no bin may be asked before the engine starts anew.

@@ -1,9 +1,10 @@
 //! The offset of an interval and the bits that are read ahead, in one word.
 
-ghost use Rattle.std.specs.Prelude.{◌≡◌, ◌+◌, ◌-◌, ◌*◌, ◌/◌, ◌%◌, ◌^◌, ◌<◌, ◌≤◌, length, take, drop, nat_le, ℕ};
+ghost use Rattle.std.specs.Prelude.{◌≡◌, ◌+◌, ◌-◌, ◌*◌, ◌/◌, ◌%◌, ◌^◌, ◌<◌, ◌≤◌, length, take, drop, nat_le, ℕ, Some};
 ghost use Rattle.spec_bits.specs.Bits.{bits, number_of};
-ghost use Rattle.spec_cabac.specs.Engine.{is_stop};
-ghost use Rattle.cabac_engine.specs.Ahead.{lengthened, reduced};
+ghost use Rattle.spec_cabac.specs.Engine.{IsLive, is_stop};
+ghost use Rattle.cabac_engine.specs.Ahead.{lengthened, reduced, engine};
+ghost use Rattle.cabac_engine.specs.Steps.{bypasses_after};
 
 use crate::places::{byte_at, is_stop, number_at};
 use std::marker::Model;
@@ -214,6 +215,8 @@ impl<'a> Register<'a> {
         ensures offset { self.new.offset ≡ reduced range (lengthened self.old) }
         ensures bits { self.new.bits ≡ self.old.bits }
         ensures at { self.new.at ≡ self.old.at + 1 }
+        ensures held { self.new.held + 1 ≡ self.old.held }
+        ensures inside { self.old.at < length self.old.bits }
     {
         self.held -= 1;
         let scaled = u64::from(range) << self.held;
@@ -222,5 +225,22 @@ impl<'a> Register<'a> {
             self.value -= scaled;
         }
         bin
+    }
+
+    /// Halves `n` times: the number that the bins spell, the greatest digit first.
+    #[inline(always)]
+    pub(crate) fn halve_times(&mut self, range: u32, n: u32) -> u32
+        requires few { n ≤ 32 }
+        requires held { n ≤ self.old.held }
+        requires live { IsLive (engine range self.old) }
+        ensures value { bypasses_after n 0 (engine range self.old) ≡ Some (result, engine range self.new) }
+        ensures live { IsLive (engine range self.new) }
+        ensures small { result < 2 ^ n }
+    {
+        let mut value = 0;
+        for _ in 0..n {
+            value = 2 * value + u32::from(self.halve(range));
+        }
+        value
     }
 }

@@ -1,6 +1,7 @@
 use Rattle.std.proofs.Common.{sym, subst, ◌∙◌}
 use Rattle.spec_cabac.specs.Engine.{IsLive}
-use Rattle.cabac_engine.proofs.Reading.{Same, engine, same_view}
+use Rattle.cabac_engine.specs.Ahead.{engine}
+use Rattle.cabac_engine.proofs.Reading.{Same, same_view}
 use Rattle.cabac_engine.proofs.Stepping.{bypass_none, bypasses, bypass_live}
 use Rattle.cabac_engine.proofs.interval.Interval.bypass.Goals as goal
 

@@ -1,5 +1,6 @@
 use Rattle.std.proofs.Common.{sym, ◌∙◌}
-use Rattle.cabac_engine.proofs.Reading.{Same, engine, same_view}
+use Rattle.cabac_engine.specs.Ahead.{engine}
+use Rattle.cabac_engine.proofs.Reading.{Same, same_view}
 use Rattle.cabac_engine.proofs.Stepping.{started_none, starts}
 use Rattle.cabac_engine.proofs.interval.Interval.pcm_end.Goals as goal
 

@@ -1,6 +1,7 @@
 use Rattle.std.proofs.Common.{◌+◌, length, arith, sym, ap, ◌∙◌}
 use Rattle.std.proofs.lemmas.Bool.{leb-true}
-use Rattle.cabac_engine.proofs.Reading.{Same, engine, same_view, numbered, number_none}
+use Rattle.cabac_engine.specs.Ahead.{engine}
+use Rattle.cabac_engine.proofs.Reading.{Same, same_view, numbered, number_none}
 use Rattle.cabac_engine.proofs.interval.Interval.pcm_sample.Goals as goal
 
 pub returns-then-not-has-clause-value : goal.returns-then-not-has-clause-value

@@ -1,4 +1,5 @@
-use Rattle.std.proofs.Common.{◌≡◌, ◌<◌, ◌≤◌, nat_le, ℕ, List, arith, ap, ◌∙◌}
+use Rattle.std.proofs.Common.{◌≡◌, ◌<◌, ◌≤◌, nat_le, ℕ, List, length, arith, ap, ◌∙◌}
+use Rattle.spec_bits.proofs.Places.{length-bits}
 use Rattle.cabac_engine.specs.Ahead.{Ahead, IsKept, ahead, lengthened, reduced}
 use Rattle.cabac_engine.proofs.Held.{halved, Halved}
 use Rattle.cabac_engine.proofs.register.Register.halve.Goals as goal
@@ -54,3 +55,21 @@ returns-else-bin-clause-offset c =
     c.self.inside.bytes.now c.args.self.now c.self.view_is c.from.ensures c.self.invariant c.requires.held
     c.requires.below c.requires.small).under c.if-bin.false).top ∙ ap (λ x. reduced x w) c.from.ensures
     ∙ ap (λ (a : Ahead). reduced c.args.range (lengthened a)) c.self.view_is
+
+left : (value held next : ℕ) (bytes : List ℕ) (a : Ahead) → ahead value held next bytes ≡ a
+    → IsKept value held next bytes → 1 ≤ a.held → a.at < length a.bits
+left value held next bytes a view kept some =
+    let held_is = ap (λ (x : Ahead). x.held) view in
+    let at_is = ap (λ (x : Ahead). x.at) view in
+    let all = ap (λ (x : Ahead). length x.bits) view in
+    omega (arith, held_is, at_is, all, length-bits bytes, kept.inside, kept.behind)
+
+pub returns-then-bin-clause-inside : goal.returns-then-bin-clause-inside
+returns-then-bin-clause-inside c =
+    left c.self.inside.value c.self.inside.held c.self.inside.next c.self.inside.bytes.now c.args.self.now
+    c.self.view_is c.self.invariant c.requires.held
+
+pub returns-else-bin-clause-inside : goal.returns-else-bin-clause-inside
+returns-else-bin-clause-inside c =
+    left c.self.inside.value c.self.inside.held c.self.inside.next c.self.inside.bytes.now c.args.self.now
+    c.self.view_is c.self.invariant c.requires.held
