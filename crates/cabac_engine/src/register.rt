@@ -221,9 +221,7 @@ impl<'a> Register<'a> {
         self.held -= 1;
         let scaled = u64::from(range) << self.held;
         let bin = scaled <= self.value;
-        if bin {
-            self.value -= scaled;
-        }
+        self.value = if bin { self.value - scaled } else { self.value };
         bin
     }
 
