@@ -19,7 +19,7 @@ use Rattle.spec_transforms.specs.Scaling.{Is16, clip16, rounded}
 use Rattle.spec_transforms.specs.Transforms.{sum_below, IsResidual}
 use Rattle.spec_transforms.proofs.Entries.{tested}
 use Rattle.spec_transforms.proofs.Sums.{IsWithin, sum_within}
-use Rattle.residual_transform.specs.Sums.{IsEntry, IsMatrix, IsPartialSum, IsSum}
+use Rattle.residual_transform.specs.Sums.{IsEntry, IsHalfSum, IsMatrix, IsPartialSum, IsSum}
 
 within : (z : ℤ) (n : ℕ) → unsigned_abs z ≤ n → IsWithin n z
 within (pos z) n h = (omega (arith, ints), omega (arith, ints))
@@ -54,7 +54,31 @@ column_within entries values stride size n j column matrix small long few inside
     let v : size * k + column < size * size = grind (arith, rows) in
     product_within _ _ (matrix.small (stride * k + j) (pos 0) e) (small (size * k + column) (pos 0) (omega arith)))
 
--- what such a sum is, of up to 31 products and of up to 32
+-- a value in every other row
+pub every_other : (values : List ℤ) (size half first k column : ℕ) → All Is16 values → size * size ≤ length values →
+    2 * half ≡ size → first < 2 → k < half → column < size → Is16 (at values (size * (2 * k + first) + column))
+every_other values size half first k column small long halves one below beside =
+    let k_in : 2 * k + first < size = omega arith in
+    let v : size * (2 * k + first) + column < size * size = grind (arith, rows) in
+    small (size * (2 * k + first) + column) (pos 0) (omega (arith, v, long))
+
+-- and of the first n products of every other row
+pub half_within : (entries values : List ℤ) (stride size half first n j column : ℕ) → IsMatrix entries stride size →
+    All Is16 values → size * size ≤ length values →
+    2 * half ≡ size → first < 2 → n ≤ half → j < half → column < size
+    → IsWithin (2949120 * n)
+    (sum_below n (λ k. matrix_in entries stride (2 * k + first) j *ℤ at values (size * (2 * k + first) + column)))
+half_within entries values stride size half first n j column matrix small long halves one few inside beside =
+    sum_within 2949120 n _ (λ k below.
+    let k_in : 2 * k + first < size = omega arith in
+    let e : stride * (2 * k + first) + j < length entries = (let i = matrix.inside (2 * k + first) k_in in omega arith) in
+    product_within _ _ (matrix.small (stride * (2 * k + first) + j) (pos 0) e)
+    (every_other values size half first k column small long halves one (omega arith) beside))
+
+-- what such a sum is, of up to 16 products, of up to 31 and of up to 32
+pub is_half_sum : (n : ℕ) (z sum : ℤ) → z ≡ sum → IsWithin (2949120 * n) sum → n ≤ 16 → IsHalfSum z
+is_half_sum n z sum is small few = rw is (omega (arith, ints, small), omega (arith, ints, small))
+
 pub is_partial_sum : (n size : ℕ) (z sum : ℤ) → z ≡ sum → IsWithin (2949120 * n) sum → n < size → size ≤ 32
     → IsPartialSum z
 is_partial_sum n size z sum is small below few = rw is (omega (arith, ints, small), omega (arith, ints, small))

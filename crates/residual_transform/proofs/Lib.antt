@@ -1,4 +1,5 @@
 pub mod Bounds
 pub mod Eights
 pub mod Fewer
+pub mod Parity
 pub mod Tables

@@ -2,6 +2,7 @@
 #![tactic(auto)]
 
 mod filled;
+mod halves;
 mod matrix;
 mod products;
 mod scaling;

@@ -35,10 +35,10 @@ pub fn column_sums<const SIZE: usize>(
     sums
 }
 
-/// Adds a row of a matrix, times a coefficient, to sums.
+/// Adds a row of a matrix, or the beginning of one, times a coefficient, to sums.
 #[inline(always)]
-fn add_row<const SIZE: usize>(sums: &mut [i32; SIZE], row: &[i32], coefficient: i32)
-    requires count { length row.now ≡ SIZE }
+pub fn add_row<const SIZE: usize>(sums: &mut [i32; SIZE], row: &[i32], coefficient: i32)
+    requires count { SIZE ≤ length row.now }
     requires entries { All IsEntry row.now }
     requires coefficient { Is16 coefficient }
     requires sums { (j : ℕ) → j < SIZE → IsPartialSum (at sums.old j) }

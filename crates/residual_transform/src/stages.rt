@@ -9,6 +9,7 @@ ghost use Rattle.spec_transforms.specs.Transforms.{sum_below, transformed};
 ghost use Rattle.residual_transform.specs.Sums.{IsMatrix, IsSum};
 
 use crate::filled::{filled_columns, filled_rows};
+use crate::halves::column_halves;
 use crate::matrix::{Matrix, matrix_of};
 use crate::products::{column_sums, held, residual_of};
 
@@ -29,22 +30,23 @@ pub fn inverse(d: &[i32], log2: u32, dst: bool, depth: u32, out: &mut [i32])
 {
     let matrix = matrix_of(dst, log2);
     match log2 {
-        2 => transform::<4, 16>(d, &matrix, depth, out),
-        3 => transform::<8, 64>(d, &matrix, depth, out),
-        4 => transform::<16, 256>(d, &matrix, depth, out),
-        _ => transform::<32, 1024>(d, &matrix, depth, out),
+        2 => transform::<4, 2, 16>(d, &matrix, depth, out),
+        3 => transform::<8, 4, 64>(d, &matrix, depth, out),
+        4 => transform::<16, 8, 256>(d, &matrix, depth, out),
+        _ => transform::<32, 16, 1024>(d, &matrix, depth, out),
     }
 }
 
 /// Both stages, over the rows and columns that have coefficients. What is between them stands column after column, so
 /// that the second reads its rows as columns.
-fn transform<const SIZE: usize, const AREA: usize>(
+fn transform<const SIZE: usize, const HALF: usize, const AREA: usize>(
     d: &[i32],
     matrix: &Matrix<'_>,
     depth: u32,
     out: &mut [i32],
 )
     requires same { matrix.now.size ≡ SIZE }
+    requires half { 2 * HALF ≡ SIZE }
     requires area { SIZE * SIZE ≡ AREA }
     requires depth { IsDepth depth }
     requires matrix { IsMatrix matrix.now.entries.now matrix.now.stride SIZE }
@@ -59,8 +61,8 @@ fn transform<const SIZE: usize, const AREA: usize>(
     let rows = filled_rows::<SIZE>(d);
     let columns = filled_columns::<SIZE>(d, rows);
     let mut between = [0; AREA];
-    transform_columns::<SIZE, AREA>(d, matrix, Filled { rows, columns }, &mut between);
-    transform_rows::<SIZE, AREA>(&between, matrix, columns, depth, out);
+    transform_columns::<SIZE, HALF, AREA>(d, matrix, Filled { rows, columns }, &mut between);
+    transform_rows::<SIZE, HALF, AREA>(&between, matrix, columns, depth, out);
 }
 
 /// How many rows and columns have coefficients.
@@ -71,13 +73,14 @@ struct Filled {
 }
 
 /// The first stage; the column `x` stands at `size * x`.
-fn transform_columns<const SIZE: usize, const AREA: usize>(
+fn transform_columns<const SIZE: usize, const HALF: usize, const AREA: usize>(
     d: &[i32],
     matrix: &Matrix<'_>,
     filled: Filled,
     out: &mut [i32; AREA],
 )
     requires same { matrix.now.size ≡ SIZE }
+    requires half { 2 * HALF ≡ SIZE }
     requires area { SIZE * SIZE ≡ AREA }
     requires matrix { IsMatrix matrix.now.entries.now matrix.now.stride SIZE }
     requires coefficients { All Is16 d.now }
@@ -91,13 +94,13 @@ fn transform_columns<const SIZE: usize, const AREA: usize>(
     ensures small { All Is16 out.new }
 {
     for column in 0..filled.columns {
-        let sums = column_sums::<SIZE>(d, matrix, filled.rows, column);
+        let sums = sums_of::<SIZE, HALF>(d, matrix, filled.rows, column);
         store_held::<SIZE, AREA>(&sums, out, SIZE * column);
     }
 }
 
 /// The second stage over the columns that the first stored.
-fn transform_rows<const SIZE: usize, const AREA: usize>(
+fn transform_rows<const SIZE: usize, const HALF: usize, const AREA: usize>(
     g: &[i32; AREA],
     matrix: &Matrix<'_>,
     columns: usize,
@@ -105,6 +108,7 @@ fn transform_rows<const SIZE: usize, const AREA: usize>(
     out: &mut [i32],
 )
     requires same { matrix.now.size ≡ SIZE }
+    requires half { 2 * HALF ≡ SIZE }
     requires area { SIZE * SIZE ≡ AREA }
     requires depth { IsDepth depth }
     requires matrix { IsMatrix matrix.now.entries.now matrix.now.stride SIZE }
@@ -117,8 +121,33 @@ fn transform_rows<const SIZE: usize, const AREA: usize>(
     ensures small { All IsResidual out.new }
 {
     for line in 0..SIZE {
-        let sums = column_sums::<SIZE>(g, matrix, columns, line);
+        let sums = sums_of::<SIZE, HALF>(g, matrix, columns, line);
         store_residuals::<SIZE>(&sums, out, SIZE * line, depth);
+    }
+}
+
+/// The transform of a column: by halves, unless they are too short to gain from that.
+fn sums_of<const SIZE: usize, const HALF: usize>(
+    values: &[i32],
+    matrix: &Matrix<'_>,
+    count: usize,
+    column: usize,
+) -> [i32; SIZE]
+    requires half { 2 * HALF ≡ SIZE }
+    requires same { matrix.now.size ≡ SIZE }
+    requires matrix { IsMatrix matrix.now.entries.now matrix.now.stride SIZE }
+    requires column { column < SIZE }
+    requires count { count ≤ SIZE }
+    requires room { SIZE * SIZE ≤ length values.now }
+    requires values { All Is16 values.now }
+    ensures value { (j : ℕ) → j < SIZE → at result j ≡ sum_below count
+        (λ k. matrix_in matrix.now.entries.now matrix.now.stride k j *ℤ at values.now (SIZE * k + column)) }
+    ensures small { (j : ℕ) → j < SIZE → IsSum (at result j) }
+{
+    if SIZE > 4 {
+        column_halves::<SIZE, HALF>(values, matrix, count, column)
+    } else {
+        column_sums::<SIZE>(values, matrix, count, column)
     }
 }
 

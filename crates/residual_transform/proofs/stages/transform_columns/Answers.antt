@@ -17,7 +17,7 @@ loop-column-preserved g c = record {
       let earlier : g.row.SIZE * k + y < g.row.SIZE * c.loop-column.column = grind (arith, rows) in
       c.store_held.ensures.before _ earlier ∙ c.loop-column.invariant.told k y below inside)
       (λ y inside. c.store_held.ensures.here y inside
-      ∙ ap (λ (z : ℤ). clip16 (rounded 7 z)) (c.column_sums-sums.ensures.value y inside))
+      ∙ ap (λ (z : ℤ). clip16 (rounded 7 z)) (c.sums_of-sums.ensures.value y inside))
       x h y inside;
   small = c.store_held.ensures.small;
 }

@@ -18,7 +18,7 @@ loop-line-preserved g c = record {
       let earlier : g.row.SIZE * k + x < g.row.SIZE * c.loop-line.line = grind (arith, rows) in
       c.store_residuals.ensures.before _ earlier ∙ c.loop-line.invariant.told x k inside below)
       (λ x inside. c.store_residuals.ensures.here x inside
-      ∙ ap (λ (z : ℤ). residual_of c.args.depth z) (c.column_sums-sums.ensures.value x inside))
+      ∙ ap (λ (z : ℤ). residual_of c.args.depth z) (c.sums_of-sums.ensures.value x inside))
       y h x inside;
   small =
       one_more_line g.row.SIZE c.loop-line.line c.store_residuals.new.out c.loop-line.out
