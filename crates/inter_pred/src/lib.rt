@@ -20,7 +20,7 @@ mod width;
 mod window;
 
 pub use block::{Block, chroma, luma};
-pub use line::{clamped, clamped_line};
+pub use line::{clamped, held_line};
 pub use prediction::Prediction;
 pub use reference::RefWindow;
 pub use scratch::Scratch;

@@ -1,6 +1,6 @@
 //! A line of a picture, read at any column.
 
-ghost use Rattle.std.specs.Prelude.{◌≡◌, ◌<◌, ◌≤◌, ◌+◌, ℕ, ℤ, pos, negsuc, ◌+ℤ◌, ◌≤ℤ◌, length};
+ghost use Rattle.std.specs.Prelude.{◌≡◌, ◌<◌, ◌≤◌, ◌+◌, ℕ, ℤ, pos, negsuc, ◌+ℤ◌, ◌≤ℤ◌, length, min};
 ghost use Rattle.spec_inter_prediction.specs.Taps.{clamped};
 ghost use Rattle.inter_pred.specs.Passes.{at};
 
@@ -16,40 +16,42 @@ pub fn clamped(v: i32, side: u32) -> u32
     v.clamp(0, side as i32 - 1) as u32
 }
 
-/// The samples of a line from a column on; outside the line the nearest one inside.
-pub fn clamped_line(line: &[u16], x: i32, out: &mut [u16])
+/// The samples of a line from a column on, held to a greatest one; outside the line the nearest one inside.
+pub fn held_line(line: &[u16], x: i32, greatest: u16, out: &mut [u16])
     requires some_line { 0 < length line.now }
     requires line { length line.now ≤ 65536 }
     requires count { length out.old ≤ 71 }
     requires place { x ≤ℤ pos 1073741824 }
-    ensures { (k : ℕ) → k < length out.old → at out.new k ≡ at line.now (clamped (x +ℤ pos k) (length line.now)) }
+    ensures { (k : ℕ) → k < length out.old
+        → at out.new k ≡ min (at line.now (clamped (x +ℤ pos k) (length line.now))) greatest }
 {
     if 0 <= x && x as usize + out.len() <= line.len() {
-        copy_line(line, x as usize, out);
+        copy_line(line, x as usize, greatest, out);
     } else {
-        outside_line(line, x, out);
+        outside_line(line, x, greatest, out);
     }
 }
 
 /// Samples of a line from a place on.
-fn copy_line(line: &[u16], from: usize, out: &mut [u16])
+fn copy_line(line: &[u16], from: usize, greatest: u16, out: &mut [u16])
     requires { from + length out.old ≤ length line.now }
-    ensures { (k : ℕ) → k < length out.old → at out.new k ≡ at line.now (from + k) }
+    ensures { (k : ℕ) → k < length out.old → at out.new k ≡ min (at line.now (from + k)) greatest }
 {
     for k in 0..out.len() {
-        out[k] = line[from + k];
+        out[k] = line[from + k].min(greatest);
     }
 }
 
 /// The same where some of the places are outside.
-fn outside_line(line: &[u16], x: i32, out: &mut [u16])
+fn outside_line(line: &[u16], x: i32, greatest: u16, out: &mut [u16])
     requires some_line { 0 < length line.now }
     requires line { length line.now ≤ 65536 }
     requires count { length out.old ≤ 71 }
     requires place { x ≤ℤ pos 1073741824 }
-    ensures { (k : ℕ) → k < length out.old → at out.new k ≡ at line.now (clamped (x +ℤ pos k) (length line.now)) }
+    ensures { (k : ℕ) → k < length out.old
+        → at out.new k ≡ min (at line.now (clamped (x +ℤ pos k) (length line.now))) greatest }
 {
     for k in 0..out.len() {
-        out[k] = line[clamped(x + k as i32, line.len() as u32) as usize];
+        out[k] = line[clamped(x + k as i32, line.len() as u32) as usize].min(greatest);
     }
 }

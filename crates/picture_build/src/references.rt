@@ -10,7 +10,7 @@ ghost use Rattle.spec_picture_samples.specs.References.{pictures_of, reference_s
 ghost use Rattle.spec_reconstruction.specs.declared.format.UnitFormat.{UnitFormat};
 ghost use Rattle.spec_reconstruction.specs.Sound.{IsFormat};
 
-use inter_pred::{RefWindow, clamped, clamped_line};
+use inter_pred::{RefWindow, clamped, held_line};
 use picture_buffer::{Bases, Picture, Planes};
 
 /// The pictures of the decoded picture buffer, by their places.
@@ -55,7 +55,6 @@ fn picture_row(picture: &Picture, c: usize, x: i32, y: i32, out: &mut [u16])
     let planes = picture.planes();
     if has_samples(planes, c) {
         clamped_row(planes, c, x, y, out);
-        hold(out);
     } else {
         clear(out);
     }
@@ -70,7 +69,8 @@ fn has_samples(planes: &Planes, c: usize) -> bool
     c < 3 && planes.width(c) > 0 && planes.height(c) > 0
 }
 
-/// The samples of a line of component `c` from a column on, both clamped into the picture.
+/// The samples of a line of component `c` from a column on, both clamped into the picture, and the samples held to 8
+/// bits, which none that was decoded exceeds.
 fn clamped_row(planes: &Planes, c: usize, x: i32, y: i32, out: &mut [u16])
     requires component { c < 3 }
     requires columns { (0 < plane_width planes.now c) × (plane_width planes.now c ≤ 65536) }
@@ -79,20 +79,11 @@ fn clamped_row(planes: &Planes, c: usize, x: i32, y: i32, out: &mut [u16])
     requires place { x ≤ℤ pos 1073741824 }
     ensures { (k : ℕ) → k < length out.old
         → at out.new k
-        ≡ samples_of planes.now c (clamped (x +ℤ pos k) (plane_width planes.now c))
-        (clamped y (plane_height planes.now c)) }
+        ≡ min (samples_of planes.now c (clamped (x +ℤ pos k) (plane_width planes.now c))
+        (clamped y (plane_height planes.now c))) 255 }
 {
     let line = planes.row(c, clamped(y, planes.height(c)));
-    clamped_line(line, x, out);
-}
-
-/// Samples held to 8 bits, which none that was decoded exceeds.
-fn hold(line: &mut [u16])
-    ensures { (k : ℕ) → k < length line.old → at line.new k ≡ min (at line.old k) 255 }
-{
-    for k in 0..line.len() {
-        line[k] = line[k].min(255);
-    }
+    held_line(line, x, 255, out);
 }
 
 /// Samples where there is no picture.

@@ -12,7 +12,7 @@ returns c k lt =
     let fx : SFits w32 c.args.x = search rules in
     let fy : SFits w32 c.args.y = search rules in
     let inside = clamped_below (c.args.x +ℤ pos k) (plane_width c.args.planes.now c.args.c) c.requires.columns.0 in
-    let told = c.clamped_line.ensures k lt in
+    let told = c.held_line.ensures k lt in
     let line =
     c.row-line.ensures.samples (clamped (c.args.x +ℤ pos k) (plane_width c.args.planes.now c.args.c)) inside in
     grind (arith, to_z-of_z, told, line, c.row-line.ensures.count, c.clamped.ensures.value, c.height.ensures)

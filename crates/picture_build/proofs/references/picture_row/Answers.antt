@@ -1,4 +1,4 @@
-use Rattle.std.proofs.Common.{◌≡◌, ◌<◌, ◌+ℤ◌, pos, length, ap, ◌∙◌, rules, arith}
+use Rattle.std.proofs.Common.{◌≡◌, ◌<◌, ◌+ℤ◌, pos, ap, min, rules, arith}
 use Rattle.std.proofs.lemmas.Int.{to_z-of_z}
 use mir.Val.{SFits}
 use mir.Syntax.{w32}
@@ -13,20 +13,18 @@ returns-then-has_samples c = λ k lt.
     let fx : SFits w32 c.args.x = search rules in
     let fy : SFits w32 c.args.y = search rules in
     let three : c.args.c < 3 = search rules in
-    let within : k < length c.clamped_row.new.out = search rules in
     let read = c.clamped_row.ensures k lt in
     let told : at c.clamped_row.new.out k
-    ≡ samples_of c.planes-planes.result.now c.args.c
+    ≡ min (samples_of c.planes-planes.result.now c.args.c
     (clamped (c.args.x +ℤ pos k) (plane_width c.planes-planes.result.now c.args.c))
-    (clamped c.args.y (plane_height c.planes-planes.result.now c.args.c)) =
+    (clamped c.args.y (plane_height c.planes-planes.result.now c.args.c))) 255 =
     grind (arith, to_z-of_z, read) in
     sample_held c.args.picture.now c.args.c (c.args.x +ℤ pos k) c.args.y _ _ three c.planes-planes.ensures.sides
     c.format.ensures.format
-    (told
-    ∙ ap (λ (q : PictureSamples). samples_of q c.args.c (clamped (c.args.x +ℤ pos k) (plane_width q c.args.c))
+    (ap (λ (q : PictureSamples). samples_of q c.args.c (clamped (c.args.x +ℤ pos k) (plane_width q c.args.c))
     (clamped c.args.y (plane_height q c.args.c)))
     c.planes-planes.ensures.value)
-    (c.hold.ensures k within)
+    told
 
 pub returns-else-has_samples : goal.returns-else-has_samples
 returns-else-has_samples c = λ k lt.

@@ -4,7 +4,7 @@ use Rattle.std.specs.Int.RustNames.{unsigned_abs}
 use mir.Val.{SFits}
 use mir.Syntax.{w32}
 use Rattle.inter_pred.proofs.Inside.{clamped_inside}
-use Rattle.inter_pred.proofs.line.clamped_line.Goals as goal
+use Rattle.inter_pred.proofs.line.held_line.Goals as goal
 
 pub returns-then-x-out : goal.returns-then-x-out
 returns-then-x-out c k lt =
