@@ -12,6 +12,7 @@ use crate::picture::decode_picture;
 use header_types::PictureFormat;
 use hv_base::Outcome;
 use hv_io::Sink;
+use loop_filters::FilterScratch;
 use picture_buffer::{Bases, Picture};
 use plan_types::PicturePlan;
 use std::alloc::Global;
@@ -26,6 +27,8 @@ pub(crate) struct Buffer {
     pictures: Bases,
     /// Pictures that left it, in whose memory later ones of their size are kept.
     spares: Bases,
+    /// Memory in which they are filtered.
+    scratch: FilterScratch,
 }
 
 impl Model for Buffer {
@@ -46,6 +49,7 @@ impl Buffer {
             alloc,
             pictures: Bases::new(alloc),
             spares: Bases::new(alloc),
+            scratch: FilterScratch::new(alloc),
         }
     }
 
@@ -54,7 +58,8 @@ impl Buffer {
         ensures { Enters self.old self.new (decoded_picture (buffer_of self.old) picture.now) result }
     {
         let spare = take_spare(self.alloc, &mut self.spares, &picture.sps.fields().format);
-        let decoded = decode_picture(self.alloc, picture, &self.pictures, spare)?;
+        let scratch = &mut self.scratch;
+        let decoded = decode_picture(self.alloc, picture, &self.pictures, spare, scratch)?;
         match self.pictures.push(decoded) {
             Ok(()) => Ok(()),
             Err(_) => Err(Outcome::Memory),

@@ -14,7 +14,8 @@ use spec_loop_filters::FilterFormat;
 use std::alloc::{AllocError, Global};
 use std::marker::Model;
 
-/// Room for the samples of a component before and between its filters. Contracts see for how many.
+/// Room for the samples of a component before and between its filters, which serves one picture after the other.
+/// Contracts see for how many, and nothing of what stands in it.
 #[derive(Drop)]
 pub struct FilterScratch {
     samples: Vec<u16>,
@@ -22,24 +23,36 @@ pub struct FilterScratch {
 }
 
 impl Model for FilterScratch {
-    ghost use Rattle.std.specs.Prelude.{◌≡◌, ℕ, vec_len};
+    ghost use Rattle.std.specs.Prelude.{◌≤◌, ℕ, vec_len};
 
     ghost Value = { ℕ };
 
     ghost view = { λ s. vec_len s.samples };
 
-    ghost invariant = { λ s. vec_len s.between ≡ vec_len s.samples };
+    ghost invariant = { λ s. vec_len s.samples ≤ vec_len s.between };
 }
 
 impl FilterScratch {
-    /// Room for pictures of `width` times `height` luma samples.
-    pub fn new(alloc: Global, width: u32, height: u32) -> Result<FilterScratch, AllocError>
+    /// Room for no sample. It takes no memory.
+    pub fn new(alloc: Global) -> FilterScratch {
+        FilterScratch {
+            samples: Vec::new(alloc),
+            between: Vec::new(alloc),
+        }
+    }
+
+    /// Room for pictures of `width` times `height` luma samples: what there was, where it is enough.
+    pub fn fitted(self, alloc: Global, width: u32, height: u32) -> Result<FilterScratch, AllocError>
         requires columns { width ≤ 8192 }
         requires rows { height ≤ 8192 }
         ensures { IfOk result (λ s. HasRoom s width height) }
     {
-        let samples = vec![in alloc; 0; width as usize * height as usize]?;
-        let between = vec![in alloc; 0; width as usize * height as usize]?;
+        let count = width as usize * height as usize;
+        if count <= self.samples.len() {
+            return Ok(self);
+        }
+        let samples = vec![in alloc; 0; count]?;
+        let between = vec![in alloc; 0; count]?;
         Ok(FilterScratch { samples, between })
     }
 

@@ -24,6 +24,7 @@ use crate::spare::empty_parts;
 use crate::unit::Unit;
 use ctu_build::{Scratch, UnitSamples};
 use ctu_records::Records;
+use loop_filters::FilterScratch;
 use picture_buffer::{Bases, Picture, Planes};
 use picture_filters::PictureFilters;
 use picture_layout::{Layout, slice_address};
@@ -89,6 +90,7 @@ impl<'a, B: Buffer> PictureBuilder<'a, B> {
         plan: &'a PicturePlan,
         bases: &'a Bases,
         spare: Option<Picture>,
+        scratch: FilterScratch,
     ) -> Result<PictureBuilder<'a, B>, AllocError>
         requires { bases.now ≡ B.pictures }
         ensures built { IfOk result (λ b. IsBuilt (buffer_of B.pictures) b plan.now []) }
@@ -103,22 +105,23 @@ impl<'a, B: Buffer> PictureBuilder<'a, B> {
             format: common_format(alloc, plan)?,
             planes,
             motion: PictureMotion::over(plan, field),
-            filters: PictureFilters::new(alloc, plan)?,
+            filters: PictureFilters::new(alloc, plan, scratch)?,
             samples: UnitSamples::new(),
             scratch: Scratch::new(),
         })
     }
 
-    /// The picture behind its loop filters.
-    pub(crate) fn into_picture(self) -> Picture
+    /// The picture behind its loop filters, and the memory in which it was filtered.
+    pub(crate) fn into_picture(self) -> (Picture, FilterScratch)
         requires { (c x y : ℕ) → samples_of self.planes c x y ≤ greatest_sample self.plan.sps.format c }
-        ensures { decoded_of result ≡ decoded_by self.entry.plan (built_by self.entry) (data_of self.entry.filters) }
+        ensures { decoded_of result.0 ≡ decoded_by self.entry.plan (built_by self.entry) (data_of self.entry.filters) }
     {
         let mut planes = self.planes;
         let mut filters = self.filters;
         filters.filter(&mut planes);
         let format = self.plan.sps.fields().format;
-        Picture::new(format, planes, self.motion.into_field())
+        let picture = Picture::new(format, planes, self.motion.into_field());
+        (picture, filters.into_scratch())
     }
 
     /// The next unit, of the segment with this number.

@@ -6,6 +6,7 @@ ghost use Rattle.picture_build.specs.Pictures.{buffer_of};
 ghost use Rattle.spec_decoded_pictures.specs.Decoded.{picture_decoded};
 
 use crate::builder::{Buffer, PictureBuilder};
+use loop_filters::FilterScratch;
 use picture_buffer::{Bases, Picture};
 use picture_trees::{ReadError, read_picture};
 use plan_types::PicturePlan;
@@ -13,6 +14,7 @@ use spec_sample_ranges::built_samples_are_in_range;
 use spec_unit_ranges::units_that_are_read_are_sound;
 use std::alloc::Global;
 use std::marker::Brand;
+use std::mem;
 
 /// Reads and builds a picture over the pictures of the decoded picture buffer before it, and filters it: its samples
 /// and its motion. The error is the first rule that its data break, or want of memory, which is taken before the first
@@ -22,10 +24,11 @@ pub fn build_picture(
     plan: &PicturePlan,
     bases: &Bases,
     spare: Option<Picture>,
+    scratch: &mut FilterScratch,
 ) -> Result<Picture, ReadError>
     ensures { BuildsPicture result (picture_decoded (buffer_of bases.now) plan.now) }
 {
-    build_over::<Brand>(alloc, plan, bases, spare)
+    build_over::<Brand>(alloc, plan, bases, spare, scratch)
 }
 
 /// The same over a buffer that has a name.
@@ -34,17 +37,28 @@ fn build_over<B: Buffer>(
     plan: &PicturePlan,
     bases: &Bases,
     spare: Option<Picture>,
+    scratch: &mut FilterScratch,
 ) -> Result<Picture, ReadError>
     requires { bases.now ≡ B.pictures }
     ensures { BuildsPicture result (picture_decoded (buffer_of B.pictures) plan.now) }
 {
     units_that_are_read_are_sound();
     built_samples_are_in_range();
-    let Ok(mut builder) = PictureBuilder::<B>::new(alloc, plan, bases, spare) else {
+    let lent = lend(alloc, scratch);
+    let Ok(mut builder) = PictureBuilder::<B>::new(alloc, plan, bases, spare, lent) else {
         return Err(ReadError::Memory);
     };
     match read_picture(alloc, plan, &mut builder) {
-        Ok(()) => Ok(builder.into_picture()),
+        Ok(()) => {
+            let (picture, used) = builder.into_picture();
+            *scratch = used;
+            Ok(picture)
+        }
         Err(error) => Err(error),
     }
+}
+
+/// The memory itself, with none left in its place.
+fn lend(alloc: Global, scratch: &mut FilterScratch) -> FilterScratch {
+    mem::replace(scratch, FilterScratch::new(alloc))
 }

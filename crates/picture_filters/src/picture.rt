@@ -64,16 +64,20 @@ impl<'a> Model for PictureFilters<'a> {
 }
 
 impl<'a> PictureFilters<'a> {
-    /// A picture of which no unit is read. It takes memory, and no other call does.
+    /// A picture of which no unit is read, to be filtered in this memory. It takes memory, and no other call does.
     #[tactic(auto, unfolding(spec_picture_data::specs::Shapes::picture_shape))]
-    pub fn new(alloc: Global, plan: &'a PicturePlan) -> Result<PictureFilters<'a>, AllocError>
+    pub fn new(
+        alloc: Global,
+        plan: &'a PicturePlan,
+        scratch: FilterScratch,
+    ) -> Result<PictureFilters<'a>, AllocError>
         ensures plan { IfOk result (λ f. f.plan ≡ plan.now) }
         ensures value { IfOk result (λ f. data_of f ≡ no_data) }
     {
         let layout = Layout::new(plan);
         let places = PlaceField::new(alloc, layout.across(), layout.down())?;
         let units = UnitField::new(alloc, plan.sps.width_in_ctbs(), plan.sps.height_in_ctbs())?;
-        let scratch = scratch_for(alloc, plan)?;
+        let scratch = fitted(alloc, plan, scratch)?;
         Ok(PictureFilters {
             plan,
             layout,
@@ -143,15 +147,24 @@ impl<'a> PictureFilters<'a> {
             planes,
         );
     }
+
+    /// The memory in which the picture was filtered, for the next one.
+    pub fn into_scratch(self) -> FilterScratch {
+        self.scratch
+    }
 }
 
-/// Memory in which the samples of a picture are filtered.
-fn scratch_for(alloc: Global, plan: &PicturePlan) -> Result<FilterScratch, AllocError>
+/// Memory in which the samples of a picture are filtered: this one, where it is enough.
+fn fitted(
+    alloc: Global,
+    plan: &PicturePlan,
+    scratch: FilterScratch,
+) -> Result<FilterScratch, AllocError>
     ensures { IfOk result
         (λ s. HasRoom s plan.now.sps.format.pic_width_in_luma_samples plan.now.sps.format.pic_height_in_luma_samples) }
 {
     let format = &plan.sps.fields().format;
-    FilterScratch::new(
+    scratch.fitted(
         alloc,
         format.pic_width_in_luma_samples,
         format.pic_height_in_luma_samples,

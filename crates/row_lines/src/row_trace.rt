@@ -2,6 +2,7 @@
 
 use crate::plane_rows::print_rows;
 use hv_base::Stop;
+use loop_filters::FilterScratch;
 use picture_buffer::Bases;
 use picture_build::build_picture;
 use picture_lines::print_coded_picture;
@@ -60,7 +61,8 @@ fn print_decoded<W: Write>(
     plan: &PicturePlan,
     out: &mut W,
 ) -> io::Result<Option<Stop>> {
-    match build_picture(alloc, plan, &Bases::new(alloc), None) {
+    let mut scratch = FilterScratch::new(alloc);
+    match build_picture(alloc, plan, &Bases::new(alloc), None, &mut scratch) {
         Ok(picture) => {
             print_rows(picture.planes(), 1 << plan.sps.ctb_log2(), out)?;
             Ok(None)

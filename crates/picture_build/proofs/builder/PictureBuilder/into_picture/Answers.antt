@@ -25,8 +25,8 @@ returns g c =
     } in
     let format : PictureFormat = c.fields.result.now.format in
     let same : format ≡ c.self.inside.plan.now.sps.format = search rules in
-    let Q : Building → Type 0 = λ b. decoded_of c.new.result ≡ decoded_by b.plan (built_by b) (data_of b.filters) in
-    subst Q c.self.view_is (ap decoded_of c.new.ensures
+    let Q : Building → Type 0 = λ b. decoded_of c.new-picture.result ≡ decoded_by b.plan (built_by b) (data_of b.filters) in
+    subst Q c.self.view_is (ap decoded_of c.new-picture.ensures
     ∙ decoded_is building c.self.inside.layout format c.filter.new.planes c.into_field.result c.self.invariant.0
     c.self.invariant.2 c.self.invariant.3 c.self.invariant.7
     c.self.invariant.1 c.filter.ensures.sides same c.into_field.ensures c.filter.ensures.value)
