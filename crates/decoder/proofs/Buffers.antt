@@ -8,7 +8,7 @@ use Rattle.std.specs.Option.{option_map}
 use Rattle.std.proofs.Math.Seq.{take-length, drop-length}
 use Rattle.std.proofs.lemmas.List.{length-take-le, length-map, map-append}
 use Rattle.std.proofs.lemmas.List.Edits.{length-remove, remove-append_right}
-use Rattle.spec_picture_samples.specs.References.{DecodedPicture}
+use Rattle.spec_picture_build.specs.References.{DecodedPicture}
 use Rattle.spec_decoder.specs.Decoder.{is_among, kept_from, next_out, picture_out}
 use Rattle.picture_buffer.specs.Pictures.{HeldPicture}
 use Rattle.picture_build.specs.Pictures.{buffer_of, decoded_of}

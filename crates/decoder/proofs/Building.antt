@@ -7,8 +7,8 @@ use Rattle.picture_build.specs.Building.{BuildsPicture}
 use Rattle.picture_buffer.specs.Pictures.{HeldPicture}
 use Rattle.picture_trees.specs.declared.trees.ReadError.{ReadError}
 use Rattle.picture_trees.specs.declared.trees.ReadError.TheVariants as error
-use Rattle.spec_picture_data.specs.Picture.{PictureBroken}
-use Rattle.spec_picture_samples.specs.References.{DecodedPicture}
+use Rattle.spec_picture_trees.specs.Picture.{PictureBroken}
+use Rattle.spec_picture_build.specs.References.{DecodedPicture}
 use Rattle.spec_decoder.specs.Decoder.{decoded_data}
 use Rattle.decoder.specs.Headline.{outcome_of}
 use Rattle.decoder.specs.Pictures.{IsTold, IsRefused, DecodesAs}

@@ -6,17 +6,17 @@ use Rattle.hv_base.specs.declared.refusal.Stop.TheVariants as stop
 use Rattle.hv_base.specs.declared.fault.Fault.{Fault}
 use Rattle.hv_base.specs.declared.limit.Limit.{Limit}
 use Rattle.plan_types.specs.declared.picture_plan.PicturePlan.{PicturePlan}
-use Rattle.spec_units.specs.Judged.{Told, Broken, Met, told_of}
+use Rattle.spec_nal_units.specs.Judged.{Told, Broken, Met, told_of}
 use Rattle.plan_types.specs.declared.between.Between.{Between}
-use Rattle.spec_pictures.specs.Pictures.{beginning}
-use Rattle.spec_pictures.specs.Steps.{Stepped, step, close, closing, then_next}
-use Rattle.spec_pictures.specs.Planned as plan
-use Rattle.spec_pictures.specs.Planned.{Planned, behind_closed, planned_next, planned_from, planned_of, planned_end}
+use Rattle.spec_picture_plan.specs.Pictures.{beginning}
+use Rattle.spec_picture_plan.specs.Steps.{Stepped, step, close, closing, then_next}
+use Rattle.spec_picture_plan.specs.Planned as plan
+use Rattle.spec_picture_plan.specs.Planned.{Planned, behind_closed, planned_next, planned_from, planned_of, planned_end}
 use Rattle.picture_plan.specs.Flights.{Gathered, waiting, cut, with_pictures, cut_at_stop, pictures_of}
 use Rattle.picture_plan.specs.Plans.{Plans, Given, going_on, after_step, behind_unit, all_cut, at_end, halted}
 use Rattle.picture_plan.specs.Plans.{last_behind, stop_of}
 use Rattle.picture_plan.proofs.Pictures.{step-all, cut-all, cut-none}
-use Rattle.spec_picture_samples.specs.References.{DecodedPicture}
+use Rattle.spec_picture_build.specs.References.{DecodedPicture}
 use Rattle.spec_decoder.specs.Decoder.{decoded, decoded_from, finished}
 use Rattle.decoder.specs.Owed.{planned_behind, decoded_behind, owed_behind}
 

@@ -6,7 +6,7 @@ use Rattle.std.proofs.lemmas.Result.{err_from_is_err_and}
 use Rattle.hv_base.specs.declared.outcome.Outcome.{Outcome}
 use Rattle.hv_base.specs.declared.refusal.Stop.{Stop}
 use Rattle.plan_types.specs.declared.picture_plan.PicturePlan.{PicturePlan}
-use Rattle.spec_units.specs.Judged.{Told, Whole, Broken, Met, unit_of, told_of}
+use Rattle.spec_nal_units.specs.Judged.{Told, Whole, Broken, Met, unit_of, told_of}
 use Rattle.nal_stream.specs.declared.answer.Next.{Next}
 use Rattle.nal_stream.specs.declared.answer.Next.TheVariants as next
 use Rattle.nal_stream.specs.declared.framer.Framer.{Framer}
@@ -14,7 +14,7 @@ use Rattle.nal_stream.specs.Answers.{told_by}
 use Rattle.nal_stream.specs.Framing.{StandsFor, IsNext, with_answer}
 use Rattle.picture_plan.specs.Flights.{pictures_of}
 use Rattle.picture_plan.specs.Plans.{Plans, Given, behind_unit, at_end, halted, stop_of}
-use Rattle.spec_picture_samples.specs.References.{DecodedPicture}
+use Rattle.spec_picture_build.specs.References.{DecodedPicture}
 use Rattle.spec_decoder.specs.Decoder.{Decoded, decoded, decoded_from, finished}
 use Rattle.picture_buffer.specs.Pictures.{HeldPicture}
 use Rattle.picture_build.specs.Pictures.{buffer_of}

@@ -5,7 +5,7 @@ use Rattle.std.proofs.lemmas.List.{append_cancel_left}
 use Rattle.hv_base.specs.declared.fault.Fault.{Fault}
 use Rattle.hv_base.specs.declared.limit.Limit.{Limit}
 use Rattle.hv_base.specs.declared.nal.Nal.{Nal}
-use Rattle.spec_units.specs.Judged.{Told, Whole, Broken, Met, unit_of, told_of}
+use Rattle.spec_nal_units.specs.Judged.{Told, Whole, Broken, Met, unit_of, told_of}
 use Rattle.nal_stream.specs.declared.answer.Next.TheVariants as next
 use Rattle.nal_stream.specs.declared.framer.Framer.{Framer}
 use Rattle.nal_stream.specs.Framing.{History, StandsFor, CanGoOn, IsNext, with_answer, to_come}

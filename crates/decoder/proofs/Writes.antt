@@ -16,7 +16,7 @@ use Rattle.hv_io.specs.Streams.{Gains, GainsPrefix, Rose}
 use Rattle.hv_io.proofs.StreamLemmas.{Gains-nil, Gains-append, GainsPrefix-append, GainsPrefix-front}
 use Rattle.plan_types.specs.declared.picture_plan.PicturePlan.{PicturePlan}
 use Rattle.picture_plan.specs.Flights.{pictures_of}
-use Rattle.spec_picture_samples.specs.References.{DecodedPicture}
+use Rattle.spec_picture_build.specs.References.{DecodedPicture}
 use Rattle.spec_decoder.specs.Decoder.{Decoded, decoded_picture, next_out, out_at, kept_from, put_out, ended, entered}
 use Rattle.spec_decoder.specs.Decoder.{behind_picture, with_picture, decoded_from, finished, bytes_of}
 use Rattle.decoder.specs.Headline.{Change, IsQuiet, change_of, outcome_of}

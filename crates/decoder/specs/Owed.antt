@@ -1,13 +1,13 @@
 -- What is still owed of a stream while it is decoded.
 use Rattle.std.specs.Prelude.{◌≡◌, ℕ, suc, Bool, List, [], ◌++◌, length, None, Result, Ok, Err}
 use Rattle.hv_base.specs.declared.outcome.Outcome.{Outcome}
-use Rattle.spec_units.specs.Judged.{Told, told_of}
+use Rattle.spec_nal_units.specs.Judged.{Told, told_of}
 use Rattle.nal_stream.specs.declared.framer.Framer.{Framer}
 use Rattle.nal_stream.specs.Framing.{StandsFor, to_come}
-use Rattle.spec_pictures.specs.Pictures.{beginning}
-use Rattle.spec_pictures.specs.Planned.{Planned, behind_closed, planned_next, planned_from}
+use Rattle.spec_picture_plan.specs.Pictures.{beginning}
+use Rattle.spec_picture_plan.specs.Planned.{Planned, behind_closed, planned_next, planned_from}
 use Rattle.picture_plan.specs.Plans.{Plans, stop_of}
-use Rattle.spec_picture_samples.specs.References.{DecodedPicture}
+use Rattle.spec_picture_build.specs.References.{DecodedPicture}
 use Rattle.spec_decoder.specs.Decoder.{Decoded, decoded, decoded_from, finished}
 use Rattle.decoder.specs.declared.stream.Decoder.{Decoder}
 use Rattle.decoder.specs.declared.stream.Taken.{Taken}

@@ -8,7 +8,7 @@ use Rattle.picture_trees.specs.declared.trees.ReadError.{ReadError}
 use Rattle.picture_trees.specs.declared.trees.ReadError.TheVariants as error
 use Rattle.picture_buffer.specs.Pictures.{HeldPicture}
 use Rattle.picture_build.specs.Pictures.{decoded_of, buffer_of}
-use Rattle.spec_picture_samples.specs.References.{DecodedPicture}
+use Rattle.spec_picture_build.specs.References.{DecodedPicture}
 use Rattle.decoder.specs.Headline.{outcome_of}
 
 -- how decoding ends where the data of a picture aren't read to their end

@@ -5,7 +5,7 @@ use Rattle.hv_base.specs.declared.outcome.Outcome.{Outcome}
 use Rattle.hv_base.specs.declared.outcome.Outcome.TheVariants as outcome
 use Rattle.hv_io.specs.Streams.{Gains}
 use Rattle.plan_types.specs.declared.picture_plan.PicturePlan.{PicturePlan}
-use Rattle.spec_picture_samples.specs.References.{DecodedPicture}
+use Rattle.spec_picture_build.specs.References.{DecodedPicture}
 use Rattle.spec_decoder.specs.Decoder.{Decoded, put_out, with_picture, decoded_from}
 use Rattle.decoder.specs.Headline.{Change, Failed, IsQuiet, GainsWhole, GainsCut, IsResult}
 

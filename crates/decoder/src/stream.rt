@@ -1,7 +1,7 @@
 //! From the bytes of a stream to those of its pictures.
 
 ghost use Rattle.std.specs.Prelude.{◌≡◌, Bool, ℕ, List, ◌∷◌, [], None, IfOk, OnOk, true};
-ghost use Rattle.spec_units.specs.Judged.{Told, told_of};
+ghost use Rattle.spec_nal_units.specs.Judged.{Told, told_of};
 ghost use Rattle.nal_stream.specs.Answers.{told_by};
 ghost use Rattle.picture_build.specs.Pictures.{buffer_of};
 ghost use Rattle.picture_plan.specs.Plans.{behind_unit, stop_of};

@@ -4,9 +4,9 @@ use Rattle.std.proofs.Common.{append_assoc, append-nil}
 use Rattle.hv_base.specs.declared.refusal.Stop.{Stop}
 use Rattle.plan_types.specs.declared.picture_plan.PicturePlan.{PicturePlan}
 use Rattle.plan_types.specs.declared.between.Between.{Between}
-use Rattle.spec_units.specs.Judged.{Told}
-use Rattle.spec_pictures.specs.Steps.{Stepped, close, step}
-use Rattle.spec_pictures.specs.Planned.{Planned, behind_closed}
+use Rattle.spec_nal_units.specs.Judged.{Told}
+use Rattle.spec_picture_plan.specs.Steps.{Stepped, close, step}
+use Rattle.spec_picture_plan.specs.Planned.{Planned, behind_closed}
 use Rattle.picture_plan.specs.Flights.{Gathered, cut_at_stop, pictures_of, waiting, with_pictures}
 use Rattle.picture_plan.specs.Plans.{Given, Plans, after_step, at_end, behind_unit, going_on, halted}
 use Rattle.flight_laws.specs.Runs.{behind_flights}

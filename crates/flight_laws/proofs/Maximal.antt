@@ -5,8 +5,8 @@ use Rattle.std.proofs.lemmas.Bool.{leb-true}
 use Rattle.hv_base.specs.declared.refusal.Stop.{Stop}
 use Rattle.plan_types.specs.declared.picture_plan.PicturePlan.{PicturePlan}
 use Rattle.plan_types.specs.declared.between.Between.{Between}
-use Rattle.spec_units.specs.Judged.{Told}
-use Rattle.spec_pictures.specs.Steps.{Stepped, close, step}
+use Rattle.spec_nal_units.specs.Judged.{Told}
+use Rattle.spec_picture_plan.specs.Steps.{Stepped, close, step}
 use Rattle.picture_plan.specs.Flights.{Gathered, cut, cut_at_stop, goes_on_with, joined_by, joined_with, waiting}
 use Rattle.picture_plan.specs.Flights.{with_picture, with_pictures}
 use Rattle.picture_plan.specs.Plans.{Given, Plans, at_end, behind_unit, halted}

@@ -6,10 +6,10 @@ use Rattle.std.proofs.lemmas.List.Elements.{All-nil, All-cons, All-append}
 use Rattle.hv_base.specs.declared.refusal.Stop.{Stop}
 use Rattle.plan_types.specs.declared.picture_plan.PicturePlan.{PicturePlan}
 use Rattle.header_types.specs.Content.{same_content}
-use Rattle.spec_units.specs.Judged.{Told}
+use Rattle.spec_nal_units.specs.Judged.{Told}
 use Rattle.plan_types.specs.declared.between.Between.{Between}
-use Rattle.spec_pictures.specs.Pictures.{beginning}
-use Rattle.spec_pictures.specs.Steps.{Stepped, close, step}
+use Rattle.spec_picture_plan.specs.Pictures.{beginning}
+use Rattle.spec_picture_plan.specs.Steps.{Stepped, close, step}
 use Rattle.picture_plan.specs.Flights.{Gathered, goes_on_with, ended, cut, joined_by, joined_with, with_picture}
 use Rattle.picture_plan.specs.Flights.{waiting, with_pictures, cut_at_stop}
 use Rattle.picture_plan.specs.Plans.{Given, behind_unit, at_end}

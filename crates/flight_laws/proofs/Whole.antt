@@ -3,12 +3,12 @@ use Rattle.std.proofs.Common.{◌≡◌, ℕ, true, List, [], ◌∷◌, ◌++�
 use Rattle.std.proofs.Common.{append_assoc, append-nil}
 use Rattle.hv_base.specs.declared.refusal.Stop.{Stop}
 use Rattle.plan_types.specs.declared.picture_plan.PicturePlan.{PicturePlan}
-use Rattle.spec_units.specs.Judged.{Told}
+use Rattle.spec_nal_units.specs.Judged.{Told}
 use Rattle.plan_types.specs.declared.between.Between.{Between}
-use Rattle.spec_pictures.specs.Pictures.{beginning}
-use Rattle.spec_pictures.specs.Steps.{Stepped, close, step}
-use Rattle.spec_pictures.specs.Planned.{Planned, behind_closed, planned_next, planned_from}
-use Rattle.spec_pictures.specs.Planned.{stop_of as planned_stop}
+use Rattle.spec_picture_plan.specs.Pictures.{beginning}
+use Rattle.spec_picture_plan.specs.Steps.{Stepped, close, step}
+use Rattle.spec_picture_plan.specs.Planned.{Planned, behind_closed, planned_next, planned_from}
+use Rattle.spec_picture_plan.specs.Planned.{stop_of as planned_stop}
 use Rattle.picture_plan.specs.Flights.{Gathered, cut, waiting, with_pictures, cut_at_stop, pictures_of}
 use Rattle.picture_plan.specs.Plans.{Given, behind_unit, at_end, stop_of}
 use Rattle.flight_laws.specs.Runs.{new_plans, run, behind_flights, ArePlanned}

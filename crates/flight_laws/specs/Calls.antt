@@ -3,8 +3,8 @@ use Rattle.std.specs.Prelude.{◌≡◌, ◌⊎◌, ◌≤◌, ℕ, Bool, false,
 use Rattle.hv_base.specs.declared.refusal.Stop.{Stop}
 use Rattle.plan_types.specs.declared.picture_plan.PicturePlan.{PicturePlan}
 use Rattle.plan_types.specs.declared.between.Between.{Between}
-use Rattle.spec_units.specs.Judged.{Told}
-use Rattle.spec_pictures.specs.Planned.{Planned, planned_from, planned_next}
+use Rattle.spec_nal_units.specs.Judged.{Told}
+use Rattle.spec_picture_plan.specs.Planned.{Planned, planned_from, planned_next}
 use Rattle.picture_plan.specs.Flights.{goes_on_with, pictures_of, waiting}
 use Rattle.picture_plan.specs.Plans.{Given, Plans, behind_unit, given_of, stop_of}
 use Rattle.flight_laws.specs.Runs.{behind_flights}

@@ -2,9 +2,9 @@
 use Rattle.std.specs.Prelude.{◌≡◌, ℕ, ◌≤◌, true, List, [], ◌∷◌, ◌++◌, length, All, Ok}
 use Rattle.plan_types.specs.declared.picture_plan.PicturePlan.{PicturePlan}
 use Rattle.header_types.specs.Content.{same_content}
-use Rattle.spec_units.specs.Judged.{Told}
-use Rattle.spec_pictures.specs.Pictures.{beginning}
-use Rattle.spec_pictures.specs.Planned.{Planned}
+use Rattle.spec_nal_units.specs.Judged.{Told}
+use Rattle.spec_picture_plan.specs.Pictures.{beginning}
+use Rattle.spec_picture_plan.specs.Planned.{Planned}
 use Rattle.picture_plan.specs.Flights.{pictures_of}
 use Rattle.picture_plan.specs.Plans.{Plans, Given, behind_unit, at_end, stop_of}
 

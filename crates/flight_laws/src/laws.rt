@@ -1,10 +1,10 @@
 //! Laws of what a planner gives over a stream of units.
 
 ghost use Rattle.std.specs.Prelude.{ℕ, ◌≤◌, All, true, false, List};
-ghost use Rattle.spec_units.specs.Judged.{Told};
-ghost use Rattle.spec_pictures.specs.Pictures.{beginning};
-ghost use Rattle.spec_pictures.specs.Planned.{planned_from};
-ghost use Rattle.spec_plan_ranges.specs.Plans.{IsPlan};
+ghost use Rattle.spec_nal_units.specs.Judged.{Told};
+ghost use Rattle.spec_picture_plan.specs.Pictures.{beginning};
+ghost use Rattle.spec_picture_plan.specs.Planned.{planned_from};
+ghost use Rattle.plan_laws.specs.Plans.{IsPlan};
 ghost use Rattle.flight_laws.specs.Calls.{AreAllGiven, AreGiven, AreMaximal, over, planned_behind, still, with_pending};
 ghost use Rattle.picture_plan.specs.Flights.{pictures_of};
 ghost use Rattle.picture_plan.specs.Plans.{Plans, at_end, halted};

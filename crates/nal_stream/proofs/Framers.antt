@@ -3,11 +3,11 @@ use Rattle.std.proofs.Common.{◌≡◌, ℕ, ◌-◌, ◌<◌, ◌≤◌, Bool,
 use Rattle.std.proofs.Common.{None, Result, Ok, Err, IfOk, refl, sym, ap, ◌∙◌, arith, append_assoc, length-drop}
 use Rattle.std.proofs.lemmas.List.{drop-append-le, append-nil}
 use Rattle.std.proofs.Math.ListN.{drop_of_length-le}
-use Rattle.spec_units.specs.Units.{ends_unit, unit_end, unit_at, unit_to, trimmed, Raw, Padding, Inside, parts}
-use Rattle.spec_units.specs.Judged.{Told, Whole, Broken, Met, unit_of, judged, next_number, then_told, told_from}
-use Rattle.spec_units.specs.Judged.{told_of}
-use Rattle.spec_units.proofs.Ends.{ends_unit-append, parts-inside}
-use Rattle.spec_units.proofs.Going.{unit-then-rest}
+use Rattle.spec_nal_units.specs.Units.{ends_unit, unit_end, unit_at, unit_to, trimmed, Raw, Padding, Inside, parts}
+use Rattle.spec_nal_units.specs.Judged.{Told, Whole, Broken, Met, unit_of, judged, next_number, then_told, told_from}
+use Rattle.spec_nal_units.specs.Judged.{told_of}
+use Rattle.spec_nal_units.proofs.Ends.{ends_unit-append, parts-inside}
+use Rattle.spec_nal_units.proofs.Going.{unit-then-rest}
 use Rattle.nal_stream.specs.declared.answer.Next.{Next}
 use Rattle.nal_stream.specs.declared.answer.Next.TheVariants as next
 use Rattle.nal_stream.specs.declared.refused.Refused.{Refused}

@@ -5,8 +5,8 @@ use Rattle.std.specs.Prelude.{◌&&◌, ◌==◌, not, nat_le, nat_lt}
 use Rattle.std.specs.List.Sorted.{IsStrictlyIncreasing}
 use Rattle.std.proofs.lemmas.Bool.Decides.{Decides-eqb}
 use Rattle.std.proofs.lemmas.List.{length_push, get_or_append_left, get_or_push}
-use Rattle.spec_units.specs.Judged.{places}
-use Rattle.spec_units.proofs.Ends.{decide, if_true, if_false}
+use Rattle.spec_nal_units.specs.Judged.{places}
+use Rattle.spec_nal_units.proofs.Ends.{decide, if_true, if_false}
 
 pub some_place : (test : ℕ → Bool) (n i : ℕ) → i < n → test i ≡ true → 0 < length (places test n)
 some_place test zero i lt t = absurd (omega arith)

@@ -4,8 +4,8 @@ use Rattle.std.proofs.Common.{drop, refl, sym, ap, ◌∙◌, arith}
 use Rattle.std.specs.Prelude.{◌&&◌, ◌==◌, nat_lt}
 use Rattle.std.proofs.lemmas.Bool.Decides.{Decides-eqb}
 use borrow.Author.Tests.{ltb-true, ltb-false}
-use Rattle.spec_units.specs.Units.{ends_unit, all_zero, trimmed}
-use Rattle.spec_units.proofs.Ends.{decide, if_true, if_false, and_left}
+use Rattle.spec_nal_units.specs.Units.{ends_unit, all_zero, trimmed}
+use Rattle.spec_nal_units.proofs.Ends.{decide, if_true, if_false, and_left}
 
 pub not_true : (b : Bool) → (b ≡ true → ⊥) → b ≡ false
 not_true true f = absurd (f refl)

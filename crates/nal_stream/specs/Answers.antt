@@ -1,6 +1,6 @@
 -- What an answer tells.
 use Rattle.std.specs.Prelude.{List, [], ◌∷◌}
-use Rattle.spec_units.specs.Judged.{Told, Whole, Broken, Met, unit_of}
+use Rattle.spec_nal_units.specs.Judged.{Told, Whole, Broken, Met, unit_of}
 use Rattle.nal_stream.specs.declared.answer.Next.{Next}
 use Rattle.nal_stream.specs.declared.answer.Next.TheVariants as next
 

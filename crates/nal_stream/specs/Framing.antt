@@ -1,7 +1,7 @@
 -- What a framer stands for: the bytes that it was fed, the units that it gave, and whether the input has ended.
 use Rattle.std.specs.Prelude.{◌≡◌, ⊤, ℕ, Bool, true, false, List, [], ◌∷◌, ◌++◌, drop, Option, Some, None}
-use Rattle.spec_units.specs.Units.{Part, unit_at, Padding, Inside, parts}
-use Rattle.spec_units.specs.Judged.{Told, Whole, Broken, Met, unit_of, next_number, told_from, told_of}
+use Rattle.spec_nal_units.specs.Units.{Part, unit_at, Padding, Inside, parts}
+use Rattle.spec_nal_units.specs.Judged.{Told, Whole, Broken, Met, unit_of, next_number, told_from, told_of}
 use Rattle.nal_stream.specs.declared.answer.Next.{Next}
 use Rattle.nal_stream.specs.declared.answer.Next.TheVariants as next
 use Rattle.nal_stream.specs.declared.refused.Refused.{Refused}

@@ -1,6 +1,6 @@
 -- What stands behind padding.
 use Rattle.std.specs.Prelude.{ℕ, Bool, List, ◌∷◌, ◌++◌}
-use Rattle.spec_units.specs.Units.{Part, Stray, unit_at, Padding, Inside, parts}
+use Rattle.spec_nal_units.specs.Units.{Part, Stray, unit_at, Padding, Inside, parts}
 use Rattle.nal_stream.specs.declared.padding.Behind.{Behind}
 use Rattle.nal_stream.specs.declared.padding.Behind.TheVariants as behind
 

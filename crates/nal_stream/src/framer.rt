@@ -1,7 +1,7 @@
 //! A framer, which takes a byte stream in pieces and gives its units.
 
 ghost use Rattle.std.specs.Prelude.{◌≡◌, ℕ, ◌-◌, ◌<◌, ◌≤◌, false, length, drop};
-ghost use Rattle.spec_units.specs.Units.{ends_unit};
+ghost use Rattle.spec_nal_units.specs.Units.{ends_unit};
 
 use crate::answer::Next;
 use crate::header::{broken, judge};
@@ -44,7 +44,7 @@ pub struct Framer {
 impl Framer {
     ghost use Rattle.std.specs.Prelude.{◌≡◌, ℕ, ◌≤◌, ◌∷◌, Bool, true, false, List, [], ◌++◌, length, drop, Option};
     ghost use Rattle.std.specs.Prelude.{Some, None, IsOkAnd, IfOk, OnOk, OnErr};
-    ghost use Rattle.spec_units.specs.Units.{unit_end};
+    ghost use Rattle.spec_nal_units.specs.Units.{unit_end};
     ghost use Rattle.nal_stream.specs.Answers.{told_by};
     ghost use Rattle.nal_stream.specs.Framing.{History, nothing, with_piece, at_end, with_answer, IsNext, StandsFor};
     ghost use Rattle.nal_stream.specs.Framing.{pending, CanGoOn, to_come, Goes, Answers, IsJudged};

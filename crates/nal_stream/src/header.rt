@@ -1,7 +1,7 @@
 //! A unit's header, and what a unit is read as (7.3.1.2).
 
 ghost use Rattle.std.specs.Prelude.{◌≡◌, ◌<◌, ◌≤◌, ◌^◌, [], ◌∷◌, false, length, IfOk};
-ghost use Rattle.spec_units.specs.Judged as spec;
+ghost use Rattle.spec_nal_units.specs.Judged as spec;
 ghost use Rattle.nal_stream.specs.Answers.{told_by};
 
 use crate::answer::Next;
@@ -13,7 +13,7 @@ use std::alloc::{AllocError, Global};
 const MAX_SIZE: usize = 67_108_864;
 
 /// A unit judged by its size, then its bytes, then its header; read where it breaks no rule.
-#[tactic(auto, unfolding(spec_units::specs::Judged::judged, spec_units::specs::Judged::is_too_large))]
+#[tactic(auto, unfolding(spec_nal_units::specs::Judged::judged, spec_nal_units::specs::Judged::is_too_large))]
 pub fn judge(alloc: Global, index: u32, unit: &[u8]) -> Result<Next, AllocError>
     ensures { IfOk result (λ next. told_by next ≡ spec.judged index unit.now ∷ []) }
 {

@@ -1,7 +1,7 @@
 //! The bytes between units (B.2).
 
 ghost use Rattle.std.specs.Prelude.{◌≡◌, ℕ, ◌+◌, ◌<◌, ◌≤◌, Bool, List, ◌∷◌, ◌++◌, length, drop};
-ghost use Rattle.spec_units.specs.Units.{Padding, parts};
+ghost use Rattle.spec_nal_units.specs.Units.{Padding, parts};
 ghost use Rattle.nal_stream.specs.Skips.{parts_behind};
 ghost use Rattle.nal_stream.specs.declared.padding.Behind.TheVariants.{Nothing};
 

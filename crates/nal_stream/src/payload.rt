@@ -1,7 +1,7 @@
 //! The payload of a unit, without its emulation prevention bytes (7.3.1.1).
 
 ghost use Rattle.std.specs.Prelude.{◌≡◌, ◌<◌, ◌≤◌, ◌^◌, length, IfOk};
-ghost use Rattle.spec_units.specs.Judged as spec;
+ghost use Rattle.spec_nal_units.specs.Judged as spec;
 
 use hv_base::Places;
 use std::alloc::{AllocError, Global};
@@ -15,7 +15,7 @@ fn stands_at(byte: u8, unit: &[u8], i: usize) -> bool
 }
 
 /// Whether 00 00 02 stands in a unit.
-#[tactic(auto, unfolding(spec_units::specs::Judged::has_reserved))]
+#[tactic(auto, unfolding(spec_nal_units::specs::Judged::has_reserved))]
 pub fn has_reserved(unit: &[u8]) -> bool
     ensures { result ≡ spec.has_reserved unit.now }
 {
@@ -28,7 +28,7 @@ pub fn has_reserved(unit: &[u8]) -> bool
 }
 
 /// The bytes behind a unit's header, without its emulation prevention bytes.
-#[tactic(auto, unfolding(spec_units::specs::Judged::payload_of))]
+#[tactic(auto, unfolding(spec_nal_units::specs::Judged::payload_of))]
 pub fn payload_of(alloc: Global, unit: &[u8]) -> Result<Vec<u8>, AllocError>
     ensures { IfOk result (λ v. v.items ≡ spec.payload_of unit.now) }
 {
@@ -42,7 +42,7 @@ pub fn payload_of(alloc: Global, unit: &[u8]) -> Result<Vec<u8>, AllocError>
 }
 
 /// Where a unit's emulation prevention bytes stand.
-#[tactic(auto, unfolding(spec_units::specs::Judged::removed_of))]
+#[tactic(auto, unfolding(spec_nal_units::specs::Judged::removed_of))]
 pub fn removed_of(alloc: Global, unit: &[u8]) -> Result<Places, AllocError>
     requires { length unit.now ≤ 2 ^ 26 }
     ensures { IfOk result (λ p. p ≡ spec.removed_of unit.now) }

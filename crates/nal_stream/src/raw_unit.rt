@@ -1,7 +1,7 @@
 //! Where a unit ends in the bytes of a stream (B.2).
 
 ghost use Rattle.std.specs.Prelude.{◌≡◌, ℕ, ◌-◌, ◌<◌, ◌≤◌, false, length, take, drop};
-ghost use Rattle.spec_units.specs.Units.{ends_unit, unit_end, trimmed};
+ghost use Rattle.spec_nal_units.specs.Units.{ends_unit, unit_end, trimmed};
 
 /// How many bytes stand before the first 00 00 00 or 00 00 01, which stands at none of the first `from` places.
 pub fn end_of_unit(bytes: &[u8], from: usize) -> Option<usize>

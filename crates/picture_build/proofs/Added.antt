@@ -18,19 +18,19 @@ use Rattle.picture_layout.specs.Shape.{IsShape}
 use Rattle.spec_inter_prediction.specs.declared.tables.SliceWeighting.{SliceWeighting}
 use Rattle.spec_motion.specs.declared.slice_motion.SliceMotion.{SliceMotion}
 use Rattle.spec_motion.specs.Vectors as motion
-use Rattle.spec_picture_data.specs.Picture.{TreeUnit}
+use Rattle.spec_picture_trees.specs.Picture.{TreeUnit}
 use Rattle.plan_types.specs.Segments.{address_of}
-use Rattle.spec_picture_data.specs.Shapes.{picture_shape, slice_start}
+use Rattle.spec_picture_trees.specs.Shapes.{picture_shape, slice_start}
 use Rattle.spec_picture_motion.specs.Derived.{known_of_unit}
 use Rattle.spec_picture_motion.specs.Derived as derived
 use Rattle.spec_picture_motion.specs.Field.{Motions, first_column, first_row}
 use Rattle.spec_picture_motion.specs.Slices.{slice_motion}
-use Rattle.spec_picture_samples.specs.Border.{Samples, has_sample, height_of, known_beside, unit_column, unit_line}
-use Rattle.spec_picture_samples.specs.Border.{unit_of_sample, unit_side, width_of}
-use Rattle.spec_picture_samples.specs.Built.{BuiltPicture, is_of_unit, samples_added, unit_added, unit_inter, unit_laid}
-use Rattle.spec_picture_samples.specs.Format.{unit_format}
-use Rattle.spec_picture_samples.specs.References.{DecodedPicture, motions_of, pictures_of}
-use Rattle.spec_picture_samples.specs.Weights.{slice_weighting}
+use Rattle.spec_picture_build.specs.Border.{Samples, has_sample, height_of, known_beside, unit_column, unit_line}
+use Rattle.spec_picture_build.specs.Border.{unit_of_sample, unit_side, width_of}
+use Rattle.spec_picture_build.specs.Built.{BuiltPicture, is_of_unit, samples_added, unit_added, unit_inter, unit_laid}
+use Rattle.spec_picture_build.specs.Format.{unit_format}
+use Rattle.spec_picture_build.specs.References.{DecodedPicture, motions_of, pictures_of}
+use Rattle.spec_picture_build.specs.Weights.{slice_weighting}
 use Rattle.spec_reconstruction.specs.declared.format.UnitFormat.{UnitFormat}
 use Rattle.spec_reconstruction.specs.Inter.{InterUnit}
 use Rattle.spec_reconstruction.specs.Known.{Known}

@@ -9,14 +9,14 @@ use Rattle.std.proofs.lemmas.List.Sums.{fold-append}
 use Rattle.header_types.specs.SequenceParameterSets.{IsSps}
 use Rattle.plan_types.specs.declared.picture_plan.PicturePlan.{PicturePlan}
 use Rattle.plan_types.specs.declared.segment_plan.SegmentPlan.{SegmentPlan}
-use Rattle.spec_picture_data.specs.Picture.{TreeUnit, Progress, picture_read}
+use Rattle.spec_picture_trees.specs.Picture.{TreeUnit, Progress, picture_read}
 use Rattle.spec_picture_motion.specs.Field.{Motions, no_motions}
 use Rattle.spec_picture_filters.specs.Data.{no_data}
 use Rattle.spec_picture_filters.specs.Filtered.{with_unit as filtered_with_unit}
-use Rattle.spec_picture_samples.specs.Border.{Samples, no_samples}
-use Rattle.spec_picture_samples.specs.Built.{BuiltPicture, added_in, built_of, no_picture, picture_built, unit_added}
-use Rattle.spec_picture_samples.specs.Built.{units_built, with_unit}
-use Rattle.spec_picture_samples.specs.References.{DecodedPicture, motions_of as motions_at}
+use Rattle.spec_picture_build.specs.Border.{Samples, no_samples}
+use Rattle.spec_picture_build.specs.Built.{BuiltPicture, added_in, built_of, no_picture, picture_built, unit_added}
+use Rattle.spec_picture_build.specs.Built.{units_built, with_unit}
+use Rattle.spec_picture_build.specs.References.{DecodedPicture, motions_of as motions_at}
 use Rattle.picture_buffer.specs.Motion.{motions_of}
 use Rattle.picture_buffer.specs.Planes.{samples_of}
 use Rattle.picture_filters.specs.Filtering.{data_of}

@@ -11,7 +11,7 @@ use Rattle.ctu_records.specs.declared.prediction.PredictionUnit.{PredictionUnit}
 use Rattle.picture_buffer.specs.Pictures.{HeldPicture}
 use Rattle.spec_motion.specs.Derivation.{IsPlaced}
 use Rattle.spec_motion.specs.Units.{IsPlacedItem}
-use Rattle.spec_picture_samples.specs.References.{motions_in, motions_of}
+use Rattle.spec_picture_build.specs.References.{motions_in, motions_of}
 use Rattle.spec_reconstruction.specs.declared.format.UnitFormat.{UnitFormat}
 use Rattle.spec_reconstruction.specs.Sound.{AreSound, IsPrediction, IsSound}
 use Rattle.spec_slice_data.specs.Inter.{part_count}

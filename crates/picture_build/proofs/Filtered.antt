@@ -10,14 +10,14 @@ use Rattle.plan_types.specs.declared.picture_plan.PicturePlan.{PicturePlan}
 use Rattle.spec_decoded_pictures.specs.Decoded.{decoded_by, picture_decoded, reading_decoded, samples_filtered}
 use Rattle.spec_decoded_pictures.specs.Decoded.{units_decoded}
 use Rattle.spec_loop_filters.specs.Filters.{depth_of}
-use Rattle.spec_picture_data.specs.Picture.{TreeUnit, PictureBroken, picture_read}
-use Rattle.spec_picture_data.specs.Shapes.{picture_shape}
+use Rattle.spec_picture_trees.specs.Picture.{TreeUnit, PictureBroken, picture_read}
+use Rattle.spec_picture_trees.specs.Shapes.{picture_shape}
 use Rattle.spec_picture_filters.specs.Data.{FilterData}
 use Rattle.spec_picture_filters.specs.Filtered.{Behind, filter_format, filtered, units_filtered}
 use Rattle.spec_picture_motion.specs.Field.{Motions}
-use Rattle.spec_picture_samples.specs.Border.{Samples, has_sample}
-use Rattle.spec_picture_samples.specs.Built.{BuiltPicture, picture_built}
-use Rattle.spec_picture_samples.specs.References.{DecodedPicture, greatest_sample, motions_of as motions_at}
+use Rattle.spec_picture_build.specs.Border.{Samples, has_sample}
+use Rattle.spec_picture_build.specs.Built.{BuiltPicture, picture_built}
+use Rattle.spec_picture_build.specs.References.{DecodedPicture, greatest_sample, motions_of as motions_at}
 use Rattle.spec_slice_data.specs.Segment.{PictureShape}
 use Rattle.picture_buffer.specs.Motion.{FieldPlaces, motions_of}
 use Rattle.picture_buffer.specs.Planes.{HasSides, PictureSamples, PlaneSamples, plane_at, plane_height, plane_width}

@@ -5,8 +5,8 @@ use Rattle.std.proofs.Math.Path.{fun_ext}
 use Rattle.std.proofs.lemmas.Bool.Decides.{nat_tests}
 use Rattle.spec_slice_data.specs.Segment.{PictureShape}
 use Rattle.spec_reconstruction.specs.Known.{Known}
-use Rattle.spec_picture_samples.specs.Border.{Samples, has_sample, height_of, is_available, known_beside, sample_beside}
-use Rattle.spec_picture_samples.specs.Border.{unit_of_sample, unit_side, width_of}
+use Rattle.spec_picture_build.specs.Border.{Samples, has_sample, height_of, is_available, known_beside, sample_beside}
+use Rattle.spec_picture_build.specs.Border.{unit_of_sample, unit_side, width_of}
 use Rattle.picture_build.specs.declared.part.Part.{Part}
 use Rattle.picture_build.specs.Beside.{beside_part, first_above, has_left, is_above, is_left, sample_at}
 use Rattle.picture_build.specs.Parts.{IsPart, IsRoom}

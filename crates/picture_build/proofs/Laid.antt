@@ -6,9 +6,9 @@ use Rattle.std.proofs.Math.Path.{fun_ext}
 use Rattle.std.proofs.lemmas.Bool.Decides.{nat_tests}
 use Rattle.spec_slice_data.specs.Segment.{PictureShape}
 use Rattle.spec_reconstruction.specs.Known.{Known}
-use Rattle.spec_picture_samples.specs.Border.{Samples, has_sample, height_of, unit_column, unit_line, unit_of_sample}
-use Rattle.spec_picture_samples.specs.Border.{unit_side, width_of}
-use Rattle.spec_picture_samples.specs.Built.{is_of_unit, unit_laid}
+use Rattle.spec_picture_build.specs.Border.{Samples, has_sample, height_of, unit_column, unit_line, unit_of_sample}
+use Rattle.spec_picture_build.specs.Border.{unit_side, width_of}
+use Rattle.spec_picture_build.specs.Built.{is_of_unit, unit_laid}
 use Rattle.picture_build.specs.declared.part.Part.{Part}
 use Rattle.picture_build.specs.Parts.{IsPart, IsRoom, is_in_part}
 use Rattle.picture_build.proofs.Planes.{whole_part}

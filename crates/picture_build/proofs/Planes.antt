@@ -3,7 +3,7 @@ use Rattle.std.proofs.Common.{◌≡◌, ℕ, zero, suc, ◌*◌, ◌/◌, ◌%�
 use Rattle.std.proofs.Math.Nat.{mul-le-mul_left}
 use Rattle.spec_slice_data.specs.Segment.{PictureShape}
 use Rattle.spec_slice_data.specs.Residual.{samples_of_place}
-use Rattle.spec_picture_samples.specs.Border.{height_of, unit_side, width_of}
+use Rattle.spec_picture_build.specs.Border.{height_of, unit_side, width_of}
 use Rattle.picture_buffer.specs.Planes.{PictureSamples, HasSides, plane_height, plane_width}
 use Rattle.picture_build.specs.declared.part.Part.{Part}
 use Rattle.picture_build.specs.Parts.{IsPart}

@@ -12,8 +12,8 @@ use Rattle.picture_buffer.specs.Pictures.{HasFormat, HeldPicture}
 use Rattle.picture_buffer.specs.Planes.{HasSides, PictureSamples, plane_height, plane_width, samples_of}
 use Rattle.picture_build.specs.Pictures.{buffer_of, decoded_of}
 use Rattle.spec_inter_prediction.specs.Taps.{clamped}
-use Rattle.spec_picture_samples.specs.References.{DecodedPicture, format_height, format_width, greatest_sample}
-use Rattle.spec_picture_samples.specs.References.{pictures_of, reference_sample}
+use Rattle.spec_picture_build.specs.References.{DecodedPicture, format_height, format_width, greatest_sample}
+use Rattle.spec_picture_build.specs.References.{pictures_of, reference_sample}
 use Rattle.spec_reconstruction.specs.declared.format.UnitFormat.{UnitFormat}
 use Rattle.spec_reconstruction.specs.Parameters.{depth_of}
 use Rattle.spec_reconstruction.specs.Sound.{IsFormat}

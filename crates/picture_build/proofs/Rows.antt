@@ -5,7 +5,7 @@ use Rattle.std.specs.Option.{unwrap_or}
 use Rattle.std.proofs.lemmas.Bool.Decides.{nat_tests}
 use Rattle.std.proofs.lemmas.List.{get_or-drop, get_or-take, length-drop, length-take-le}
 use Rattle.spec_reconstruction.specs.Known.{Known}
-use Rattle.spec_picture_samples.specs.Border.{Samples}
+use Rattle.spec_picture_build.specs.Border.{Samples}
 use Rattle.picture_build.specs.declared.part.Part.{Part}
 use Rattle.picture_build.specs.Beside.{sample_at}
 use Rattle.picture_build.specs.Parts.{is_in_part}

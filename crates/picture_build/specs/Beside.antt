@@ -2,7 +2,7 @@
 use Rattle.std.specs.Prelude.{ℕ, ◌+◌, ◌-◌, ◌*◌, ◌==◌, ◌&&◌, ◌||◌, nat_le, nat_lt, Bool, Option, Some, None}
 use Rattle.std.specs.Prelude.{if◌then◌else◌}
 use Rattle.spec_slice_data.specs.Segment.{PictureShape, column_of}
-use Rattle.spec_picture_samples.specs.Border.{Samples}
+use Rattle.spec_picture_build.specs.Border.{Samples}
 use Rattle.picture_build.specs.declared.part.Part.{Part}
 
 -- the first column of the line above that is of a unit of the slice, where units have so many samples on a side: column

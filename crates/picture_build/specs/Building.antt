@@ -3,12 +3,12 @@ use Rattle.std.specs.Prelude.{◌≡◌, List, Result, Ok, Err}
 use Rattle.std.specs.List.{All}
 use Rattle.plan_types.specs.declared.segment_plan.SegmentPlan.{SegmentPlan}
 use Rattle.plan_types.specs.declared.picture_plan.PicturePlan.{PicturePlan}
-use Rattle.spec_picture_data.specs.Picture.{TreeUnit, PictureBroken}
+use Rattle.spec_picture_trees.specs.Picture.{TreeUnit, PictureBroken}
 use Rattle.spec_reconstruction.specs.Sound.{AreSound}
-use Rattle.spec_picture_samples.specs.Built.{BuiltPicture, units_built}
+use Rattle.spec_picture_build.specs.Built.{BuiltPicture, units_built}
 use Rattle.spec_picture_filters.specs.Filtered.{Behind, units_behind}
-use Rattle.spec_picture_samples.specs.Format.{unit_format}
-use Rattle.spec_picture_samples.specs.References.{DecodedPicture, motions_of as motions_at}
+use Rattle.spec_picture_build.specs.Format.{unit_format}
+use Rattle.spec_picture_build.specs.References.{DecodedPicture, motions_of as motions_at}
 use Rattle.picture_buffer.specs.Motion.{motions_of}
 use Rattle.picture_filters.specs.Filtering.{Filtering, data_of}
 use Rattle.picture_buffer.specs.Pictures.{HeldPicture}

@@ -3,7 +3,7 @@ use Rattle.std.specs.Prelude.{◌≡◌, ◌+ℤ◌}
 use Rattle.header_types.specs.declared.pps.PpsFields.{PpsFields}
 use Rattle.slice_types.specs.declared.slice.SliceFields.{SliceFields}
 use Rattle.header_types.specs.declared.sps.SpsFields.{SpsFields}
-use Rattle.spec_picture_samples.specs.Format.{unit_format}
+use Rattle.spec_picture_build.specs.Format.{unit_format}
 use Rattle.spec_reconstruction.specs.declared.format.UnitFormat.{UnitFormat}
 
 -- with the offsets of a slice

@@ -5,7 +5,7 @@ ghost use Rattle.ctu_build.specs.Held.{held};
 ghost use Rattle.picture_buffer.specs.Planes.{HasSides, plane_height, plane_width, samples_of};
 ghost use Rattle.picture_build.specs.Beside.{is_above, is_left, sample_at};
 ghost use Rattle.picture_build.specs.Parts.{IsRoom};
-ghost use Rattle.spec_picture_samples.specs.Border.{known_beside};
+ghost use Rattle.spec_picture_build.specs.Border.{known_beside};
 
 use crate::part::Part;
 use crate::unit::Unit;

@@ -10,9 +10,9 @@ ghost use Rattle.picture_filters.specs.Filtering.{data_of};
 ghost use Rattle.picture_trees.specs.Given.{tree_unit};
 ghost use Rattle.spec_decoded_pictures.specs.Decoded.{decoded_by};
 ghost use Rattle.spec_picture_filters.specs.Filtered.{added_in, with_unit as filtered_with_unit};
-ghost use Rattle.spec_picture_samples.specs.Built.{unit_added, with_unit};
-ghost use Rattle.spec_picture_samples.specs.Format.{unit_format};
-ghost use Rattle.spec_picture_samples.specs.References.{greatest_sample, motions_of as motions_at};
+ghost use Rattle.spec_picture_build.specs.Built.{unit_added, with_unit};
+ghost use Rattle.spec_picture_build.specs.Format.{unit_format};
+ghost use Rattle.spec_picture_build.specs.References.{greatest_sample, motions_of as motions_at};
 ghost use Rattle.spec_reconstruction.specs.Sound.{AreSound};
 
 use crate::beside::gather;
@@ -65,7 +65,7 @@ impl<'a, B: Buffer> Model for PictureBuilder<'a, B> {
     ghost use Rattle.picture_buffer.specs.Planes.{HasSides};
     ghost use Rattle.picture_build.specs.Building.{Building};
     ghost use Rattle.picture_build.specs.Formats.{IsCommon};
-    ghost use Rattle.spec_picture_data.specs.Shapes.{picture_shape};
+    ghost use Rattle.spec_picture_trees.specs.Shapes.{picture_shape};
     ghost use Rattle.spec_reconstruction.specs.Sound.{IsFormat};
 
     ghost Value = { Building };

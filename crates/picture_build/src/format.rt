@@ -3,7 +3,7 @@
 ghost use Rattle.std.specs.Prelude.{◌≡◌, ◌+◌, ◌+ℤ◌, ◌≤◌, true, false, IfOk};
 ghost use Rattle.picture_build.specs.Formats.{IsCommon, of_slice};
 ghost use Rattle.spec_parameter_sets.specs.PictureScaling.{picture_scaling_lists};
-ghost use Rattle.spec_picture_data.specs.Shapes.{pcm_syntax};
+ghost use Rattle.spec_picture_trees.specs.Shapes.{pcm_syntax};
 ghost use Rattle.spec_reconstruction.specs.Factors.{scaling_factors};
 ghost use Rattle.spec_reconstruction.specs.Sound.{IsFormat};
 
@@ -25,7 +25,7 @@ pub(crate) fn common_format(alloc: Global, plan: &PicturePlan) -> Result<UnitFor
 }
 
 /// The same by the picture's scaling factors.
-#[tactic(auto, unfolding(spec_picture_samples::specs::Format::unit_format))]
+#[tactic(auto, unfolding(spec_picture_build::specs::Format::unit_format))]
 fn format_by(sps: &Sps, pps: &Pps, intra: ScalingFactors, inter: ScalingFactors) -> UnitFormat
     ensures value { intra ≡ scaling_factors (picture_scaling_lists sps.now pps.now) true
         → inter ≡ scaling_factors (picture_scaling_lists sps.now pps.now) false → IsCommon sps.now pps.now result }

@@ -5,7 +5,7 @@ ghost use Rattle.std.specs.Option.{unwrap_or};
 ghost use Rattle.ctu_build.specs.Held.{held};
 ghost use Rattle.picture_buffer.specs.Planes.{HasSides, samples_of};
 ghost use Rattle.picture_build.specs.Parts.{IsPart, IsRoom, is_in_part};
-ghost use Rattle.spec_picture_samples.specs.Built.{unit_laid};
+ghost use Rattle.spec_picture_build.specs.Built.{unit_laid};
 
 use crate::part::Part;
 use crate::unit::Unit;

@@ -9,7 +9,7 @@ ghost use Rattle.picture_motion.specs.Deriving.{derived_over, known_over};
 ghost use Rattle.picture_trees.specs.Given.{tree_unit};
 ghost use Rattle.spec_motion.specs.Units.{IsPlacedItem};
 ghost use Rattle.spec_picture_motion.specs.Derived.{known_of_unit, unit_added};
-ghost use Rattle.spec_picture_samples.specs.References.{motions_of as motions_at};
+ghost use Rattle.spec_picture_build.specs.References.{motions_of as motions_at};
 
 use ctu_records::Records;
 use picture_buffer::Bases;

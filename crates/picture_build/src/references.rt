@@ -6,7 +6,7 @@ ghost use Rattle.inter_samples.specs.Inter.{AreSmall};
 ghost use Rattle.picture_buffer.specs.Planes.{plane_height, plane_width, samples_of};
 ghost use Rattle.picture_build.specs.Pictures.{buffer_of, decoded_of};
 ghost use Rattle.spec_inter_prediction.specs.Taps.{clamped};
-ghost use Rattle.spec_picture_samples.specs.References.{pictures_of, reference_sample};
+ghost use Rattle.spec_picture_build.specs.References.{pictures_of, reference_sample};
 ghost use Rattle.spec_reconstruction.specs.declared.format.UnitFormat.{UnitFormat};
 ghost use Rattle.spec_reconstruction.specs.Sound.{IsFormat};
 
@@ -32,7 +32,7 @@ impl<'a> References<'a> {
 
 impl<'a> RefWindow for References<'a> {
     ghost use Rattle.picture_build.specs.Pictures.{buffer_of};
-    ghost use Rattle.spec_picture_samples.specs.References.{pictures_of};
+    ghost use Rattle.spec_picture_build.specs.References.{pictures_of};
 
     ghost reference_at = { λ r. pictures_of (buffer_of r.bases.now) };
 

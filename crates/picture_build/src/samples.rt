@@ -5,11 +5,11 @@ ghost use Rattle.ctu_build.specs.Held.{held};
 ghost use Rattle.ctu_motion.specs.Held.{held as motion_held};
 ghost use Rattle.picture_build.specs.Pictures.{buffer_of};
 ghost use Rattle.picture_trees.specs.Given.{tree_unit};
-ghost use Rattle.spec_picture_data.specs.Shapes.{picture_shape};
+ghost use Rattle.spec_picture_trees.specs.Shapes.{picture_shape};
 ghost use Rattle.spec_picture_motion.specs.Derived.{known_of_unit};
 ghost use Rattle.spec_picture_motion.specs.Field.{Motions, first_row};
-ghost use Rattle.spec_picture_samples.specs.Built.{unit_inter};
-ghost use Rattle.spec_picture_samples.specs.References.{motions_of as motions_at};
+ghost use Rattle.spec_picture_build.specs.Built.{unit_inter};
+ghost use Rattle.spec_picture_build.specs.References.{motions_of as motions_at};
 ghost use Rattle.spec_reconstruction.specs.Sound.{AreSound, IsFormat};
 ghost use Rattle.spec_reconstruction.specs.Unit.{unit_built};
 

@@ -4,9 +4,9 @@ ghost use Rattle.std.specs.Prelude.{◌≡◌, ◌<◌, ◌≤◌, ◌^◌, pos,
 ghost use Rattle.std.specs.Int.{int_shr};
 ghost use Rattle.spec_inter_prediction.specs.Tables.{AreWeights, IsSliceWeighting, IsTable};
 ghost use Rattle.spec_inter_prediction.specs.Weighting.{IsWeight};
-ghost use Rattle.spec_picture_samples.specs.Weights.{cb_weight, chroma_denominator, chroma_offset, chroma_weight};
-ghost use Rattle.spec_picture_samples.specs.Weights.{cr_weight, luma_denominator, luma_weight, reference_weights};
-ghost use Rattle.spec_picture_samples.specs.Weights.{slice_weighting, weight_by, weight_table, weights_at, weights_in};
+ghost use Rattle.spec_picture_build.specs.Weights.{cb_weight, chroma_denominator, chroma_offset, chroma_weight};
+ghost use Rattle.spec_picture_build.specs.Weights.{cr_weight, luma_denominator, luma_weight, reference_weights};
+ghost use Rattle.spec_picture_build.specs.Weights.{slice_weighting, weight_by, weight_table, weights_at, weights_in};
 ghost use Rattle.std.specs.List.{All};
 
 use slice_types::{ChromaWeight, InterFields, LumaWeight, PredWeightTable, RefWeights};
@@ -25,7 +25,7 @@ const NO_WEIGHTS: ReferenceWeights = ReferenceWeights {
 };
 
 /// The weights of a slice, by its fields of P and B slices.
-#[tactic(auto, unfolding(spec_picture_samples::specs::Weights::slice_weighting))]
+#[tactic(auto, unfolding(spec_picture_build::specs::Weights::slice_weighting))]
 pub(crate) fn slice_weighting(inter: &Option<InterFields>) -> SliceWeighting
     ensures value { result ≡ slice_weighting inter.now }
     ensures range { IsSliceWeighting result }
@@ -40,7 +40,7 @@ pub(crate) fn slice_weighting(inter: &Option<InterFields>) -> SliceWeighting
 }
 
 /// By its table.
-#[tactic(auto, unfolding(spec_picture_samples::specs::Weights::weight_table))]
+#[tactic(auto, unfolding(spec_picture_build::specs::Weights::weight_table))]
 fn weight_table(table: &PredWeightTable) -> WeightTable
     ensures value { result ≡ weight_table table.now }
     ensures range { IsTable result }

@@ -8,7 +8,7 @@ use Rattle.plan_types.specs.declared.segment_plan.SegmentPlan.{SegmentPlan}
 use Rattle.plan_types.specs.declared.picture_plan.PicturePlan.{PicturePlan}
 use Rattle.boundary_strengths.specs.declared.sides.UnitSides.{UnitSides}
 use Rattle.boundary_strengths.specs.Held.{beside_of, coded_beside}
-use Rattle.spec_picture_data.specs.Shapes.{qp_bd_offset}
+use Rattle.spec_picture_trees.specs.Shapes.{qp_bd_offset}
 use Rattle.spec_picture_motion.specs.Field.{Motions}
 use Rattle.spec_slice_data.specs.Segment.{PictureShape}
 use Rattle.spec_picture_filters.specs.Units.{beside_unit, coded_near, is_left_filtered, is_top_filtered, motion_near}

@@ -9,7 +9,7 @@ use Rattle.plan_types.specs.declared.segment_plan.SegmentPlan.{SegmentPlan}
 use Rattle.plan_types.specs.declared.picture_plan.PicturePlan.{PicturePlan}
 use Rattle.spec_boundary_strengths.specs.declared.place.UnitPlace.{UnitPlace}
 use Rattle.spec_loop_filters.specs.declared.format.FilterFormat.{FilterFormat}
-use Rattle.spec_picture_data.specs.Shapes.{picture_shape}
+use Rattle.spec_picture_trees.specs.Shapes.{picture_shape}
 use Rattle.spec_picture_motion.specs.Field.{first_column, first_row, is_of_unit, unit_places}
 use Rattle.spec_sample_adaptive_offset.specs.declared.unit.OffsetUnit.{OffsetUnit}
 use Rattle.spec_slice_data.specs.Segment.{PictureShape}

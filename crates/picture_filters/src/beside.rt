@@ -3,7 +3,7 @@
 ghost use Rattle.std.specs.Prelude.{◌≡◌, ◌+◌, ◌-◌, ◌≤◌, ◌&&◌, ◌||◌, nat_le, nat_lt};
 ghost use Rattle.filter_field.specs.Places.{places_of};
 ghost use Rattle.picture_filters.specs.Filtering.{IsCodedAbove, IsCodedLeft, IsUnit, coded_part};
-ghost use Rattle.spec_picture_data.specs.Shapes.{qp_bd_offset};
+ghost use Rattle.spec_picture_trees.specs.Shapes.{qp_bd_offset};
 ghost use Rattle.spec_picture_filters.specs.Units.{coded_near, is_left_filtered, is_reached, is_top_filtered};
 ghost use Rattle.spec_picture_filters.specs.Units.{pcm_disabled};
 

@@ -50,7 +50,7 @@ impl<'a> Model for PictureFilters<'a> {
     ghost use Rattle.header_types.specs.SequenceParameterSets.{height_in_ctbs};
     ghost use Rattle.loop_filters.specs.Scratch.{HasRoom};
     ghost use Rattle.picture_filters.specs.Filtering.{Filtering};
-    ghost use Rattle.spec_picture_data.specs.Shapes.{picture_shape};
+    ghost use Rattle.spec_picture_trees.specs.Shapes.{picture_shape};
 
     ghost Value = { Filtering };
 
@@ -65,7 +65,7 @@ impl<'a> Model for PictureFilters<'a> {
 
 impl<'a> PictureFilters<'a> {
     /// A picture of which no unit is read, to be filtered in this memory. It takes memory, and no other call does.
-    #[tactic(auto, unfolding(spec_picture_data::specs::Shapes::picture_shape))]
+    #[tactic(auto, unfolding(spec_picture_trees::specs::Shapes::picture_shape))]
     pub fn new(
         alloc: Global,
         plan: &'a PicturePlan,

@@ -5,7 +5,7 @@ use Rattle.std.proofs.lemmas.Bool.Decides.{nat_tests}
 use Rattle.spec_bits.specs.Bits.{bit_of, bits}
 use Rattle.spec_bits.proofs.Bytes.{bits-nil}
 use Rattle.spec_bits.proofs.Places.{drop-bits_at}
-use Rattle.spec_pictures.specs.Steps.{first_flag}
+use Rattle.spec_picture_plan.specs.Steps.{first_flag}
 
 high_bit : (byte : ℕ) → byte < 256 → nat_le 128 byte ≡ (byte / 128 % 2 == 1)
 high_bit byte small = grind (arith, nat_tests)

@@ -5,7 +5,7 @@ ghost use Rattle.header_types.specs.SequenceParameterSets.{highest_ordering};
 ghost use Rattle.spec_output_order.specs.OutputOrder.{size_of};
 ghost use Rattle.picture_headers.specs.Bounds.{IsWithinSize, KeepsFew};
 ghost use Rattle.plan_types.specs.Segments.{address_of, begins_at};
-ghost use Rattle.spec_pictures.specs.Closing.{
+ghost use Rattle.spec_picture_plan.specs.Closing.{
   broken_at,
   broken_at_closing,
   broken_from,
@@ -57,7 +57,7 @@ fn is_buffer_full(picture: &PicturePlan) -> bool
 /// The first rule that the slice segments of a picture break together: with entropy coding sync, a slice or a segment
 /// that begins inside a row of coding tree units ends in it (`SliceOrder`), and there is an entry point for each row of
 /// a segment but its first, inside the segment's data (`EntryPoints`).
-#[tactic(auto, unfolding(spec_pictures::specs::Closing::broken_in))]
+#[tactic(auto, unfolding(spec_picture_plan::specs::Closing::broken_in))]
 fn broken_in(picture: &PicturePlan) -> Option<Fault>
     ensures { result ≡ broken_in picture.now }
 {

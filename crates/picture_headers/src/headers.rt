@@ -3,8 +3,8 @@
 ghost use Rattle.std.specs.Prelude.{◌≡◌, ◌<◌, ◌≤◌, [], length, IfOk};
 ghost use Rattle.spec_bits.specs.Bits.{bits};
 ghost use Rattle.spec_formats.specs.Fields.{Parses};
-ghost use Rattle.spec_units.specs.Judged.{unit_of};
-ghost use Rattle.spec_pictures.specs.Steps.{first_flag, judged_header};
+ghost use Rattle.spec_nal_units.specs.Judged.{unit_of};
+ghost use Rattle.spec_picture_plan.specs.Steps.{first_flag, judged_header};
 
 use header_types::{Former, Sets};
 use hv_base::{FaultKind, LimitKind, Nal, Refusal};
@@ -30,7 +30,7 @@ pub fn first_flag(payload: &[u8]) -> Option<bool>
 /// The header of a slice segment behind these of its picture: `HeaderSyntax` where its first bit is missing,
 /// `FirstPicture` where a sequence doesn't begin with an intra random access point, the limit `Segments` where the
 /// picture is full, and else as `read_slice_header` says.
-#[tactic(auto, unfolding(spec_pictures::specs::Steps::judged_header))]
+#[tactic(auto, unfolding(spec_picture_plan::specs::Steps::judged_header))]
 pub fn judge_header(
     alloc: Global,
     sets: &Sets,

@@ -6,10 +6,10 @@ ghost use Rattle.slice_types.specs.SliceHeaders.{IsReferenceFields};
 ghost use Rattle.spec_formats.specs.Fields.{Parses};
 ghost use Rattle.spec_output_order.specs.CurrentPictures.{current_picture};
 ghost use Rattle.spec_output_order.specs.OutputOrder.{outputs_of};
-ghost use Rattle.spec_pictures.specs.Steps.{opening, picture_of, segment_of, with_order};
+ghost use Rattle.spec_picture_plan.specs.Steps.{opening, picture_of, segment_of, with_order};
 ghost use Rattle.spec_reference_pictures.specs.PictureOrderCount.{begins_anew, pic_order_cnt_val};
 ghost use Rattle.spec_reference_pictures.specs.ReferencePictureSet.{GivesSet, is_reference, reference_picture_set};
-ghost use Rattle.spec_units.specs.Judged.{NalUnit, unit_of};
+ghost use Rattle.spec_nal_units.specs.Judged.{NalUnit, unit_of};
 ghost use Rattle.picture_headers.specs.Bounds.{Fits, KeepsFew};
 ghost use Rattle.picture_headers.specs.Parts.{begun_by};
 
@@ -147,7 +147,7 @@ fn parts_under<'a>(
 }
 
 /// The parts of the picture that a first slice segment of this header opens.
-#[tactic(auto, unfolding(spec_pictures::specs::Steps::picture_of))]
+#[tactic(auto, unfolding(spec_picture_plan::specs::Steps::picture_of))]
 fn parts_of(
     alloc: Global,
     sets: &Sets,
@@ -239,7 +239,7 @@ fn picture_of(
 
 /// The picture that a slice segment opens while none is open, under the accepted parameter sets and what the pictures
 /// before left (8.1, 8.3). The error is the first rule that it breaks or limit that it meets, or want of memory.
-#[tactic(auto, unfolding(spec_pictures::specs::Steps::opening))]
+#[tactic(auto, unfolding(spec_picture_plan::specs::Steps::opening))]
 pub fn open_picture(
     alloc: Global,
     sets: &Sets,

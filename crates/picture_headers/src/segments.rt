@@ -2,9 +2,9 @@
 
 ghost use Rattle.std.specs.Prelude.{◌≡◌, IfOk};
 ghost use Rattle.spec_slice_headers.specs.Substreams.{substream_ranges};
-ghost use Rattle.spec_units.specs.Judged.{unit_of};
+ghost use Rattle.spec_nal_units.specs.Judged.{unit_of};
 ghost use Rattle.spec_slice_headers.specs.Context.{last_segment, slice_of};
-ghost use Rattle.spec_pictures.specs.Steps.{lists_of, segment_of, slice_number};
+ghost use Rattle.spec_picture_plan.specs.Steps.{lists_of, segment_of, slice_number};
 
 use header_types::{DpbPicture, FieldList, Lists, Rps};
 use hv_base::Nal;

@@ -2,7 +2,7 @@
 
 ghost use Rattle.std.specs.Prelude.{◌≡◌, ◌+◌, ◌-◌, ◌*◌, ◌/◌, ◌%◌, ◌^◌, ◌<◌, ◌≤◌};
 ghost use Rattle.picture_layout.specs.Shape.{IsShape};
-ghost use Rattle.spec_picture_data.specs.Shapes.{picture_shape};
+ghost use Rattle.spec_picture_trees.specs.Shapes.{picture_shape};
 ghost use Rattle.spec_slice_data.specs.Segment.{begins_row, column_of, row_of};
 
 use plan_types::PicturePlan;
@@ -40,7 +40,7 @@ impl Model for Layout {
 
 impl Layout {
     /// That of a picture.
-    #[tactic(auto, unfolding(spec_picture_data::specs::Shapes::picture_shape))]
+    #[tactic(auto, unfolding(spec_picture_trees::specs::Shapes::picture_shape))]
     pub fn new(plan: &PicturePlan) -> Layout
         ensures value { result ≡ picture_shape plan.now.sps plan.now.pps }
         ensures across { 4 * result.across ≡ plan.now.sps.format.pic_width_in_luma_samples }

@@ -2,7 +2,7 @@
 
 ghost use Rattle.std.specs.Prelude.{◌≡◌};
 ghost use Rattle.plan_types.specs.Segments.{address_of};
-ghost use Rattle.spec_picture_data.specs.Shapes.{slice_start};
+ghost use Rattle.spec_picture_trees.specs.Shapes.{slice_start};
 
 use plan_types::{PicturePlan, SegmentPlan};
 

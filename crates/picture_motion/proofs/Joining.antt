@@ -3,8 +3,8 @@ use Rattle.std.proofs.Common.{◌≡◌, Option, Some, None, ap, refl, sym, ◌�
 use Rattle.header_types.specs.declared.reference_pictures.RefEntry.{RefEntry}
 use Rattle.plan_types.specs.declared.picture_plan.PicturePlan.{PicturePlan}
 use Rattle.plan_types.specs.declared.segment_plan.SegmentPlan.{SegmentPlan}
-use Rattle.spec_picture_data.specs.Picture.{TreeUnit}
-use Rattle.spec_picture_data.specs.Shapes.{slice_start}
+use Rattle.spec_picture_trees.specs.Picture.{TreeUnit}
+use Rattle.spec_picture_trees.specs.Shapes.{slice_start}
 use Rattle.spec_picture_motion.specs.Derived.{References, collocated_motions, known_of_unit, unit_added}
 use Rattle.spec_picture_motion.specs.Field.{Motions, no_motions}
 use Rattle.spec_picture_motion.specs.Slices.{collocated_entry}

@@ -8,7 +8,7 @@ use Rattle.plan_types.specs.declared.picture_plan.PicturePlan.{PicturePlan}
 use Rattle.spec_motion.specs.Units.{unit_derived}
 use Rattle.spec_motion.specs.Vectors.{Known}
 use Rattle.plan_types.specs.Segments.{address_of}
-use Rattle.spec_picture_data.specs.Shapes.{picture_shape, slice_start}
+use Rattle.spec_picture_trees.specs.Shapes.{picture_shape, slice_start}
 use Rattle.spec_picture_motion.specs.Field.{Motions, beneath_unit, known_beside, unit_laid}
 use Rattle.spec_picture_motion.specs.Slices.{slice_motion}
 

@@ -7,7 +7,7 @@ ghost use Rattle.picture_buffer.specs.Motion.{HasPlaces, motions_of};
 ghost use Rattle.picture_motion.specs.Deriving.{derived_over, known_over};
 ghost use Rattle.spec_motion.specs.Units.{IsPlacedItem, unit_derived};
 ghost use Rattle.plan_types.specs.Segments.{address_of};
-ghost use Rattle.spec_picture_data.specs.Shapes.{picture_shape, slice_start};
+ghost use Rattle.spec_picture_trees.specs.Shapes.{picture_shape, slice_start};
 ghost use Rattle.spec_picture_motion.specs.Field.{no_motions, unit_laid};
 ghost use Rattle.spec_picture_motion.specs.Slices.{slice_motion};
 
@@ -40,7 +40,7 @@ impl<'a> Model for PictureMotion<'a> {
     ghost use Rattle.std.specs.Prelude.{◌≡◌};
     ghost use Rattle.picture_buffer.specs.Motion.{HasPlaces};
     ghost use Rattle.picture_motion.specs.Deriving.{Deriving};
-    ghost use Rattle.spec_picture_data.specs.Shapes.{picture_shape};
+    ghost use Rattle.spec_picture_trees.specs.Shapes.{picture_shape};
 
     ghost Value = { Deriving };
 

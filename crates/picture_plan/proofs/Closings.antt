@@ -7,8 +7,8 @@ use Rattle.plan_types.specs.declared.picture_plan.PicturePlan.{PicturePlan}
 use Rattle.plan_types.specs.declared.segment_plan.SegmentPlan.{SegmentPlan}
 use Rattle.plan_types.specs.declared.between.Between.{Between}
 use Rattle.spec_formats.specs.Fields.{Parses}
-use Rattle.spec_units.specs.Judged.{NalUnit}
-use Rattle.spec_pictures.specs.Steps.{close, closing, continuing, joined, slice_judged, then_next}
+use Rattle.spec_nal_units.specs.Judged.{NalUnit}
+use Rattle.spec_picture_plan.specs.Steps.{close, closing, continuing, joined, slice_judged, then_next}
 use Rattle.picture_plan.specs.declared.change.Change.{Change}
 use Rattle.picture_plan.specs.Changes.{IsNextSegment, Stops, applied, one_more}
 use Rattle.picture_plan.specs.States.{Held}

@@ -4,8 +4,8 @@ use Rattle.std.proofs.Common.{sym, ap, ◌∙◌, append-nil}
 use Rattle.hv_base.specs.declared.refusal.Stop.{Stop}
 use Rattle.plan_types.specs.declared.picture_plan.PicturePlan.{PicturePlan}
 use Rattle.plan_types.specs.declared.between.Between.{Between}
-use Rattle.spec_pictures.specs.Planned.{last_of}
-use Rattle.spec_pictures.specs.Steps.{Stepped, close}
+use Rattle.spec_picture_plan.specs.Planned.{last_of}
+use Rattle.spec_picture_plan.specs.Steps.{Stepped, close}
 use Rattle.picture_plan.specs.declared.step.Step.{Step}
 use Rattle.picture_plan.specs.Changes.{next_of}
 use Rattle.picture_plan.specs.Flights.{Gathered, cut, cut_at_stop, ended, some_flight, waiting, with_pictures}

@@ -10,8 +10,8 @@ use Rattle.plan_types.specs.declared.picture_plan.PicturePlan.{PicturePlan}
 use Rattle.plan_types.specs.declared.segment_plan.SegmentPlan.{SegmentPlan}
 use Rattle.plan_types.specs.declared.between.Between.{Between}
 use Rattle.spec_formats.specs.Fields.{Parses}
-use Rattle.spec_units.specs.Judged.{NalUnit}
-use Rattle.spec_pictures.specs.Steps.{Stepped, begun, close, continuing, put_pps, put_sps, sequence_end, stop_at}
+use Rattle.spec_nal_units.specs.Judged.{NalUnit}
+use Rattle.spec_picture_plan.specs.Steps.{Stepped, begun, close, continuing, put_pps, put_sps, sequence_end, stop_at}
 use Rattle.picture_plan.specs.Bounds.{IsWithin}
 use Rattle.picture_plan.specs.declared.change.Change.{Change}
 use Rattle.picture_plan.specs.declared.change.Change.TheVariants as change

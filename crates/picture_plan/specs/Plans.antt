@@ -2,10 +2,10 @@
 use Rattle.std.specs.Prelude.{ℕ, List, [], ◌∷◌, Option, Some, None, Result, Ok, Err}
 use Rattle.hv_base.specs.declared.refusal.Stop.{Stop}
 use Rattle.plan_types.specs.declared.picture_plan.PicturePlan.{PicturePlan}
-use Rattle.spec_units.specs.Judged.{Told}
+use Rattle.spec_nal_units.specs.Judged.{Told}
 use Rattle.plan_types.specs.declared.between.Between.{Between}
-use Rattle.spec_pictures.specs.Steps.{Stepped, close, step}
-use Rattle.spec_pictures.specs.Planned.{last_of}
+use Rattle.spec_picture_plan.specs.Steps.{Stepped, close, step}
+use Rattle.spec_picture_plan.specs.Planned.{last_of}
 use Rattle.picture_plan.specs.Flights.{Gathered, waiting, cut, with_pictures, cut_at_stop}
 
 -- how many pictures a flight has at most, the pictures that wait for their flight's end, and what is known behind the

@@ -3,7 +3,7 @@ use Rattle.std.specs.Prelude.{ℕ, List, ◌++◌, Option, Result, Ok, Err}
 use Rattle.hv_base.specs.declared.refusal.Stop.{Stop}
 use Rattle.plan_types.specs.declared.picture_plan.PicturePlan.{PicturePlan}
 use Rattle.plan_types.specs.declared.between.Between.{Between}
-use Rattle.spec_pictures.specs.Steps.{Stepped}
+use Rattle.spec_picture_plan.specs.Steps.{Stepped}
 use Rattle.picture_plan.specs.declared.flight.Ended.{Ended}
 use Rattle.picture_plan.specs.declared.step.Step.{Step}
 use Rattle.picture_plan.specs.Flights.{Gathered, some_flight, waiting, with_pictures}

@@ -1,7 +1,7 @@
 //! What judging a unit finds, before anything is changed.
 
 ghost use Rattle.std.specs.Prelude.{◌≡◌, IfOk};
-ghost use Rattle.spec_pictures.specs.Steps.{begun, drops_after};
+ghost use Rattle.spec_picture_plan.specs.Steps.{begun, drops_after};
 ghost use Rattle.picture_plan.specs.Bounds.{ChangesFew, IsBetween};
 ghost use Rattle.picture_plan.specs.Changes.{Stops, applied, next_of};
 

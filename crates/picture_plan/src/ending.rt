@@ -1,8 +1,8 @@
 //! What the end of the input gives.
 
 ghost use Rattle.std.specs.Prelude.{◌≡◌, IfOk, OnErr};
-ghost use Rattle.spec_pictures.specs.Planned.{last_of};
-ghost use Rattle.spec_pictures.specs.Steps.{close};
+ghost use Rattle.spec_picture_plan.specs.Planned.{last_of};
+ghost use Rattle.spec_picture_plan.specs.Steps.{close};
 ghost use Rattle.picture_plan.specs.Changes.{Closes};
 ghost use Rattle.picture_plan.specs.Taken.{left_by, taken};
 

@@ -1,8 +1,8 @@
 //! What a picture leaves behind (8.3.1).
 
 ghost use Rattle.std.specs.Prelude.{◌≡◌, IfOk};
-ghost use Rattle.spec_pictures.specs.Pictures.{former_after, prev_after};
-ghost use Rattle.spec_pictures.specs.UnitKinds.{is_order_base};
+ghost use Rattle.spec_picture_plan.specs.Pictures.{former_after, prev_after};
+ghost use Rattle.spec_picture_plan.specs.UnitKinds.{is_order_base};
 ghost use Rattle.picture_headers.specs.Bounds.{IsWithinSize};
 ghost use Rattle.picture_plan.specs.Bounds.{IsWithin};
 
@@ -12,7 +12,7 @@ use plan_types::PicturePlan;
 use std::alloc::{AllocError, Global};
 
 /// What is left to the next picture, once a picture is over: its order count may be the base of later ones.
-#[tactic(auto, unfolding(spec_pictures::specs::Pictures::former_after))]
+#[tactic(auto, unfolding(spec_picture_plan::specs::Pictures::former_after))]
 pub(crate) fn former_after(
     alloc: Global,
     former: &Former,

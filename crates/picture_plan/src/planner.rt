@@ -1,7 +1,7 @@
 //! Plans the pictures of a stream, unit by unit.
 
 ghost use Rattle.std.specs.Prelude.{◌≡◌, ◌≤◌, ◌++◌, [], Ok, Some, OnErr, IfOk};
-ghost use Rattle.spec_pictures.specs.Pictures.{beginning};
+ghost use Rattle.spec_picture_plan.specs.Pictures.{beginning};
 ghost use Rattle.nal_stream.specs.Answers.{told_by};
 ghost use Rattle.picture_plan.specs.Flights.{some_flight};
 ghost use Rattle.picture_plan.specs.Plans.{at_end, behind_unit, halted, stop_of};

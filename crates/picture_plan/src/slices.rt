@@ -2,9 +2,9 @@
 
 ghost use Rattle.std.specs.Prelude.{◌≡◌, ◌≤◌, [], None, Some, IfSome, Ok, IfOk, OnOk, OnErr, length};
 ghost use Rattle.plan_types.specs.declared.picture_plan.PicturePlan.{PicturePlan};
-ghost use Rattle.spec_units.specs.Judged.{unit_of};
+ghost use Rattle.spec_nal_units.specs.Judged.{unit_of};
 ghost use Rattle.plan_types.specs.declared.between.Between.{Between};
-ghost use Rattle.spec_pictures.specs.Steps.{close, closing, first_flag, goes_on, slice_judged, slice_step};
+ghost use Rattle.spec_picture_plan.specs.Steps.{close, closing, first_flag, goes_on, slice_judged, slice_step};
 ghost use Rattle.picture_headers.specs.Bounds.{KeepsFew};
 ghost use Rattle.picture_plan.specs.Bounds.{ChangesFew};
 ghost use Rattle.picture_plan.specs.Changes.{Closes, IsNextSegment, applied, one_more};
@@ -23,7 +23,7 @@ use std::alloc::AllocError;
 impl State {
     /// Plans a slice segment: of a dropped picture it closes the open one and isn't read; one that begins a picture
     /// closes the open one first.
-    #[tactic(auto, unfolding(spec_pictures::specs::Steps::slice_step))]
+    #[tactic(auto, unfolding(spec_picture_plan::specs::Steps::slice_step))]
     pub(crate) fn plan_slice(&mut self, nal: Nal) -> Result<Step, AllocError>
         ensures value { IfOk result
             (λ step. left_by step self.new ≡ taken self.old (slice_step self.old.between (unit_of nal))) }
@@ -40,7 +40,7 @@ impl State {
     }
 
     /// Plans a slice segment that goes on with a picture, if one is open.
-    #[tactic(auto, unfolding(spec_pictures::specs::Steps::close))]
+    #[tactic(auto, unfolding(spec_picture_plan::specs::Steps::close))]
     fn go_on_or_open(&mut self, nal: Nal) -> Result<Step, AllocError>
         ensures value { IfOk result (λ step. left_by step self.new
             ≡ taken self.old (record { closed = []; next = slice_judged (unit_of nal) self.old.between })) }
@@ -70,7 +70,7 @@ impl State {
     }
 
     /// A slice segment behind those of the open picture.
-    #[tactic(auto, unfolding(spec_pictures::specs::Steps::continuing))]
+    #[tactic(auto, unfolding(spec_picture_plan::specs::Steps::continuing))]
     fn next_segment(&self, nal: Nal) -> Result<SegmentPlan, Refusal>
         requires open { self.now.between.picture ≡ None → ⊥ }
         ensures { IsNextSegment result self.now.between (unit_of nal) }
@@ -109,7 +109,7 @@ impl State {
     }
 
     /// Judges a slice segment while no picture is open, and this is left to its picture.
-    #[tactic(auto, unfolding(spec_pictures::specs::Steps::slice_judged))]
+    #[tactic(auto, unfolding(spec_picture_plan::specs::Steps::slice_judged))]
     pub(crate) fn judge_opening(&self, former: &Former, nal: Nal) -> Result<Change, AllocError>
         requires few { length former.now.dpb ≤ 16 }
         ensures value { IfOk result (λ change. (t : Between) → t.sets ≡ self.now.between.sets → t.former ≡ former.now

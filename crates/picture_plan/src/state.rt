@@ -1,7 +1,7 @@
 //! What a planner knows while nothing stopped the stream.
 
 ghost use Rattle.std.specs.Prelude.{◌≡◌, [], IfOk};
-ghost use Rattle.spec_pictures.specs.Pictures.{beginning};
+ghost use Rattle.spec_picture_plan.specs.Pictures.{beginning};
 
 use crate::flight::Flight;
 use header_types::{Former, Sets};
@@ -36,7 +36,7 @@ impl Model for State {
 
 impl State {
     /// Before the first unit.
-    #[tactic(auto, unfolding(spec_pictures::specs::Pictures::beginning))]
+    #[tactic(auto, unfolding(spec_picture_plan::specs::Pictures::beginning))]
     pub(crate) fn new(alloc: Global, ahead: u32) -> Result<State, AllocError>
         ensures { IfOk result (λ s. s ≡ record { ahead = ahead; pending = []; between = beginning }) }
     {

@@ -3,7 +3,7 @@
 ghost use Rattle.std.specs.Prelude.{◌≡◌, None, Ok, Result, IfOk, OnErr, OnOk};
 ghost use Rattle.hv_base.specs.declared.refusal.Stop.{Stop};
 ghost use Rattle.plan_types.specs.declared.between.Between.{Between};
-ghost use Rattle.spec_pictures.specs.Steps.{close, closing};
+ghost use Rattle.spec_picture_plan.specs.Steps.{close, closing};
 ghost use Rattle.picture_plan.specs.declared.change.Closing.TheVariants as kind;
 ghost use Rattle.picture_plan.specs.Bounds.{ChangesFew};
 ghost use Rattle.picture_plan.specs.Changes.{Closes, applied, pictures_in};
@@ -46,7 +46,7 @@ impl Step {
 
 impl State {
     /// How the open picture is closed.
-    #[tactic(auto, unfolding(spec_pictures::specs::Steps::close, spec_pictures::specs::Pictures::former_after))]
+    #[tactic(auto, unfolding(spec_picture_plan::specs::Steps::close, spec_picture_plan::specs::Pictures::former_after))]
     pub(crate) fn closing(&self) -> Result<Closing, AllocError>
         ensures { IfOk result (λ how. Closes how self.now.between) }
     {

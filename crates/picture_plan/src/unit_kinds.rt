@@ -1,16 +1,16 @@
 //! What a NAL unit is to the pictures of a stream, by its nal_unit_type (7.4.2.2, 7.4.2.4.4).
 
 ghost use Rattle.std.specs.Prelude.{◌≡◌};
-ghost use Rattle.spec_pictures.specs.UnitKinds.{is_radl, is_rasl, is_slice, is_sub_layer_non_reference, kind_of_type};
+ghost use Rattle.spec_picture_plan.specs.UnitKinds.{is_radl, is_rasl, is_slice, is_sub_layer_non_reference, kind_of_type};
 
 use hv_base::{
     AUD_NUT, BLA_W_LP, CRA_NUT, EOB_NUT, EOS_NUT, PPS_NUT, PREFIX_SEI_NUT, RADL_N, RADL_R, RASL_N,
     RASL_R, RSV_VCL_N14, SPS_NUT, VPS_NUT,
 };
-use spec_pictures::UnitKind;
+use spec_picture_plan::UnitKind;
 
 /// What a unit of this nal_unit_type is.
-#[tactic(auto, unfolding(spec_pictures::specs::UnitKinds::kind_of_type))]
+#[tactic(auto, unfolding(spec_picture_plan::specs::UnitKinds::kind_of_type))]
 pub(crate) fn kind_of_type(nal_type: u8) -> UnitKind
     ensures { result ≡ kind_of_type nal_type }
 {

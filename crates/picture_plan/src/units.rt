@@ -1,12 +1,12 @@
 //! Plans one unit after the other.
 
 ghost use Rattle.std.specs.Prelude.{◌≡◌, IfOk, OnErr};
-ghost use Rattle.spec_units.specs.Judged.{unit_of};
+ghost use Rattle.spec_nal_units.specs.Judged.{unit_of};
 ghost use Rattle.spec_parameter_sets.specs.PictureParameterSet.{picture_parameter_set_of};
 ghost use Rattle.spec_parameter_sets.specs.SequenceParameterSet.{sequence_parameter_set_of};
 ghost use Rattle.plan_types.specs.declared.between.Between.{Between};
-ghost use Rattle.spec_pictures.specs.declared.unit_kind.UnitKind.TheVariants as unit;
-ghost use Rattle.spec_pictures.specs.Steps.{behind_read, kind_step, put_pps, put_sps, unit_step};
+ghost use Rattle.spec_picture_plan.specs.declared.unit_kind.UnitKind.TheVariants as unit;
+ghost use Rattle.spec_picture_plan.specs.Steps.{behind_read, kind_step, put_pps, put_sps, unit_step};
 ghost use Rattle.nal_stream.specs.Answers.{told_by};
 ghost use Rattle.picture_plan.specs.Bounds.{ChangesFew};
 ghost use Rattle.picture_plan.specs.Changes.{applied};
@@ -22,13 +22,13 @@ use hv_base::{Nal, Stop};
 use nal_stream::Next;
 use param_sets::read_sps;
 use picture_parameter_sets::read_pps;
-use spec_pictures::UnitKind;
+use spec_picture_plan::UnitKind;
 use std::alloc::{AllocError, Global};
 
 impl State {
     /// Plans what the framer answers: a unit, or what stops the stream behind the open picture. After want of memory
     /// all is as before.
-    #[tactic(auto, unfolding(spec_pictures::specs::Steps::step))]
+    #[tactic(auto, unfolding(spec_picture_plan::specs::Steps::step))]
     pub(crate) fn plan_next(&mut self, next: Next) -> Result<Step, AllocError>
         ensures value { IfOk result
             (λ step. left_by step self.new ≡ taken self.old (stepped self.old.between (told_by next))) }
@@ -43,7 +43,7 @@ impl State {
     }
 
     /// Plans a unit: those of a layer above the base are passed over.
-    #[tactic(auto, unfolding(spec_pictures::specs::Steps::unit_step))]
+    #[tactic(auto, unfolding(spec_picture_plan::specs::Steps::unit_step))]
     fn plan_unit(&mut self, nal: Nal) -> Result<Step, AllocError>
         ensures value { IfOk result
             (λ step. left_by step self.new ≡ taken self.old (unit_step self.old.between (unit_of nal))) }

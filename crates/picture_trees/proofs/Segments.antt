@@ -10,9 +10,9 @@ use Rattle.plan_types.specs.declared.segment_plan.SegmentPlan.{SegmentPlan}
 use Rattle.plan_types.specs.declared.picture_plan.PicturePlan.{PicturePlan}
 use Rattle.block_geometry.specs.CodingTreeBlocks.{ctb_scan}
 use Rattle.spec_slice_data.specs.Segment.{PictureShape, Between, no_group, nothing_read, unit_of, unit_step}
-use Rattle.spec_picture_data.specs.Shapes.{end_of, picture_shape}
-use Rattle.spec_picture_data.specs.Picture.{TreeUnit, Progress, Halt, SegmentAt, and_segments, segment_at, segment_read}
-use Rattle.spec_picture_data.specs.Picture.{before_picture, picture_read, segments_read, then_units, units_read}
+use Rattle.spec_picture_trees.specs.Shapes.{end_of, picture_shape}
+use Rattle.spec_picture_trees.specs.Picture.{TreeUnit, Progress, Halt, SegmentAt, and_segments, segment_at, segment_read}
+use Rattle.spec_picture_trees.specs.Picture.{before_picture, picture_read, segments_read, then_units, units_read}
 use Rattle.picture_trees.specs.Given.{AreAll, ReadsPicture, tree_unit}
 use Rattle.picture_trees.specs.declared.trees.ReadError.{ReadError}
 use Rattle.picture_trees.specs.declared.trees.ReadError.TheVariants as errors

@@ -1,7 +1,7 @@
 -- The units that are handed over while a picture is read.
 use Rattle.std.specs.Prelude.{◌≡◌, ℕ, List, Result, Ok, Err}
 use Rattle.ctu_records.specs.Tree.{Ctu}
-use Rattle.spec_picture_data.specs.Picture.{TreeUnit, Progress, Halt}
+use Rattle.spec_picture_trees.specs.Picture.{TreeUnit, Progress, Halt}
 use Rattle.picture_trees.specs.declared.trees.ReadError.{ReadError}
 use Rattle.picture_trees.specs.declared.trees.ReadError.TheVariants as error
 

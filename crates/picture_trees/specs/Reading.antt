@@ -5,8 +5,8 @@ use Rattle.hv_base.specs.declared.breach.Breach.{Breach}
 use Rattle.ctu_records.specs.Tree.{Ctu}
 use Rattle.spec_cabac.specs.Engine.{IsLive}
 use Rattle.spec_slice_data.specs.Segment.{PictureShape, Between, begins_row, begins_substream, no_group, nothing_read}
-use Rattle.spec_picture_data.specs.Picture.{TreeUnit, Progress, Halt, SegmentAt, segment_at, segments_read, units_read}
-use Rattle.spec_picture_data.specs.Shapes.{picture_shape}
+use Rattle.spec_picture_trees.specs.Picture.{TreeUnit, Progress, Halt, SegmentAt, segment_at, segments_read, units_read}
+use Rattle.spec_picture_trees.specs.Shapes.{picture_shape}
 use Rattle.plan_types.specs.declared.segment_plan.SegmentPlan.{SegmentPlan}
 use Rattle.plan_types.specs.declared.picture_plan.PicturePlan.{PicturePlan}
 use Rattle.picture_trees.specs.Given.{Told}

@@ -3,8 +3,8 @@
 ghost use Rattle.std.specs.Prelude.{◌≡◌, ◌+◌, ◌*◌, ◌<◌, ◌≤◌, List, drop, length};
 ghost use Rattle.plan_types.specs.declared.segment_plan.SegmentPlan.{SegmentPlan};
 ghost use Rattle.header_types.specs.SequenceParameterSets.{size_in_ctbs, width_in_ctbs};
-ghost use Rattle.spec_picture_data.specs.Picture.{TreeUnit, picture_read};
-ghost use Rattle.spec_picture_data.specs.Shapes.{end_of};
+ghost use Rattle.spec_picture_trees.specs.Picture.{TreeUnit, picture_read};
+ghost use Rattle.spec_picture_trees.specs.Shapes.{end_of};
 ghost use Rattle.picture_trees.specs.Given.{ReadsPicture};
 ghost use Rattle.picture_trees.specs.Reading.{next_segment};
 

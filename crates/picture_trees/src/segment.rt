@@ -5,7 +5,7 @@ ghost use Rattle.header_types.specs.SequenceParameterSets.{size_in_ctbs};
 ghost use Rattle.spec_slice_headers.specs.SliceFields.{slice_qp};
 ghost use Rattle.spec_cabac.specs.Contexts.{first_contexts};
 ghost use Rattle.spec_slice_headers.specs.Substreams.{bytes_of};
-ghost use Rattle.spec_picture_data.specs.Shapes.{first_qp, qp_bd_offset, segment_shape};
+ghost use Rattle.spec_picture_trees.specs.Shapes.{first_qp, qp_bd_offset, segment_shape};
 
 use crate::slice_syntax::init_type;
 use cabac_contexts::Contexts;
@@ -56,7 +56,7 @@ impl<'a> Model for Segment<'a> {
 
 impl<'a> Segment<'a> {
     /// A segment of a picture, from the place where its first unit stands to the one behind its last.
-    #[tactic(auto, unfolding(spec_picture_data::specs::Shapes::segment_shape))]
+    #[tactic(auto, unfolding(spec_picture_trees::specs::Shapes::segment_shape))]
     pub(crate) fn new(
         picture: &PicturePlan,
         segment: &'a SegmentPlan,

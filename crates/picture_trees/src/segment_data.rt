@@ -6,8 +6,8 @@ ghost use Rattle.plan_types.specs.declared.segment_plan.SegmentPlan.{SegmentPlan
 ghost use Rattle.spec_slice_data.specs.Segment.{begins_row, column_of, has_above, has_left, has_stored, is_last};
 ghost use Rattle.spec_slice_data.specs.Segment.{row_of, syntax_at};
 ghost use Rattle.spec_slice_data.specs.Syntax.{IsSyntax};
-ghost use Rattle.spec_picture_data.specs.Picture.{segment_at};
-ghost use Rattle.spec_picture_data.specs.Shapes.{end_of};
+ghost use Rattle.spec_picture_trees.specs.Picture.{segment_at};
+ghost use Rattle.spec_picture_trees.specs.Shapes.{end_of};
 
 use crate::segment::Segment;
 use crate::slice_syntax::segment_syntax;
@@ -32,7 +32,7 @@ pub(crate) struct SegmentData<'a> {
 impl<'a> Model for SegmentData<'a> {
     ghost use Rattle.std.specs.Prelude.{◌+◌, ◌*◌, ◌≤◌};
     ghost use Rattle.spec_slice_data.specs.Syntax.{IsSyntax};
-    ghost use Rattle.spec_picture_data.specs.Picture.{SegmentAt};
+    ghost use Rattle.spec_picture_trees.specs.Picture.{SegmentAt};
 
     ghost Value = { SegmentAt };
 
@@ -51,7 +51,7 @@ impl<'a> Model for SegmentData<'a> {
 
 impl<'a> SegmentData<'a> {
     /// A segment from the place where its first unit stands to the one behind its last.
-    #[tactic(auto, unfolding(spec_picture_data::specs::Shapes::picture_shape, spec_picture_data::specs::Shapes::segment_shape))]
+    #[tactic(auto, unfolding(spec_picture_trees::specs::Shapes::picture_shape, spec_picture_trees::specs::Shapes::segment_shape))]
     pub(crate) fn new(
         picture: &PicturePlan,
         number: usize,

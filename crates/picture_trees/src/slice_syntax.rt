@@ -3,8 +3,8 @@
 ghost use Rattle.std.specs.Prelude.{◌≡◌, ◌≤◌, ◌<◌, ◌+◌, ◌-◌, Some, unwrap_or};
 ghost use Rattle.header_types.specs.SequenceParameterSets.{ctb_log2, max_pcm_log2};
 ghost use Rattle.spec_slice_data.specs.Syntax.{IsSyntax};
-ghost use Rattle.spec_picture_data.specs.Shapes.{active, in_places, init_type, init_type_of, inter_syntax, pcm_syntax};
-ghost use Rattle.spec_picture_data.specs.Shapes.{segment_syntax};
+ghost use Rattle.spec_picture_trees.specs.Shapes.{active, in_places, init_type, init_type_of, inter_syntax, pcm_syntax};
+ghost use Rattle.spec_picture_trees.specs.Shapes.{segment_syntax};
 ghost use Rattle.spec_slice_headers.specs.InterFields.{is_b};
 
 use header_types::{PcmFormat, Sps};
@@ -13,7 +13,7 @@ use slice_types::{InterFields, SliceFields, SliceType};
 use spec_slice_data::{CtuSyntax, InterSyntax, PcmSyntax};
 
 /// What the elements of all units of a segment depend on.
-#[tactic(auto, unfolding(spec_picture_data::specs::Shapes::slice_syntax))]
+#[tactic(auto, unfolding(spec_picture_trees::specs::Shapes::slice_syntax))]
 pub(crate) fn segment_syntax(picture: &PicturePlan, segment: &SegmentPlan) -> CtuSyntax
     ensures value { result ≡ segment_syntax picture.now segment.now }
     ensures syntax { IsSyntax result }
@@ -63,7 +63,7 @@ fn active(minus1: u32) -> u8
 }
 
 /// What inter coding units of a slice depend on.
-#[tactic(auto, unfolding(spec_picture_data::specs::Shapes::inter_syntax))]
+#[tactic(auto, unfolding(spec_picture_trees::specs::Shapes::inter_syntax))]
 fn inter_syntax(sps: &Sps, slice: &SliceFields) -> InterSyntax
     ensures { result ≡ inter_syntax sps.now slice.now.slice_type slice.now.inter }
 {
@@ -93,7 +93,7 @@ fn inter_syntax(sps: &Sps, slice: &SliceFields) -> InterSyntax
 }
 
 /// initType of a slice (9.3.2.2).
-#[tactic(auto, unfolding(spec_picture_data::specs::Shapes::init_type))]
+#[tactic(auto, unfolding(spec_picture_trees::specs::Shapes::init_type))]
 pub(crate) fn init_type(slice: &SliceFields) -> u32
     ensures value { result ≡ init_type slice.now.slice_type slice.now.inter }
     ensures few { result < 3 }

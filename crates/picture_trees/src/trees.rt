@@ -2,7 +2,7 @@
 
 ghost use Rattle.std.specs.Prelude.{List, [], ◌∷◌, ◌++◌, OnOk};
 ghost use Rattle.plan_types.specs.declared.picture_plan.PicturePlan.{PicturePlan};
-ghost use Rattle.spec_picture_data.specs.Picture.{TreeUnit};
+ghost use Rattle.spec_picture_trees.specs.Picture.{TreeUnit};
 ghost use Rattle.picture_trees.specs.Given.{tree_unit};
 
 use ctu_records::Records;

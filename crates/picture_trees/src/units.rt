@@ -8,7 +8,7 @@ ghost use Rattle.spec_slice_data.specs.Segment.{contexts_before, is_last, qp_bef
 ghost use Rattle.spec_slice_data.specs.Segment.{unit_step};
 ghost use Rattle.spec_slice_data.specs.declared.syntax.End.TheVariants as end;
 ghost use Rattle.plan_types.specs.declared.picture_plan.PicturePlan.{PicturePlan};
-ghost use Rattle.spec_picture_data.specs.Picture.{TreeUnit, before_picture, segment_read};
+ghost use Rattle.spec_picture_trees.specs.Picture.{TreeUnit, before_picture, segment_read};
 ghost use Rattle.picture_trees.specs.Beside.{behind};
 ghost use Rattle.picture_trees.specs.Reading.{IsKept, MayGoOn, ReadsSegment, Steps, between_of, progress_of};
 
@@ -43,7 +43,7 @@ pub(crate) struct Reading<'a> {
 
 impl<'a> Reading<'a> {
     /// Before the first unit of a picture.
-    #[tactic(auto, unfolding(spec_picture_data::specs::Picture::before_picture, spec_bits::specs::Bits::bits))]
+    #[tactic(auto, unfolding(spec_picture_trees::specs::Picture::before_picture, spec_bits::specs::Bits::bits))]
     pub(crate) fn new(alloc: Global, layout: &Layout) -> Result<Reading<'a>, AllocError>
         ensures before { IfOk result (λ r. between_of r [] ≡ before_picture) }
         ensures kept { IfOk result (λ r. IsKept layout.now 0 r.beside []) }

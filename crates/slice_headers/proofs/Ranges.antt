@@ -6,8 +6,8 @@ use Rattle.header_fields.specs.declared.field_reader.FieldReader.{FieldReader}
 use Rattle.header_fields.specs.Takes.{Takes}
 use Rattle.spec_formats.specs.Fields.{Header}
 use Rattle.spec_formats.proofs.Values.{CanBe, can_be}
-use Rattle.spec_header_ranges.specs.Ranges.{IsNamed}
-use Rattle.spec_header_ranges.proofs.Headers.{first_lsb, header_is, placed_is}
+use Rattle.header_laws.specs.Ranges.{IsNamed}
+use Rattle.header_laws.proofs.Headers.{first_lsb, header_is, placed_is}
 use Rattle.spec_slice_headers.specs.Context.{Context, slice_header}
 use Rattle.spec_slice_headers.specs.NamedSets.{named_by}
 use Rattle.spec_slice_headers.specs.SegmentHeader.{slice_segment_header}

@@ -3,7 +3,7 @@
 ghost use Rattle.std.specs.Prelude.{◌≡◌, IfOk, IfSome};
 ghost use Rattle.std.specs.Option.{option_map};
 ghost use Rattle.spec_formats.specs.Fields.{Parses};
-ghost use Rattle.spec_header_ranges.specs.Ranges.{IsNamed};
+ghost use Rattle.header_laws.specs.Ranges.{IsNamed};
 ghost use Rattle.spec_slice_headers.specs.NamedSets.{named_by, named_sets, is_active};
 ghost use Rattle.slice_fields.specs.Views.{context_of, named_of};
 

@@ -6,7 +6,7 @@ ghost use Rattle.slice_types.specs.SliceHeaders.{IsSliceFields, IsSliceHeader};
 ghost use Rattle.hv_base.specs.declared.field_rules.TheConstants.{SLICE_HEADER_RULES};
 ghost use Rattle.header_fields.specs.Takes.{Takes};
 ghost use Rattle.spec_formats.specs.Fields.{Parses, Reads, optional, repeated, u};
-ghost use Rattle.spec_header_ranges.specs.Ranges.{IsNamed};
+ghost use Rattle.header_laws.specs.Ranges.{IsNamed};
 ghost use Rattle.spec_slice_headers.specs.Context.{first_of, slice_header};
 ghost use Rattle.spec_slice_headers.specs.NamedSets.{named_by};
 ghost use Rattle.spec_slice_headers.specs.SegmentHeader.{taken_fields, fields_of_slice, entry_point, entry_points};

@@ -2,13 +2,13 @@
 use Rattle.std.proofs.Common.{◌≡◌, ℕ, true, List, All}
 use Rattle.plan_types.specs.declared.picture_plan.PicturePlan.{PicturePlan}
 use Rattle.spec_decoded_pictures.specs.Decoded.{decoded_by, samples_filtered, units_decoded}
-use Rattle.spec_picture_data.specs.Picture.{TreeUnit}
-use Rattle.spec_picture_data.specs.Shapes.{picture_shape}
+use Rattle.spec_picture_trees.specs.Picture.{TreeUnit}
+use Rattle.spec_picture_trees.specs.Shapes.{picture_shape}
 use Rattle.spec_picture_filters.proofs.Quiet.{unchanged}
 use Rattle.spec_picture_filters.specs.Disabled.{AreDisabled, HasNoOffset}
-use Rattle.spec_picture_samples.specs.Border.{has_sample}
-use Rattle.spec_picture_samples.specs.Built.{units_built}
-use Rattle.spec_picture_samples.specs.References.{DecodedPicture, motions_of}
+use Rattle.spec_picture_build.specs.Border.{has_sample}
+use Rattle.spec_picture_build.specs.Built.{units_built}
+use Rattle.spec_picture_build.specs.References.{DecodedPicture, motions_of}
 
 pub as_built : (buffer : List DecodedPicture) (p : PicturePlan) (units : List TreeUnit) (c x y : ℕ)
     → AreDisabled p.segments → All HasNoOffset units → has_sample (picture_shape p.sps p.pps) c x y ≡ true

@@ -2,13 +2,13 @@
 -- and from the pictures that it refers to, and then go through its loop filters (8.1.3, 8.7).
 use Rattle.std.specs.Prelude.{ℕ, List, [], Result, Ok, Err, if◌then◌else◌}
 use Rattle.plan_types.specs.declared.picture_plan.PicturePlan.{PicturePlan}
-use Rattle.spec_picture_data.specs.Picture.{Halt, PictureBroken, Progress, TreeUnit, picture_read}
-use Rattle.spec_picture_data.specs.Shapes.{picture_shape}
+use Rattle.spec_picture_trees.specs.Picture.{Halt, PictureBroken, Progress, TreeUnit, picture_read}
+use Rattle.spec_picture_trees.specs.Shapes.{picture_shape}
 use Rattle.spec_picture_filters.specs.Data.{FilterData}
 use Rattle.spec_picture_filters.specs.Filtered.{filtered, units_filtered}
-use Rattle.spec_picture_samples.specs.Border.{Samples, has_sample}
-use Rattle.spec_picture_samples.specs.Built.{BuiltPicture, units_built}
-use Rattle.spec_picture_samples.specs.References.{DecodedPicture, motions_of}
+use Rattle.spec_picture_build.specs.Border.{Samples, has_sample}
+use Rattle.spec_picture_build.specs.Built.{BuiltPicture, units_built}
+use Rattle.spec_picture_build.specs.References.{DecodedPicture, motions_of}
 
 -- the samples of a picture behind its loop filters; 0 outside the picture
 unfoldable pub samples_filtered : PicturePlan → FilterData → Samples → Samples

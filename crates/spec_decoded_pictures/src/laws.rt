@@ -3,12 +3,12 @@
 ghost use Rattle.std.specs.Prelude.{◌≡◌, ℕ, true, List, All};
 ghost use Rattle.plan_types.specs.declared.picture_plan.PicturePlan.{PicturePlan};
 ghost use Rattle.spec_decoded_pictures.specs.Decoded.{units_decoded};
-ghost use Rattle.spec_picture_data.specs.Picture.{TreeUnit};
-ghost use Rattle.spec_picture_data.specs.Shapes.{picture_shape};
+ghost use Rattle.spec_picture_trees.specs.Picture.{TreeUnit};
+ghost use Rattle.spec_picture_trees.specs.Shapes.{picture_shape};
 ghost use Rattle.spec_picture_filters.specs.Disabled.{AreDisabled, HasNoOffset};
-ghost use Rattle.spec_picture_samples.specs.Border.{has_sample};
-ghost use Rattle.spec_picture_samples.specs.Built.{units_built};
-ghost use Rattle.spec_picture_samples.specs.References.{DecodedPicture};
+ghost use Rattle.spec_picture_build.specs.Border.{has_sample};
+ghost use Rattle.spec_picture_build.specs.Built.{units_built};
+ghost use Rattle.spec_picture_build.specs.References.{DecodedPicture};
 
 /// A picture of which each slice is without deblocking, and each unit without offsets, has the samples that were built.
 pub fn pictures_without_filters_are_as_built()

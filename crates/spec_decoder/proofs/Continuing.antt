@@ -7,12 +7,12 @@ use Rattle.std.proofs.lemmas.List.Folds.{concat-append}
 use Rattle.hv_base.specs.declared.refusal.Stop.{Stop}
 use Rattle.plan_types.specs.declared.between.Between.{Between}
 use Rattle.plan_types.specs.declared.picture_plan.PicturePlan.{PicturePlan}
-use Rattle.spec_units.specs.Judged.{Told, told_of}
-use Rattle.spec_pictures.specs.Pictures.{beginning}
-use Rattle.spec_pictures.specs.Steps.{step}
-use Rattle.spec_pictures.specs.Planned.{Planned, planned_of, planned_from, planned_next, Extends}
-use Rattle.spec_pictures.proofs.Fronts.{of_extends}
-use Rattle.spec_picture_samples.specs.References.{DecodedPicture}
+use Rattle.spec_nal_units.specs.Judged.{Told, told_of}
+use Rattle.spec_picture_plan.specs.Pictures.{beginning}
+use Rattle.spec_picture_plan.specs.Steps.{step}
+use Rattle.spec_picture_plan.specs.Planned.{Planned, planned_of, planned_from, planned_next, Extends}
+use Rattle.spec_picture_plan.proofs.Fronts.{of_extends}
+use Rattle.spec_picture_build.specs.References.{DecodedPicture}
 use Rattle.spec_decoder.specs.Decoder.{Decoded, Continues, decoded_picture, out_at, kept_from, put_out, ended, entered}
 use Rattle.spec_decoder.specs.Decoder.{with_picture, decoded_from, finished, decoded_plan, decoded}
 

@@ -1,9 +1,9 @@
 -- Each picture that is decoded has all its coding tree units.
 use Rattle.std.proofs.Common.{◌≡◌, [], Ok}
 use Rattle.plan_types.specs.declared.picture_plan.PicturePlan.{PicturePlan}
-use Rattle.spec_plan_ranges.specs.Plans.{IsPlan}
-use Rattle.spec_picture_data.specs.Picture.{Progress, picture_read}
-use Rattle.spec_picture_data.proofs.Sharing.{units_of_picture, units_of_segments}
+use Rattle.plan_laws.specs.Plans.{IsPlan}
+use Rattle.spec_picture_trees.specs.Picture.{Progress, picture_read}
+use Rattle.spec_picture_trees.proofs.Sharing.{units_of_picture, units_of_segments}
 use Rattle.spec_decoder.specs.Decoder.{HasAllUnits}
 
 pub has_all_units : (p : PicturePlan) → IsPlan p → HasAllUnits p

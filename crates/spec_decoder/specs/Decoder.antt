@@ -5,12 +5,12 @@ use Rattle.std.specs.List.{concat, list_any}
 use Rattle.hv_base.specs.declared.refusal.Stop.{Stop}
 use Rattle.hv_base.specs.Stops.{stopped_at}
 use Rattle.plan_types.specs.declared.picture_plan.PicturePlan.{PicturePlan}
-use Rattle.spec_pictures.specs.Planned.{Planned, planned_of}
-use Rattle.spec_picture_data.specs.Picture.{PictureBroken, Progress, picture_read}
-use Rattle.spec_picture_data.specs.Units.{addresses, picture_units, shared_units, with_segments}
+use Rattle.spec_picture_plan.specs.Planned.{Planned, planned_of}
+use Rattle.spec_picture_trees.specs.Picture.{PictureBroken, Progress, picture_read}
+use Rattle.spec_picture_trees.specs.Units.{addresses, picture_units, shared_units, with_segments}
 use Rattle.spec_decoded_pictures.specs.Decoded.{picture_decoded}
-use Rattle.spec_picture_samples.specs.Output.{picture_bytes}
-use Rattle.spec_picture_samples.specs.References.{DecodedPicture}
+use Rattle.spec_picture_build.specs.Output.{picture_bytes}
+use Rattle.spec_picture_build.specs.References.{DecodedPicture}
 
 -- the pictures in output order, each as its bytes, and the broken rule or the limit that stops decoding, if any does
 pub record Decoded : Type 0 where

@@ -1,7 +1,7 @@
 //! Laws of the definitions.
 
 ghost use Rattle.std.specs.Prelude.{All, ℕ, Bool, false, List, ◌++◌};
-ghost use Rattle.spec_pictures.specs.Planned.{planned_of};
+ghost use Rattle.spec_picture_plan.specs.Planned.{planned_of};
 ghost use Rattle.spec_decoder.specs.Decoder.{Continues, HasAllUnits, decoded};
 
 /// The pictures that a front of an input shows to be over begin those of the whole input, however it goes on; and where

@@ -16,7 +16,7 @@ use Rattle.spec_boundary_strengths.specs.Strengths.{Beside, left_strength, top_s
 use Rattle.spec_deblocking.specs.declared.place.Place.{Place}
 use Rattle.spec_loop_filters.proofs.Unchanged.{final_same}
 use Rattle.spec_loop_filters.specs.Filters.{Samples}
-use Rattle.spec_picture_data.specs.Picture.{TreeUnit}
+use Rattle.spec_picture_trees.specs.Picture.{TreeUnit}
 use Rattle.spec_picture_motion.specs.Derived.{References}
 use Rattle.spec_picture_motion.specs.Field.{Motions}
 use Rattle.spec_sample_adaptive_offset.specs.declared.unit.OffsetUnit.{OffsetUnit}

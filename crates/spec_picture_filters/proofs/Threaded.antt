@@ -3,7 +3,7 @@ use Rattle.std.proofs.Common.{◌≡◌, refl, ap, ◌∙◌, List, [], ◌∷�
 use Rattle.std.specs.List.{fold}
 use Rattle.plan_types.specs.declared.segment_plan.SegmentPlan.{SegmentPlan}
 use Rattle.plan_types.specs.declared.picture_plan.PicturePlan.{PicturePlan}
-use Rattle.spec_picture_data.specs.Picture.{TreeUnit}
+use Rattle.spec_picture_trees.specs.Picture.{TreeUnit}
 use Rattle.spec_picture_motion.specs.Derived.{
   References,
   units_derived,

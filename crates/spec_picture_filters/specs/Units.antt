@@ -17,9 +17,9 @@ use Rattle.spec_boundary_strengths.specs.declared.place.UnitPlace.{UnitPlace}
 use Rattle.spec_boundary_strengths.specs.Places.{unit_place}
 use Rattle.spec_boundary_strengths.specs.Strengths.{Beside}
 use Rattle.spec_deblocking.specs.declared.place.Place.{Place}
-use Rattle.spec_picture_data.specs.Picture.{TreeUnit}
+use Rattle.spec_picture_trees.specs.Picture.{TreeUnit}
 use Rattle.plan_types.specs.Segments.{address_of}
-use Rattle.spec_picture_data.specs.Shapes.{picture_shape, qp_bd_offset, slice_start}
+use Rattle.spec_picture_trees.specs.Shapes.{picture_shape, qp_bd_offset, slice_start}
 use Rattle.spec_picture_motion.specs.Field.{Motions, first_column, first_row, has_place, is_of_unit}
 use Rattle.spec_sample_adaptive_offset.specs.declared.unit.OffsetUnit.{OffsetUnit}
 use Rattle.spec_slice_data.specs.Segment.{PictureShape, column_of, row_of}

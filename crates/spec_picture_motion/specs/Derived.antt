@@ -6,9 +6,9 @@ use Rattle.plan_types.specs.declared.segment_plan.SegmentPlan.{SegmentPlan}
 use Rattle.plan_types.specs.declared.picture_plan.PicturePlan.{PicturePlan}
 use Rattle.spec_motion.specs.Vectors.{Known}
 use Rattle.spec_motion.specs.Units.{unit_derived}
-use Rattle.spec_picture_data.specs.Picture.{TreeUnit}
+use Rattle.spec_picture_trees.specs.Picture.{TreeUnit}
 use Rattle.plan_types.specs.Segments.{address_of}
-use Rattle.spec_picture_data.specs.Shapes.{picture_shape, slice_start}
+use Rattle.spec_picture_trees.specs.Shapes.{picture_shape, slice_start}
 use Rattle.spec_slice_data.specs.Segment.{PictureShape}
 use Rattle.spec_picture_motion.specs.Field.{Motions, no_motions, known_beside, beneath_unit, unit_laid}
 use Rattle.spec_picture_motion.specs.Slices.{collocated_entry, slice_motion}

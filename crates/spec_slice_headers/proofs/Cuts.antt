@@ -8,8 +8,8 @@ use Rattle.std.proofs.lemmas.Bool.{le-leb, lt-leb, lt-ltb, and_left}
 use Rattle.std.proofs.lemmas.List.{append-nil, append_assoc, length-append, length_push, length-map, map-append}
 use Rattle.std.proofs.lemmas.List.{get_or_append_left, get_or_push, drop_at, take_at, drop_all, take_all}
 use Rattle.std.proofs.lemmas.List.Sums.{sum_by_push, fold_push}
-use Rattle.spec_units.specs.Judged.{places, stands_at, removed_of, payload_of}
-use Rattle.spec_units.proofs.Ends.{decide, if_true, if_false}
+use Rattle.spec_nal_units.specs.Judged.{places, stands_at, removed_of, payload_of}
+use Rattle.spec_nal_units.proofs.Ends.{decide, if_true, if_false}
 use Rattle.spec_slice_headers.specs.Substreams.{payload_before, put_back, unit_place, data_size, bytes_between}
 use Rattle.spec_slice_headers.specs.Substreams.{substreams_from, substreams}
 use Rattle.spec_slice_headers.specs.UnitCuts.{stays, cut, cuts_from}

@@ -2,7 +2,7 @@
 use Rattle.std.specs.Prelude.{◌≡◌, ℕ, ◌+◌, ◌-◌, ◌<◌, ◌≤◌, Bool, not, ◌&&◌, List, [], ◌∷◌, length, map, drop, min}
 use Rattle.std.specs.Prelude.{nat_le, slice_index}
 use Rattle.std.specs.List.{concat}
-use Rattle.spec_units.specs.Judged.{places, stands_at, removed_of, payload_of}
+use Rattle.spec_nal_units.specs.Judged.{places, stands_at, removed_of, payload_of}
 use Rattle.spec_slice_headers.specs.Substreams.{unit_place, data_size, substreams}
 
 -- whether a byte of a unit stays in its payload: it isn't one of its header, nor an emulation prevention byte

@@ -7,8 +7,8 @@ use Rattle.std.proofs.lemmas.List.{get_or-drop, get_or-take, length-drop, length
 use Rattle.std.proofs.lemmas.Slice.{overwrites, take-put_mid}
 use Rattle.std.proofs.Math.Nat.{mul-le-mul_left}
 use borrow.Rule.Slice.PartMut.{put_mid}
-use Rattle.spec_picture_samples.specs.Border.{Samples}
-use Rattle.spec_picture_samples.specs.Output.{Window, byte_of, row_bytes, plane_bytes}
+use Rattle.spec_picture_build.specs.Border.{Samples}
+use Rattle.spec_picture_build.specs.Output.{Window, byte_of, row_bytes, plane_bytes}
 use Rattle.yuv_writer.specs.Parts.{upper, below}
 
 concat_append : (xss yss : List (List ℕ)) → concat (xss ++ yss) ≡ concat xss ++ concat yss

@@ -3,8 +3,8 @@ use Rattle.std.proofs.Common.{◌≡◌, ℕ, ◌+◌, ◌-◌, ◌≤◌, List,
 use Rattle.header_types.specs.declared.sps.PictureFormat.{PictureFormat}
 use Rattle.hv_io.specs.Streams.{Gains, GainsPrefix}
 use Rattle.hv_io.proofs.StreamLemmas.{Gains-nil, Gains-append, GainsPrefix-append, GainsPrefix-front}
-use Rattle.spec_picture_samples.specs.Border.{Samples}
-use Rattle.spec_picture_samples.specs.Output.{Window, plane_bytes, picture_bytes, window_of}
+use Rattle.spec_picture_build.specs.Border.{Samples}
+use Rattle.spec_picture_build.specs.Output.{Window, plane_bytes, picture_bytes, window_of}
 use Rattle.yuv_writer.specs.Parts.{upper, below}
 use Rattle.yuv_writer.proofs.Rows.{no_rows, rows_more}
 

@@ -1,6 +1,6 @@
 -- Parts of a window.
 use Rattle.std.specs.Prelude.{ℕ, ◌+◌, ◌≤◌}
-use Rattle.spec_picture_samples.specs.Output.{Window}
+use Rattle.spec_picture_build.specs.Output.{Window}
 
 -- its first rows
 abbrev pub upper : Window → ℕ → Window

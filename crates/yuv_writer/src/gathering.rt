@@ -2,7 +2,7 @@
 
 ghost use Rattle.std.specs.Prelude.{◌≡◌, ℕ, ◌+◌, ◌*◌, ◌<◌, ◌≤◌, length, take, slice_index, slice_index_or};
 ghost use Rattle.picture_buffer.specs.Planes.{samples_of, plane_width, plane_height};
-ghost use Rattle.spec_picture_samples.specs.Output.{byte_of, row_bytes, plane_bytes};
+ghost use Rattle.spec_picture_build.specs.Output.{byte_of, row_bytes, plane_bytes};
 ghost use Rattle.yuv_writer.specs.Parts.{LiesIn};
 
 use crate::window::PlaneWindow;

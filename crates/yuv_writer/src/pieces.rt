@@ -3,7 +3,7 @@
 ghost use Rattle.std.specs.Prelude.{◌≡◌, ℕ, ◌*◌, ◌<◌, ◌≤◌, OnOk, OnErr, length};
 ghost use Rattle.hv_io.specs.Streams.{Rose, Gains, GainsPrefix};
 ghost use Rattle.picture_buffer.specs.Planes.{samples_of, plane_width, plane_height};
-ghost use Rattle.spec_picture_samples.specs.Output.{plane_bytes};
+ghost use Rattle.spec_picture_build.specs.Output.{plane_bytes};
 ghost use Rattle.yuv_writer.specs.Parts.{LiesIn};
 
 use crate::gathering::gather;

@@ -2,7 +2,7 @@
 
 ghost use Rattle.std.specs.Prelude.{◌≡◌, ℕ, ◌+◌, ◌/◌, ◌<◌, ◌≤◌};
 ghost use Rattle.header_types.specs.SequenceParameterSets.{IsPictureFormat};
-ghost use Rattle.spec_picture_samples.specs.Output.{window_of, luma_samples};
+ghost use Rattle.spec_picture_build.specs.Output.{window_of, luma_samples};
 ghost use Rattle.yuv_writer.specs.Parts.{below, LiesIn};
 
 use header_types::PictureFormat;
@@ -22,7 +22,7 @@ pub(crate) struct PlaneWindow {
 }
 
 impl Model for PlaneWindow {
-    ghost use Rattle.spec_picture_samples.specs.Output.{Window};
+    ghost use Rattle.spec_picture_build.specs.Output.{Window};
 
     ghost Value = { Window };
 
@@ -45,7 +45,7 @@ impl PlaneWindow {
 }
 
 /// The conformance window in samples of component `c`.
-#[tactic(auto, unfolding(spec_picture_samples::specs::Output::window_of))]
+#[tactic(auto, unfolding(spec_picture_build::specs::Output::window_of))]
 pub(crate) fn window_of(format: &PictureFormat, c: usize) -> PlaneWindow
     requires { IsPictureFormat format.now }
     ensures value { result ≡ window_of format.now c }

@@ -3,7 +3,7 @@
 ghost use Rattle.std.specs.Prelude.{◌≡◌, ℕ, ◌≤◌, OnOk, OnErr};
 ghost use Rattle.hv_io.specs.Streams.{Rose, Gains, GainsPrefix};
 ghost use Rattle.picture_buffer.specs.Planes.{samples_of};
-ghost use Rattle.spec_picture_samples.specs.Output.{picture_bytes};
+ghost use Rattle.spec_picture_build.specs.Output.{picture_bytes};
 
 use crate::pieces::{ROOM, write_plane};
 use crate::window::window_of;
@@ -13,7 +13,7 @@ use picture_buffer::Picture;
 /// Writes the planes Y, Cb and Cr of a picture inside its conformance window, row after row, a byte a sample.
 ///
 /// `Failed` where a write failed; a front of these bytes was gained then. It takes no memory.
-#[tactic(auto, unfolding(spec_picture_samples::specs::Output::picture_bytes))]
+#[tactic(auto, unfolding(spec_picture_build::specs::Output::picture_bytes))]
 pub fn write_picture<O: Sink>(picture: &Picture, out: &mut O) -> Result<(), Failed>
     ensures gained { OnOk result
         (Gains (O.contents out.old) (O.contents out.new)

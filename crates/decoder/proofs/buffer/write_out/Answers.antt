@@ -1,5 +1,5 @@
 use Rattle.picture_buffer.specs.Planes.{samples_of}
-use Rattle.spec_picture_samples.specs.Output.{picture_bytes}
+use Rattle.spec_picture_build.specs.Output.{picture_bytes}
 use Rattle.decoder.proofs.Writes.{out-written, out-cut}
 use Rattle.decoder.proofs.buffer.write_out.Goals as goal
 

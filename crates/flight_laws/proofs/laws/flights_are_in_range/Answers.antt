@@ -1,6 +1,6 @@
 use Rattle.std.proofs.Common.{true, All, subst, sym}
-use Rattle.spec_plan_ranges.specs.Plans.{IsPlan}
-use Rattle.spec_plan_ranges.proofs.Stream.{units_in_range}
+use Rattle.plan_laws.specs.Plans.{IsPlan}
+use Rattle.plan_laws.proofs.Stream.{units_in_range}
 use Rattle.flight_laws.proofs.Whole.{are_planned}
 use Rattle.flight_laws.proofs.laws.flights_are_in_range.Goals as goal
 

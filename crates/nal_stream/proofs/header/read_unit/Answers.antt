@@ -1,7 +1,7 @@
 use Rattle.std.proofs.Common.{◌≡◌, ℕ, ◌+◌, ◌≤◌, List, length, ap, ◌∙◌, arith}
 use Rattle.std.specs.Prelude.{slice_index, ◌&&◌, not, nat_le}
 use Rattle.std.proofs.lemmas.List.{length-map}
-use Rattle.spec_units.specs.Judged.{places, stands_at, payload_of, removed_of}
+use Rattle.spec_nal_units.specs.Judged.{places, stands_at, payload_of, removed_of}
 use Rattle.nal_stream.proofs.PlacesBelow.{places-apart}
 use Rattle.nal_stream.proofs.header.read_unit.Goals as goal
 

@@ -1,6 +1,6 @@
 use Rattle.std.proofs.Common.{◌≡◌, List, [], ◌∷◌, ◌++◌, length, refl, sym, ap, ◌∙◌, arith}
 use Rattle.std.proofs.lemmas.List.{append-nil}
-use Rattle.spec_units.specs.Judged.{Told, Whole, Broken, Met, unit_of, told_of}
+use Rattle.spec_nal_units.specs.Judged.{Told, Whole, Broken, Met, unit_of, told_of}
 use Rattle.nal_stream.specs.declared.answer.Next.{Next}
 use Rattle.nal_stream.specs.declared.answer.Next.TheVariants as next
 use Rattle.nal_stream.specs.Answers.{told_by}

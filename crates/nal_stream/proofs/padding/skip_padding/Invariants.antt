@@ -1,5 +1,5 @@
 use Rattle.std.proofs.Common.{◌≡◌, ◌≤◌, Bool, List, ℕ, ◌++◌, drop}
-use Rattle.spec_units.specs.Units.{Padding, parts}
+use Rattle.spec_nal_units.specs.Units.{Padding, parts}
 use Rattle.nal_stream.proofs.padding.skip_padding.Given as goal
 
 abbrev pub invariant-loop-i : goal.invariant-loop-i

@@ -1,6 +1,6 @@
 use Rattle.std.proofs.Common.{◌≡◌, true, length, sym, arith}
 use Rattle.std.proofs.lemmas.Bool.Decides.{Decides-ltb}
-use Rattle.spec_units.specs.Judged.{places, stands_at, has_reserved}
+use Rattle.spec_nal_units.specs.Judged.{places, stands_at, has_reserved}
 use Rattle.nal_stream.proofs.PlacesBelow.{some_place}
 use Rattle.nal_stream.proofs.payload.has_reserved.Goals as goal
 

@@ -1,4 +1,4 @@
-use Rattle.spec_units.specs.Judged.{stands_at}
+use Rattle.spec_nal_units.specs.Judged.{stands_at}
 use Rattle.nal_stream.proofs.PlacesBelow.{places-rise}
 use Rattle.nal_stream.proofs.payload.removed_of.Goals as goal
 

@@ -1,6 +1,6 @@
 use Rattle.std.proofs.Common.{◌+◌, ◌<◌, get_or, length, refl, sym, ◌∙◌, arith}
 use Rattle.std.proofs.lemmas.Bool.Decides.{Decides-eqb, Decides-ltb}
-use Rattle.spec_units.proofs.Ends.{unit_end-first, unit_end-none}
+use Rattle.spec_nal_units.proofs.Ends.{unit_end-first, unit_end-none}
 use Rattle.nal_stream.proofs.Scanning.{and_both, ends_unit-at, none_before_three}
 use Rattle.nal_stream.proofs.raw_unit.end_of_unit.Goals as goal
 

@@ -1,5 +1,5 @@
 use Rattle.std.proofs.Common.{◌≡◌, ℕ, ◌-◌, ◌<◌, ◌≤◌, false, drop, length}
-use Rattle.spec_units.specs.Units.{ends_unit}
+use Rattle.spec_nal_units.specs.Units.{ends_unit}
 use Rattle.nal_stream.proofs.raw_unit.end_of_unit.Given as goal
 
 abbrev pub invariant-loop-at : goal.invariant-loop-at

@@ -1,5 +1,5 @@
 use Rattle.std.proofs.Common.{◌≡◌, ◌-◌, drop, sym, ap, ◌∙◌, arith}
-use Rattle.spec_units.specs.Units.{all_zero}
+use Rattle.spec_nal_units.specs.Units.{all_zero}
 use Rattle.nal_stream.proofs.Scanning.{trimmed-take, trimmed-none}
 use Rattle.nal_stream.proofs.raw_unit.without_zeros.Goals as goal
 

@@ -1,5 +1,5 @@
 use Rattle.std.proofs.Common.{◌≡◌, ◌≤◌, true, drop, length}
-use Rattle.spec_units.specs.Units.{all_zero}
+use Rattle.spec_nal_units.specs.Units.{all_zero}
 use Rattle.nal_stream.proofs.raw_unit.without_zeros.Given as goal
 
 abbrev pub invariant-loop-len : goal.invariant-loop-len

@@ -1,11 +1,11 @@
 use Rattle.std.proofs.Common.{◌≡◌, Some, None, refl, ap, ◌∙◌, rules}
 use Rattle.plan_types.specs.declared.picture_plan.PicturePlan.{PicturePlan}
 use Rattle.plan_types.specs.declared.segment_plan.SegmentPlan.{SegmentPlan}
-use Rattle.spec_picture_data.specs.Shapes.{slice_start}
+use Rattle.spec_picture_trees.specs.Shapes.{slice_start}
 use Rattle.spec_picture_motion.specs.Derived.{References}
 use Rattle.spec_picture_motion.specs.Field.{Motions, no_motions}
 use Rattle.spec_picture_motion.specs.Slices.{collocated_entry}
-use Rattle.spec_picture_samples.specs.References.{motions_of as motions_at}
+use Rattle.spec_picture_build.specs.References.{motions_of as motions_at}
 use Rattle.picture_buffer.specs.Motion.{motions_of}
 use Rattle.picture_motion.specs.Deriving.{derived_over, known_over}
 use Rattle.picture_motion.proofs.Joining.{added_joins, collocated_none, collocated_some, known_joins}

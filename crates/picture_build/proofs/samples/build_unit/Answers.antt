@@ -6,8 +6,8 @@ use Rattle.picture_buffer.specs.Pictures.{HeldPicture}
 use Rattle.plan_types.specs.declared.picture_plan.PicturePlan.{PicturePlan}
 use Rattle.plan_types.specs.declared.segment_plan.SegmentPlan.{SegmentPlan}
 use Rattle.spec_picture_motion.specs.Slices.{slice_motion}
-use Rattle.spec_picture_samples.specs.References.{pictures_of}
-use Rattle.spec_picture_samples.specs.Weights.{slice_weighting}
+use Rattle.spec_picture_build.specs.References.{pictures_of}
+use Rattle.spec_picture_build.specs.Weights.{slice_weighting}
 use Rattle.spec_reconstruction.specs.Inter.{InterUnit}
 use Rattle.spec_reconstruction.specs.Known.{Known}
 use Rattle.spec_reconstruction.specs.Unit.{unit_built}

@@ -1,7 +1,7 @@
 use Rattle.std.proofs.Common.{◌≡◌, ℕ, ◌<◌, length, get_or}
 use Rattle.std.specs.List.{All}
 use Rattle.spec_inter_prediction.specs.Tables.{AreWeights, no_weights}
-use Rattle.spec_picture_samples.specs.Weights.{weights_at}
+use Rattle.spec_picture_build.specs.Weights.{weights_at}
 use Rattle.picture_build.proofs.weights.weights_in.Given as goal
 
 abbrev pub invariant-loop-k : goal.invariant-loop-k

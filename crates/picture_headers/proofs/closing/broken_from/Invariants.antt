@@ -1,6 +1,6 @@
 -- The segments so far break no rule.
 use Rattle.std.proofs.Common.{◌≡◌, drop}
-use Rattle.spec_pictures.specs.Closing.{broken_from}
+use Rattle.spec_picture_plan.specs.Closing.{broken_from}
 use Rattle.picture_headers.proofs.closing.broken_from.Given as goal
 
 abbrev pub invariant-loop-i : goal.invariant-loop-i

@@ -1,6 +1,6 @@
 use Rattle.std.proofs.Common.{◌≡◌, ◌≤◌, List}
 use Rattle.header_types.specs.SequenceParameterSets.{size_in_ctbs}
-use Rattle.spec_picture_data.specs.Picture.{TreeUnit, picture_read}
+use Rattle.spec_picture_trees.specs.Picture.{TreeUnit, picture_read}
 use Rattle.picture_trees.specs.Given.{Told}
 use Rattle.picture_trees.specs.Reading.{IsReached}
 use Rattle.picture_trees.proofs.picture.read_picture.Given as goal

@@ -1,6 +1,6 @@
 use Rattle.std.proofs.Common.{◌*◌, refl, rules, ap, ◌∙◌, arith}
 use Rattle.picture_buffer.specs.Planes.{samples_of}
-use Rattle.spec_picture_samples.specs.Output.{Window}
+use Rattle.spec_picture_build.specs.Output.{Window}
 use Rattle.yuv_writer.proofs.Rows.{gathered_count, gathered_more, gathered_none}
 use Rattle.yuv_writer.proofs.gathering.gather.Goals as goal
 

@@ -1,6 +1,6 @@
 use Rattle.std.proofs.Common.{◌≡◌, ◌*◌, length, take}
 use Rattle.picture_buffer.specs.Planes.{samples_of}
-use Rattle.spec_picture_samples.specs.Output.{plane_bytes}
+use Rattle.spec_picture_build.specs.Output.{plane_bytes}
 use Rattle.yuv_writer.specs.Parts.{upper}
 use Rattle.yuv_writer.proofs.gathering.gather.Given as goal
 

@@ -1,6 +1,6 @@
 use Rattle.std.proofs.Common.{rules}
 use Rattle.picture_buffer.specs.Planes.{samples_of, plane_width}
-use Rattle.spec_picture_samples.specs.Output.{Window}
+use Rattle.spec_picture_build.specs.Output.{Window}
 use Rattle.yuv_writer.proofs.Rows.{row_filled}
 use Rattle.yuv_writer.proofs.gathering.lay_row.Goals as goal
 

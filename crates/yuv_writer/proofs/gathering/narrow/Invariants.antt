@@ -1,5 +1,5 @@
 use Rattle.std.proofs.Common.{◌≡◌, ℕ, ◌<◌, length, slice_index}
-use Rattle.spec_picture_samples.specs.Output.{byte_of}
+use Rattle.spec_picture_build.specs.Output.{byte_of}
 use Rattle.yuv_writer.proofs.gathering.narrow.Given as goal
 
 abbrev pub invariant-loop-k : goal.invariant-loop-k

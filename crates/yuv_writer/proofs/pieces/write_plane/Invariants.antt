@@ -1,7 +1,7 @@
 use Rattle.std.proofs.Common.{◌≡◌, ◌-◌, ◌≤◌, length}
 use Rattle.hv_io.specs.Streams.{Gains}
 use Rattle.picture_buffer.specs.Planes.{samples_of}
-use Rattle.spec_picture_samples.specs.Output.{plane_bytes}
+use Rattle.spec_picture_build.specs.Output.{plane_bytes}
 use Rattle.yuv_writer.specs.Parts.{upper}
 use Rattle.yuv_writer.proofs.pieces.write_plane.Given as goal
 

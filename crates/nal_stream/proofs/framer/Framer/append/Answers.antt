@@ -1,7 +1,7 @@
 use Rattle.std.proofs.Common.{◌≡◌, ℕ, ◌-◌, ◌<◌, ◌≤◌, Bool, true, false, cond, List, ◌++◌, length, drop, sym, subst}
 use Rattle.std.proofs.Common.{arith, length-append, length-drop}
 use Rattle.std.specs.Prelude.{is_ok}
-use Rattle.spec_units.specs.Units.{ends_unit}
+use Rattle.spec_nal_units.specs.Units.{ends_unit}
 use Rattle.nal_stream.proofs.Framers.{searched-append}
 use Rattle.nal_stream.proofs.framer.Framer.append.Goals as goal
 

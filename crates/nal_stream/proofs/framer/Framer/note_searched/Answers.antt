@@ -1,4 +1,4 @@
-use Rattle.spec_units.proofs.Ends.{unit_end-nowhere}
+use Rattle.spec_nal_units.proofs.Ends.{unit_end-nowhere}
 use Rattle.nal_stream.specs.Framing.{pending}
 use Rattle.nal_stream.proofs.framer.Framer.note_searched.Goals as goal
 

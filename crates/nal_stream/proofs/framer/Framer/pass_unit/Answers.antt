@@ -1,8 +1,8 @@
 use Rattle.std.proofs.Common.{◌≡◌, [], ◌∷◌, None, Some, false, length, take, sym, ap, ◌∙◌, arith}
 use Rattle.std.proofs.lemmas.List.{length-take-le}
-use Rattle.spec_units.specs.Units.{unit_end, trimmed}
-use Rattle.spec_units.specs.Judged.{judged}
-use Rattle.spec_units.proofs.Ends.{unit_end-length}
+use Rattle.spec_nal_units.specs.Units.{unit_end, trimmed}
+use Rattle.spec_nal_units.specs.Judged.{judged}
+use Rattle.spec_nal_units.proofs.Ends.{unit_end-length}
 use Rattle.nal_stream.specs.Framing.{pending}
 use Rattle.nal_stream.proofs.Framers.{judged-whole, judged-last, unfinished}
 use Rattle.nal_stream.proofs.framer.Framer.pass_unit.Goals as goal

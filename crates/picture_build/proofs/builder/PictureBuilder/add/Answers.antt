@@ -1,7 +1,7 @@
 use Rattle.std.proofs.Common.{◌≡◌, ◌<◌, ◌≤◌, length, get_or, refl, ◌∙◌, rules}
 use Rattle.std.proofs.lemmas.Option.{slice_get_past, slice_get_read}
 use Rattle.picture_trees.specs.Given.{tree_unit}
-use Rattle.spec_picture_samples.specs.References.{motions_of as motions_at}
+use Rattle.spec_picture_build.specs.References.{motions_of as motions_at}
 use Rattle.picture_build.specs.Building.{behind_by, built_by}
 use Rattle.picture_build.specs.Pictures.{buffer_of}
 use Rattle.picture_build.proofs.Behind.{added_none, added_some}

@@ -5,13 +5,13 @@ use Rattle.picture_buffer.specs.Motion.{motions_of}
 use Rattle.picture_buffer.specs.Planes.{samples_of}
 use Rattle.picture_filters.specs.Filtering.{data_of}
 use Rattle.picture_trees.specs.Given.{tree_unit}
-use Rattle.spec_picture_data.specs.Picture.{TreeUnit}
-use Rattle.spec_picture_data.specs.Shapes.{picture_shape}
+use Rattle.spec_picture_trees.specs.Picture.{TreeUnit}
+use Rattle.spec_picture_trees.specs.Shapes.{picture_shape}
 use Rattle.spec_picture_filters.specs.Filtered.{added_in}
 use Rattle.spec_picture_motion.specs.Field.{first_row}
-use Rattle.spec_picture_samples.specs.Built.{unit_added}
-use Rattle.spec_picture_samples.specs.Format.{unit_format}
-use Rattle.spec_picture_samples.specs.References.{motions_of as motions_at}
+use Rattle.spec_picture_build.specs.Built.{unit_added}
+use Rattle.spec_picture_build.specs.Format.{unit_format}
+use Rattle.spec_picture_build.specs.References.{motions_of as motions_at}
 use Rattle.spec_reconstruction.specs.declared.format.UnitFormat.{UnitFormat}
 use Rattle.spec_reconstruction.specs.Sound.{AreSound}
 use Rattle.spec_transforms.specs.Scaling.{IsDepth}

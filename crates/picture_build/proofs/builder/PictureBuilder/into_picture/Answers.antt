@@ -3,7 +3,7 @@ use Rattle.header_types.specs.declared.sps.PictureFormat.{PictureFormat}
 use Rattle.picture_buffer.specs.Planes.{samples_of}
 use Rattle.picture_filters.specs.Filtering.{data_of}
 use Rattle.spec_decoded_pictures.specs.Decoded.{decoded_by}
-use Rattle.spec_picture_samples.specs.References.{greatest_sample}
+use Rattle.spec_picture_build.specs.References.{greatest_sample}
 use Rattle.picture_build.specs.Building.{Building, built_by}
 use Rattle.picture_build.specs.Pictures.{decoded_of}
 use Rattle.picture_build.proofs.Filtered.{bounded, decoded_is}

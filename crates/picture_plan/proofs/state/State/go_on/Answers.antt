@@ -1,5 +1,5 @@
 use Rattle.std.proofs.Common.{refl}
-use Rattle.spec_units.specs.Judged.{unit_of}
+use Rattle.spec_nal_units.specs.Judged.{unit_of}
 use Rattle.picture_plan.proofs.Closings.{goes-on, stops-there}
 use Rattle.picture_plan.proofs.state.State.go_on.Goals as goal
 

@@ -1,6 +1,6 @@
 use Rattle.std.proofs.Common.{Err, refl}
 use Rattle.hv_base.specs.declared.refusal.Stop.TheVariants as stop
-use Rattle.spec_pictures.specs.Steps.{step}
+use Rattle.spec_picture_plan.specs.Steps.{step}
 use Rattle.picture_plan.proofs.state.State.plan_next.Goals as goal
 
 pub returns-in-Fault-clause-value : goal.returns-in-Fault-clause-value

@@ -1,5 +1,5 @@
 use Rattle.spec_parameter_sets.specs.SequenceParameterSet.{sequence_parameter_set_of}
-use Rattle.spec_pictures.specs.Steps.{behind_read, put_sps}
+use Rattle.spec_picture_plan.specs.Steps.{behind_read, put_sps}
 use Rattle.picture_plan.proofs.state.State.plan_sps.Goals as goal
 
 pub returns-clause-value : goal.returns-clause-value

@@ -1,7 +1,7 @@
 use Rattle.std.proofs.Common.{◌≡◌, [], refl, arith}
 use Rattle.spec_bits.specs.Bits.{bits}
 use Rattle.spec_cabac.specs.Engine.{Engine}
-use Rattle.spec_picture_data.specs.Picture.{before_picture}
+use Rattle.spec_picture_trees.specs.Picture.{before_picture}
 use Rattle.picture_trees.proofs.units.Reading.new.Goals as goal
 
 pub returns-clause-before : goal.returns-clause-before

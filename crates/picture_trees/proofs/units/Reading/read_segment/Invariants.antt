@@ -1,7 +1,7 @@
 use Rattle.std.proofs.Common.{◌≡◌, ℕ, ◌+◌, ◌<◌, ◌≤◌, List}
 use Rattle.ctu_records.specs.Tree.{Ctu}
 use Rattle.plan_types.specs.declared.picture_plan.PicturePlan.{PicturePlan}
-use Rattle.spec_picture_data.specs.Picture.{TreeUnit, segment_read}
+use Rattle.spec_picture_trees.specs.Picture.{TreeUnit, segment_read}
 use Rattle.picture_trees.specs.Given.{Told}
 use Rattle.picture_trees.specs.Reading.{IsKept, IsWithin, MayGoOn, progress_of}
 use Rattle.picture_trees.proofs.units.Reading.read_segment.Given as goal

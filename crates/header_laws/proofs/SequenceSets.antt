@@ -1,0 +1,265 @@
+-- The ranges of sequence parameter sets that are read.
+use Rattle.std.proofs.Common.{◌≡◌, ◌∙◌, ℕ, zero, suc, ◌+◌, ◌-◌, ◌*◌, ◌%◌, ◌^◌, ◌<◌, ◌≤◌, Bool, true, false, ◌&&◌, ◌==◌}
+use Rattle.std.proofs.Common.{List, [], ◌∷◌, ◌++◌, length, Option, IfSome, All, Ok, min, sym, length-append, arith}
+use Rattle.std.specs.Prelude.{nat_le}
+use Rattle.std.proofs.lemmas.Bool.{and_parts, eqb-true, leb-true, ltb-true}
+use Rattle.std.proofs.lemmas.List.Elements.{All-get_or, All-nil, All-push}
+use Rattle.hv_base.specs.declared.field_rules.TheConstants.{PARAMETER_SET_RULES}
+use Rattle.header_types.specs.declared.scaling.ScalingLists.{ScalingLists}
+use Rattle.header_types.specs.declared.short_term_set.StRps.{StRps}
+use Rattle.header_types.specs.declared.sps.BlockSizes.{BlockSizes}
+use Rattle.header_types.specs.declared.sps.ConformanceWindow.{ConformanceWindow}
+use Rattle.header_types.specs.declared.sps.LongTermCandidate.{LongTermCandidate}
+use Rattle.header_types.specs.declared.sps.PcmFormat.{PcmFormat}
+use Rattle.header_types.specs.declared.sps.PictureFormat.{PictureFormat}
+use Rattle.header_types.specs.declared.sps.SpsFields.{SpsFields}
+use Rattle.header_types.specs.declared.sps.SubLayerOrdering.{SubLayerOrdering}
+use Rattle.header_types.specs.ReferencePictures.{IsStRps}
+use Rattle.header_types.specs.Scaling.{IsScalingLists}
+use Rattle.header_types.specs.SequenceParameterSets.{IsBlockSizes, IsConformanceWindow, IsLongTerm, IsPcmFormat}
+use Rattle.header_types.specs.SequenceParameterSets.{IsPictureFormat, IsSps, IsSubLayerOrdering, ctb_log2}
+use Rattle.header_types.specs.SequenceParameterSets.{highest_ordering, max_lsb_of, min_cb_log2, no_ordering}
+use Rattle.header_types.proofs.ReferencePictures.{All-IsStRps-weaker}
+use Rattle.spec_bits.specs.Bits.{bits}
+use Rattle.spec_formats.proofs.Values.{CanBe}
+use Rattle.spec_parameter_sets.specs.Scaling.{scaling_list_data}
+use Rattle.spec_parameter_sets.specs.SequenceParameterSet.{block_sizes, conformance_window, long_term_candidate}
+use Rattle.spec_parameter_sets.specs.SequenceParameterSet.{long_term_candidates, main_only, ordered_sub_layers}
+use Rattle.spec_parameter_sets.specs.SequenceParameterSet.{pcm_bit_depth, pcm_format, picture_format}
+use Rattle.spec_parameter_sets.specs.SequenceParameterSet.{present_scaling_lists, scaling_lists, sequence_parameter_set}
+use Rattle.spec_parameter_sets.specs.SequenceParameterSet.{sequence_parameter_set_of, sets_behind}
+use Rattle.spec_parameter_sets.specs.SequenceParameterSet.{short_term_ref_pic_sets, side, sub_layer_ordering}
+use Rattle.spec_parameter_sets.specs.SequenceParameterSet.{sub_layers}
+use Rattle.spec_parameter_sets.proofs.Ranges.{data_can_be}
+use Rattle.spec_reference_pictures.proofs.Sets.{can_be_near}
+use Rattle.header_laws.proofs.Values.{optional_is, parsed_is, repeated_is, wanted_is}
+
+-- ---- the format of pictures
+
+window_is : (width height : ℕ) (w : ConformanceWindow) → CanBe (conformance_window width height) w
+    → IsConformanceWindow width height w
+unfolding conformance_window
+window_is width height w (left, a, (right, b, (columns, columns-are, (top, d, (bottom, f, (rows, rows-are, e)))))) =
+    rw (← e) (record { columns = ltb-true _ _ columns-are; rows = ltb-true _ _ rows-are })
+
+record IsSide (n : ℕ) : Type 0 where
+  some : 1 ≤ n
+  few : n ≤ 8192
+
+side_is : (n : ℕ) → CanBe side n → IsSide n
+unfolding side
+side_is n (samples, a, (some, some-is, (short, short-is, e))) =
+    let least : 0 < samples = ltb-true _ _ some-is in
+    rw (← e) (record { some = omega arith; few = leb-true _ _ (wanted_is (nat_le samples 8192) _ short short-is) })
+
+main_is : (value n : ℕ) → CanBe (main_only value) n → n ≡ value
+unfolding main_only
+main_is value n (found, a, (main, main-is, e)) = sym e ∙ eqb-true _ _ (wanted_is (found == value) _ main main-is)
+
+format_is : (f : PictureFormat) → CanBe picture_format f → IsPictureFormat f
+unfolding picture_format
+format_is f
+    (chroma, chroma-is, (width, width-is, (height, height-is, (small, small-is, (flag, a, (window, window-ok, (luma, luma-is, (depth, depth-is, e)))))))) =
+    let w = side_is width width-is in
+    let h = side_is height height-is in
+    rw (← e) (record {
+      chroma_format = main_is 1 chroma chroma-is;
+      some_width = w.some;
+      width = w.few;
+      some_height = h.some;
+      height = h.few;
+      area = leb-true _ _ (wanted_is (nat_le (width * height) 35651584) _ small small-is);
+      window =
+          optional_is (IsConformanceWindow width height) flag (conformance_window width height) window
+          (window_is width height) window-ok;
+      luma_depth = main_is 0 luma luma-is;
+      chroma_depth = main_is 0 depth depth-is;
+    })
+
+-- ---- sub-layers
+
+sub_layers_are : (n : ℕ) → CanBe sub_layers n → n ≤ 6
+unfolding sub_layers
+sub_layers_are n (minus1, a, (fact, in_range, e)) = rw (← e) (leb-true _ _ in_range)
+
+ordering_is : (o : SubLayerOrdering) → CanBe sub_layer_ordering o → IsSubLayerOrdering o
+unfolding sub_layer_ordering
+ordering_is o (buffering, buffering-is, (reorder, reorder-is, (latency, a, e))) =
+    rw (← e) (record { buffering = buffering-is; reorder = reorder-is })
+
+some_ordered : (present : Bool) (minus1 : ℕ) → 1 ≤ ordered_sub_layers present minus1
+unfolding ordered_sub_layers
+some_ordered true minus1 = omega arith
+some_ordered false minus1 = omega arith
+
+highest_is : (orderings : List SubLayerOrdering) → 1 ≤ length orderings → All IsSubLayerOrdering orderings
+    → (highest_ordering orderings).max_dec_pic_buffering_minus1 ≤ 15
+unfolding highest_ordering
+highest_is orderings some each =
+    (All-get_or IsSubLayerOrdering orderings (length orderings - 1) no_ordering (omega arith) each).buffering
+
+-- ---- blocks
+
+blocks_are : (width height : ℕ) (b : BlockSizes) → CanBe (block_sizes width height) b → IsBlockSizes width height b
+unfolding block_sizes
+blocks_are width height b
+    (least, least-is, (whole, whole-is, (diff, a, (main, main-is, (tb, d, (smaller, smaller-is, (more, f, (inside, inside-is, (inter, inter-is, (intra, intra-is, e)))))))))) =
+    let rows = and_parts (width % 2 ^ (least + 3) == 0) (height % 2 ^ (least + 3) == 0) whole-is in
+    let ctb =
+    and_parts (nat_le 4 (least + 3 + diff)) (nat_le (least + 3 + diff) 6)
+    (wanted_is (nat_le 4 (least + 3 + diff) && nat_le (least + 3 + diff) 6) _ main main-is) in
+    rw (← e) (record {
+      min_cb = least-is;
+      columns = eqb-true _ _ rows.0;
+      rows = eqb-true _ _ rows.1;
+      least_ctb = leb-true _ _ ctb.0;
+      greatest_ctb = leb-true _ _ ctb.1;
+      min_tb = ltb-true _ _ smaller-is;
+      max_tb = leb-true _ _ inside-is;
+      inter = inter-is;
+      intra = intra-is;
+    })
+
+depth_is : (n : ℕ) → CanBe pcm_bit_depth n → n ≤ 7
+unfolding pcm_bit_depth
+depth_is n (minus1, a, (fact, in_range, e)) = rw (← e) (leb-true _ _ in_range)
+
+pcm_is : (b : BlockSizes) (p : PcmFormat) → CanBe (pcm_format b) p → IsPcmFormat b p
+unfolding pcm_format
+pcm_is b p
+    (luma, luma-is, (chroma, chroma-is, (least, a, (fact, in_range, (diff, d, (most, most-is, (disabled, f, e))))))) =
+    rw (← e) (record {
+      luma_depth = depth_is luma luma-is;
+      chroma_depth = depth_is chroma chroma-is;
+      least =
+          leb-true _ _
+          (and_parts (nat_le (min (min_cb_log2 b) 5) (least + 3)) (nat_le (least + 3) (min (ctb_log2 b) 5)) in_range).0;
+      greatest = leb-true _ _ most-is;
+    })
+
+scaled_is : (enabled : Bool) (o : Option ScalingLists) → CanBe (scaling_lists enabled) o → IfSome o IsScalingLists
+unfolding scaling_lists present_scaling_lists
+scaled_is false o e = rw (← e) tt
+scaled_is true o (present, a, is) = optional_is IsScalingLists present scaling_list_data o data_can_be is
+
+-- ---- reference pictures
+
+record AreSetsWithin (n most : ℕ) (sets : List StRps) : Type 0 where
+  few : length sets ≡ n
+  each : All (IsStRps most) sets
+
+sets_are : (n count greatest far : ℕ) (former sets : List StRps) → greatest ≤ 15 → 14 ≤ far → All (IsStRps far) former
+    → CanBe (sets_behind n count greatest former) sets
+    → AreSetsWithin (length former + n) (far + n) sets
+unfolding sets_behind
+sets_are zero count greatest far former sets small long all e =
+    rw (← e) (record { few = omega arith; each = All-IsStRps-weaker far (far + zero) (omega arith) former all })
+sets_are (suc n) count greatest far former sets small long all (set, set-is, rest) =
+    let near = can_be_near (length former) count former greatest set far small long all set-is in
+    let further =
+    All-push (IsStRps (far + 1)) former set (All-IsStRps-weaker far (far + 1) (omega arith) former all) near in
+    let are = sets_are n count greatest (far + 1) (former ++ set ∷ []) sets small (omega arith) further rest in
+    record {
+      few = are.few ∙ omega (arith, length-append former (set ∷ []));
+      each = All-IsStRps-weaker (far + 1 + n) (far + suc n) (omega arith) sets are.each;
+    }
+
+record AreShortTerm (sets : List StRps) : Type 0 where
+  few : length sets ≤ 64
+  each : All (IsStRps 78) sets
+
+short_are : (greatest : ℕ) (sets : List StRps) → greatest ≤ 15 → CanBe (short_term_ref_pic_sets greatest) sets
+    → AreShortTerm sets
+unfolding short_term_ref_pic_sets
+short_are greatest sets small (n, few, is) =
+    let are = sets_are n n greatest 14 [] sets small (omega arith) (All-nil (IsStRps 14)) is in
+    let count = are.few in
+    record { few = omega (arith, count); each = All-IsStRps-weaker (14 + n) 78 (omega arith) sets are.each }
+
+candidate_is : (n : ℕ) (c : LongTermCandidate) → CanBe (long_term_candidate n) c → c.lt_ref_pic_poc_lsb_sps < 2 ^ n
+unfolding long_term_candidate
+candidate_is n c (lsb, lsb-is, (used, a, e)) = rw (← e) lsb-is
+
+candidates_are : (log2 : ℕ) (cs : List LongTermCandidate) → CanBe (long_term_candidates (log2 + 4)) cs
+    → IsLongTerm (max_lsb_of log2) cs
+unfolding long_term_candidates
+candidates_are log2 cs (n, few, is) =
+    let are =
+    repeated_is (λ (c : LongTermCandidate). c.lt_ref_pic_poc_lsb_sps < 2 ^ (log2 + 4)) n
+    (long_term_candidate (log2 + 4)) cs (candidate_is (log2 + 4)) is in
+    let count = are.0 in
+    record { few = omega (arith, count); lsb = are.1 }
+
+-- ---- the set
+
+sequence_set_is : (s : SpsFields) → CanBe sequence_parameter_set s → IsSps s
+unfolding sequence_parameter_set
+sequence_set_is s (
+  vps,
+  vps-is,
+  (
+    sub,
+    sub-is,
+    (
+      nesting,
+      a,
+      (
+        profile,
+        b,
+        (
+          id,
+          id-is,
+          (
+            format,
+            format-ok,
+            (
+              lsb,
+              lsb-is,
+              (
+                present,
+                d,
+                (
+                  orderings,
+                  orderings-are,
+                  (
+                    blocks,
+                    blocks-ok,
+                    (scaling, f, (lists, lists-are, (amp, g, (sao, h, (pcm_on, i, (pcm, pcm-ok, (sets, sets-ok, (long_on, j, (long, long-is, (temporal, k, (strong, l, (vui, m, e)))))))))))),
+                  ),
+                ),
+              ),
+            ),
+          ),
+        ),
+      ),
+    ),
+  ),
+) =
+    let ordered =
+    repeated_is IsSubLayerOrdering (ordered_sub_layers present sub) sub_layer_ordering orderings
+    ordering_is orderings-are in
+    let counted = ordered.0 in
+    let some : 1 ≤ length orderings = omega (arith, some_ordered present sub, counted) in
+    let short =
+    short_are (highest_ordering orderings).max_dec_pic_buffering_minus1 sets
+    (highest_is orderings some ordered.1) sets-ok in
+    rw (← e) (record {
+      video_parameter_set_id = omega (arith, vps-is);
+      sub_layers = sub_layers_are sub sub-is;
+      id = id-is;
+      format = format_is format format-ok;
+      lsb = lsb-is;
+      some_ordering = some;
+      ordering = ordered.1;
+      blocks = blocks_are format.pic_width_in_luma_samples format.pic_height_in_luma_samples blocks blocks-ok;
+      scaling_lists = scaled_is scaling lists lists-are;
+      pcm = optional_is (IsPcmFormat blocks) pcm_on (pcm_format blocks) pcm (pcm_is blocks) pcm-ok;
+      few_sets = short.few;
+      sets = short.each;
+      long_term = optional_is (IsLongTerm (max_lsb_of lsb)) long_on _ long (candidates_are lsb) long-is;
+    })
+
+pub sequence_set_in_range : (bytes : List ℕ) (s : SpsFields) → sequence_parameter_set_of bytes ≡ Ok s → IsSps s
+unfolding sequence_parameter_set_of
+sequence_set_in_range bytes s e =
+    sequence_set_is s (parsed_is PARAMETER_SET_RULES sequence_parameter_set (bits bytes) s e)

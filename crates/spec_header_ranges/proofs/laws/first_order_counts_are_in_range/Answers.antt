@@ -1,5 +1,0 @@
-use Rattle.spec_header_ranges.proofs.Headers.{first_lsb_in_range}
-use Rattle.spec_header_ranges.proofs.laws.first_order_counts_are_in_range.Goals as goal
-
-pub returns : goal.returns
-returns c = first_lsb_in_range

@@ -1,5 +1,0 @@
-use Rattle.spec_sample_ranges.proofs.Filtered.{decoded_below}
-use Rattle.spec_sample_ranges.proofs.laws.decoded_samples_are_in_range.Goals as goal
-
-pub returns : goal.returns
-returns c = λ buffer p decoded sps is. decoded_below buffer p sps decoded is

@@ -1,5 +1,0 @@
-use Rattle.spec_sample_ranges.proofs.Pictures.{held_idle}
-use Rattle.spec_sample_ranges.proofs.laws.references_in_range_are_not_held.Goals as goal
-
-pub returns : goal.returns
-returns c = record { same = λ d below c x y. held_idle d below c x y }

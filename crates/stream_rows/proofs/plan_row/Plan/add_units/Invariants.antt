@@ -1,5 +1,0 @@
-use Rattle.std.proofs.Common.{◌≡◌}
-use Rattle.stream_rows.proofs.plan_row.Plan.add_units.Given as goal
-
-abbrev pub invariant-loop : goal.invariant-loop
-invariant-loop l = l.framer.finished ≡ l.fn.framer.finished
