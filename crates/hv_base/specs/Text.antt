@@ -1,6 +1,7 @@
 -- How answers are told: numbers, names, lines and exit statuses.
-use Rattle.std.specs.Prelude.{ℕ, List, [], ◌∷◌, ◌++◌, Option, Some, None, codes}
-use Rattle.std.specs.Fmt.{decimal}
+use Rattle.std.specs.Prelude.{ℕ, ◌-◌, List, [], ◌∷◌, ◌++◌, length, replicate, Option, Some, None, Bool, false, codes}
+use Rattle.std.specs.Fmt.{decimal, digits}
+use Rattle.hv_base.specs.declared.digest.Digest.{Digest}
 use Rattle.hv_base.specs.declared.fault.FaultKind.{FaultKind}
 use Rattle.hv_base.specs.declared.fault.FaultKind.TheVariants as rule
 use Rattle.hv_base.specs.declared.fault.Fault.{Fault}
@@ -37,6 +38,8 @@ fault_number rule.TrailingBits = 23
 fault_number rule.CoeffRange = 24
 fault_number rule.QpRange = 25
 fault_number rule.MvdRange = 26
+fault_number (rule.HashMismatch _ _ _) = 27
+fault_number (rule.LevelExceeded _ _ _) = 28
 
 -- the name of a rule
 abbrev pub fault_name : FaultKind → List ℕ
@@ -65,17 +68,34 @@ fault_name rule.TrailingBits = codes "TrailingBits"
 fault_name rule.CoeffRange = codes "CoeffRange"
 fault_name rule.QpRange = codes "QpRange"
 fault_name rule.MvdRange = codes "MvdRange"
+fault_name (rule.HashMismatch _ _ _) = codes "HashMismatch"
+fault_name (rule.LevelExceeded _ _ _) = codes "LevelExceeded"
 
 -- a coding tree unit, or a dash where there is none
 abbrev pub place_text : Option ℕ → List ℕ
 place_text (Some ctu) = decimal ctu
 place_text None = codes "-"
 
--- fault <number> <Name> nal <n> ctu <a or ->
+-- a number of 64 bits in 16 hexadecimal digits
+abbrev pub hexadecimal : ℕ → List ℕ
+hexadecimal n = replicate (16 - length (digits 16 false n)) 48 ++ digits 16 false n
+
+-- the 16 bytes of a digest in hexadecimal digits
+abbrev pub digest_text : Digest → List ℕ
+digest_text d = hexadecimal d.first ++ hexadecimal d.last
+
+-- what is told of a broken rule behind its place: of a hash, the plane, what is stated and what was computed
+abbrev pub finding_text : FaultKind → List ℕ
+finding_text (rule.HashMismatch plane stated computed) =
+    codes " plane " ++ (decimal plane ++ (codes " stated " ++ (digest_text stated
+    ++ (codes " computed " ++ digest_text computed))))
+finding_text _ = []
+
+-- fault <number> <Name> nal <n> ctu <a or ->, and what is told behind it
 abbrev pub fault_text : Fault → List ℕ
 fault_text f =
     codes "fault " ++ (decimal (fault_number f.kind) ++ (codes " " ++ (fault_name f.kind
-    ++ (codes " nal " ++ (decimal f.nal ++ (codes " ctu " ++ place_text f.ctu))))))
+    ++ (codes " nal " ++ (decimal f.nal ++ (codes " ctu " ++ (place_text f.ctu ++ finding_text f.kind)))))))
 
 -- the number of a limit
 abbrev pub limit_number : LimitKind → ℕ

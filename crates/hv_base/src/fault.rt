@@ -1,8 +1,10 @@
 //! The rules of a stream, and which of them a stream broke.
 
 ghost use Rattle.std.specs.Prelude.{◌≡◌, Some};
-ghost use Rattle.hv_base.specs.Text.{fault_number, fault_name, fault_text, place_text};
+ghost use Rattle.hv_base.specs.Text.{fault_number, fault_name, fault_text, place_text, finding_text};
 
+use crate::digest::Digest;
+use crate::level::LevelMeasure;
 use std::fmt;
 
 /// A rule that a stream has to keep. Each has the number and the name by which an answer tells it.
@@ -59,6 +61,19 @@ pub enum FaultKind {
     QpRange,
     /// A motion vector difference doesn't fit 16 bits (7.4.9.9).
     MvdRange,
+    /// The MD5 of a decoded plane isn't the one that a picture hash states (D.3.19): of plane 0, 1 or 2, for Y, Cb or
+    /// Cr, what is stated and what was computed.
+    HashMismatch {
+        plane: u32,
+        stated: Digest,
+        computed: Digest,
+    },
+    /// A sequence exceeds its level (A.4.1): in what, by which value, and how much the level allows.
+    LevelExceeded {
+        what: LevelMeasure,
+        value: u32,
+        limit: u32,
+    },
 }
 
 impl FaultKind {
@@ -92,6 +107,8 @@ impl FaultKind {
             FaultKind::CoeffRange => 24,
             FaultKind::QpRange => 25,
             FaultKind::MvdRange => 26,
+            FaultKind::HashMismatch { .. } => 27,
+            FaultKind::LevelExceeded { .. } => 28,
         }
     }
 
@@ -125,6 +142,8 @@ impl FaultKind {
             FaultKind::CoeffRange => "CoeffRange",
             FaultKind::QpRange => "QpRange",
             FaultKind::MvdRange => "MvdRange",
+            FaultKind::HashMismatch { .. } => "HashMismatch",
+            FaultKind::LevelExceeded { .. } => "LevelExceeded",
         }
     }
 }
@@ -148,7 +167,8 @@ impl fmt::Display for Fault {
         let name = self.kind.name();
         let nal = self.nal;
         let place = Place { ctu: self.ctu };
-        write!(f, "fault {number} {name} nal {nal} ctu {place}")
+        let finding = Finding { kind: self.kind };
+        write!(f, "fault {number} {name} nal {nal} ctu {place}{finding}")
     }
 }
 
@@ -165,6 +185,27 @@ impl fmt::Display for Place {
         match self.ctu {
             Some(ctu) => write!(f, "{ctu}"),
             None => write!(f, "-"),
+        }
+    }
+}
+
+/// What an answer tells of a broken rule behind its place.
+#[derive(Clone, Copy)]
+struct Finding {
+    kind: FaultKind,
+}
+
+impl fmt::Display for Finding {
+    ghost output = { λ finding. Some (finding_text finding.kind) };
+
+    fn fmt<W: fmt::Write>(&self, f: &mut fmt::Formatter<W>) -> fmt::Result {
+        match self.kind {
+            FaultKind::HashMismatch {
+                plane,
+                stated,
+                computed,
+            } => write!(f, " plane {plane} stated {stated} computed {computed}"),
+            _ => Ok(()),
         }
     }
 }

@@ -2,8 +2,10 @@
 #![tactic(auto)]
 
 mod breach;
+mod digest;
 mod fault;
 mod field_rules;
+mod level;
 mod limit;
 mod line;
 mod lists;
@@ -14,8 +16,10 @@ mod refusal;
 mod unit;
 
 pub use breach::Breach;
+pub use digest::Digest;
 pub use fault::{Fault, FaultKind};
 pub use field_rules::{FieldRules, PARAMETER_SET_RULES, SLICE_HEADER_RULES};
+pub use level::LevelMeasure;
 pub use limit::{Limit, LimitKind};
 pub use line::{Line, Phase};
 pub use lists::{Bytes, Places};

@@ -19,4 +19,5 @@ begun_by dpb u header parts = record {
   rps = parts.rps;
   outputs = parts.outputs;
   segments = segment_of [] dpb parts.rps u header ∷ [];
+  hashes = [];
 }

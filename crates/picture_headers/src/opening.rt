@@ -173,6 +173,7 @@ impl Parts {
     /// The picture of these parts and segments.
     fn into_picture(
         self,
+        alloc: Global,
         nal: u32,
         kind: PictureKind,
         segments: FieldList<SegmentPlan>,
@@ -187,6 +188,7 @@ impl Parts {
               rps = self.rps;
               outputs = self.outputs;
               segments = segments;
+              hashes = [];
             } }
     {
         PicturePlan {
@@ -198,6 +200,7 @@ impl Parts {
             rps: self.rps,
             outputs: self.outputs,
             segments,
+            hashes: FieldList::new(alloc),
         }
     }
 }
@@ -216,7 +219,7 @@ fn picture_with(
     let index = nal.index;
     let kind = header.fields().kind;
     let segments = only_segment(alloc, dpb, &parts.rps, nal, header);
-    Ok(segments.map(|segments| parts.into_picture(index, kind, segments))?)
+    Ok(segments.map(|segments| parts.into_picture(alloc, index, kind, segments))?)
 }
 
 /// The picture of a first slice segment.

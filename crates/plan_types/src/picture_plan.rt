@@ -2,6 +2,7 @@
 
 use crate::outputs::Outputs;
 use crate::segment_plan::SegmentPlan;
+use crate::stated_hash::StatedHash;
 use header_types::{FieldList, Pps, Rps, Shared, Sps};
 use slice_types::PictureKind;
 
@@ -24,4 +25,7 @@ pub struct PicturePlan {
     pub outputs: Outputs,
     /// The slice segments in decoding order, at least one.
     pub segments: FieldList<SegmentPlan>,
+    /// The hashes that are stated for the picture, in the order of their units: none, since supplemental enhancement
+    /// information isn't read.
+    pub hashes: FieldList<StatedHash>,
 }

@@ -141,6 +141,7 @@ with_set dpb u header n poc (Ok rps) = Ok (record {
   rps = rps;
   outputs = outputs_of (current_picture header n.sps poc) dpb rps.marks;
   segments = segment_of [] dpb rps u header ∷ [];
+  hashes = [];
 })
 
 abbrev pub with_order : Former → NalUnit → SliceHeaderFields → Named → Result ℤ FaultKind → Result PicturePlan Breach
