@@ -15,25 +15,25 @@ mod progress;
 
 use crate::event::Event;
 use crate::event_needs::{above, built_row, collocated_at, line_of, reach_at};
+use crate::flight_layout::FlightLayout;
 use crate::need_list::final_rows;
 use crate::phase_rows::{PhaseRows, filter_rows};
 use crate::pictures::{full_count_at, rows_end};
-use crate::places::Places;
 use flight_plan::{FlightPlan, Reference, RowRange};
-use hv_base::{Line, Phase, Unit};
+use hv_base::{Line, Phase, UnitNumber};
 use std::alloc::{AllocError, Global};
 use std::marker::Model;
 
 /// The state of a flight, which events change. Contracts see a `CoreOf`: the plan and a `CoreState`.
 #[derive(Drop)]
 pub struct Core<'a> {
-    places: Places<'a>,
+    places: FlightLayout<'a>,
     /// By ticket, how many units of the line are counted.
     counts: Vec<u32>,
     /// By ticket, whether the next unit of the line is parsed.
     parsed: Vec<bool>,
     drawn: usize,
-    least: Option<Unit>,
+    least: Option<UnitNumber>,
 }
 
 impl<'a> Model for Core<'a> {
@@ -60,7 +60,7 @@ impl<'a> Core<'a> {
     pub fn new(alloc: Global, plan: &'a FlightPlan) -> Result<Core<'a>, AllocError>
         ensures { IfOk result (λ core. core ≡ record { plan = plan.now; state = opening plan.now }) }
     {
-        let places = Places::new(alloc, plan)?;
+        let places = FlightLayout::new(alloc, plan)?;
         let counts = vec![in alloc; 0; places.lines()]?;
         let parsed = vec![in alloc; false; places.lines()]?;
         Ok(Core {
@@ -126,7 +126,7 @@ impl<'a> Core<'a> {
     }
 
     /// Whether the unit's place may be read.
-    fn is_found(&self, unit: Unit) -> bool
+    fn is_found(&self, unit: UnitNumber) -> bool
         ensures { IsTrue result
             ↔ ((l : Line)
             × (x : ℕ)
@@ -139,7 +139,7 @@ impl<'a> Core<'a> {
         }
     }
 
-    fn place(&self, unit: Unit) -> Option<(Line, u32)>
+    fn place(&self, unit: UnitNumber) -> Option<(Line, u32)>
         ensures found { IfSome result (λ place. IsPlaceOf self.now.plan unit place.0 place.1) }
         ensures none { result ≡ None → ¬ IsTreeUnit self.now.plan.pictures unit }
     {
@@ -152,7 +152,7 @@ impl<'a> Core<'a> {
         self.places.plan()
     }
 
-    fn is_bad(&self, unit: Unit) -> bool
+    fn is_bad(&self, unit: UnitNumber) -> bool
         ensures { IsTrue result ↔ IsBad self.now.plan unit }
     {
         self.places.is_bad(unit)
@@ -330,7 +330,7 @@ impl<'a> Core<'a> {
 }
 
 /// The lesser of a unit and the least fault so far.
-fn lesser_unit(unit: Unit, least: Option<Unit>) -> Unit
+fn lesser_unit(unit: UnitNumber, least: Option<UnitNumber>) -> UnitNumber
     ensures { result ≡ lesser unit least }
 {
     match least {

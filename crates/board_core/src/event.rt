@@ -1,6 +1,6 @@
 //! The events of a flight, each one atomic action of one worker.
 
-use hv_base::{Line, Unit};
+use hv_base::{Line, UnitNumber};
 
 /// One atomic action of one worker.
 #[derive(Clone, Copy, Debug, PartialEq, Eq)]
@@ -14,5 +14,5 @@ pub enum Event {
     /// A line of another phase than B is filtered as a whole and counted.
     Filter(Line),
     /// This unit is found to break a rule.
-    Fault(Unit),
+    Fault(UnitNumber),
 }

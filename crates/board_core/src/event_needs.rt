@@ -9,12 +9,12 @@ ghost use Rattle.board_core.specs.Needs.{unit_in_picture, IsNeedsOf};
 ghost use Rattle.board_core.specs.Places.{IsLine, IsPlaceOf, width_of};
 
 use crate::event::Event;
+use crate::flight_layout::row_and_column;
 use crate::need_list::Needs;
 use crate::phase_rows::{PhaseRows, filter_rows};
 use crate::pictures::{sync_at, width_at};
-use crate::places::row_and_column;
 use flight_plan::{FlightPlan, Reference, RowRange};
-use hv_base::{Line, Phase, Unit};
+use hv_base::{Line, Phase, UnitNumber};
 
 /// What must be counted before `event`.
 pub fn needs<'a>(plan: &'a FlightPlan, event: Event) -> Needs<'a>
@@ -36,7 +36,7 @@ pub fn needs<'a>(plan: &'a FlightPlan, event: Event) -> Needs<'a>
 }
 
 /// What parsing the coding tree unit of this number needs; nothing where the flight has no such coding tree unit.
-fn fault_needs<'a>(plan: &'a FlightPlan, unit: Unit) -> Needs<'a>
+fn fault_needs<'a>(plan: &'a FlightPlan, unit: UnitNumber) -> Needs<'a>
     ensures at_place { (l : Line) (x : ℕ) → IsPlaceOf plan.now unit l x → l.phase ≡ Phase.B
         → result ≡ read_needs plan.now l x }
     ensures none { ¬ IsTreeUnit plan.now.pictures unit → result ≡ [] }
@@ -136,7 +136,7 @@ pub fn line_of(phase: Phase, picture: u32, row: u32) -> Line
 }
 
 /// The line and the place there of a coding tree unit. `None` exactly where the flight has no such coding tree unit.
-fn place_of(plan: &FlightPlan, unit: Unit) -> Option<(Line, u32)>
+fn place_of(plan: &FlightPlan, unit: UnitNumber) -> Option<(Line, u32)>
     ensures found { IfSome result (λ place. IsPlaceOf plan.now unit place.0 place.1) }
     ensures phase { IfSome result (λ place. place.0.phase ≡ Phase.B) }
     ensures none { result ≡ None → ¬ IsTreeUnit plan.now.pictures unit }

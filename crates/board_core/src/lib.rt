@@ -6,11 +6,11 @@ mod core_state;
 mod drawing_order;
 mod event;
 mod event_needs;
+mod flight_layout;
 mod laws;
 mod need_list;
 mod phase_rows;
 mod pictures;
-mod places;
 mod search;
 
 pub use core_state::Core;

@@ -96,7 +96,7 @@ impl FlightPicture {
     }
 
     /// The coding tree units of the picture.
-    pub fn tree_units(&self) -> Unit
+    pub fn tree_units(&self) -> UnitNumber
         ensures value { result ≡ tree_units self.now }
         ensures small { result ≤ 262144 }
     {
@@ -104,7 +104,7 @@ impl FlightPicture {
     }
 
     /// The units of the picture: its coding tree units, and one a row for each of the three filter phases.
-    pub fn units(&self) -> Unit
+    pub fn units(&self) -> UnitNumber
         ensures value { result ≡ picture_units self.now }
         ensures small { result ≤ 263680 }
         ensures in_range { IsInRange self.now }
@@ -181,8 +181,8 @@ fn is_none_or_earlier(reference: Option<Reference>, count: usize) -> bool
 #[derive(Drop)]
 pub struct FlightPlan {
     pictures: Vec<FlightPicture>,
-    bad: Vec<Unit>,
-    units: Unit,
+    bad: Vec<UnitNumber>,
+    units: UnitNumber,
 }
 
 impl Model for FlightPlan {
@@ -234,7 +234,7 @@ impl FlightPlan {
     }
 
     /// Whether this is the number of a coding tree unit of one of the pictures.
-    pub fn is_tree_unit(&self, unit: Unit) -> bool
+    pub fn is_tree_unit(&self, unit: UnitNumber) -> bool
         ensures { IsTrue result ↔ IsTreeUnit self.now.pictures unit }
     {
         let mut first = 0;
@@ -248,7 +248,7 @@ impl FlightPlan {
     }
 
     /// Adds a coding tree unit at which a rule is broken. After want of memory the flight is as before.
-    pub fn push_bad(&mut self, unit: Unit) -> Result<(), AllocError>
+    pub fn push_bad(&mut self, unit: UnitNumber) -> Result<(), AllocError>
         requires { IsTreeUnit self.old.pictures unit }
         ensures ok { OnOk result (self.new ≡ record { pictures = self.old.pictures; bad = self.old.bad ++ unit ∷ [] }) }
         ensures err { OnErr result (self.new ≡ self.old) }
@@ -266,7 +266,7 @@ impl FlightPlan {
     }
 
     /// The coding tree units at which a rule is broken.
-    pub fn bad(&self) -> &[Unit]
+    pub fn bad(&self) -> &[UnitNumber]
         ensures value { result.now ≡ self.now.bad }
         ensures flight { IsFlight self.now }
         ensures inside { All (λ unit. unit < units_of self.now.pictures) self.now.bad }
@@ -275,7 +275,7 @@ impl FlightPlan {
     }
 
     /// How many units the pictures have.
-    pub fn units(&self) -> Unit
+    pub fn units(&self) -> UnitNumber
         ensures value { result ≡ units_of self.now.pictures }
         ensures small { result ≤ 263680 * 65536 }
     {

@@ -7,7 +7,7 @@ use Rattle.std.proofs.lemmas.List.{append-nil}
 -- zeros stand before the digits of a number that is told in 16 of them
 pub filled : (numeral : List ℕ)
     → padded_integral (format_spec 32 0 4 16 (2 ^ 64 - 1)) false [] numeral
-      ≡ replicate (16 - length numeral) 48 ++ numeral
+    ≡ replicate (16 - length numeral) 48 ++ numeral
 unfolding padded_integral char_count
 filled numeral =
     let short : 16 - length numeral - 0 - 0 ≡ 16 - length numeral = omega arith in

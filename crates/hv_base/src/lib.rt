@@ -22,7 +22,7 @@ pub use field_rules::{FieldRules, PARAMETER_SET_RULES, SLICE_HEADER_RULES};
 pub use level::LevelMeasure;
 pub use limit::{Limit, LimitKind};
 pub use line::{Line, Phase};
-pub use lists::{Bytes, Places};
+pub use lists::{BytePlaces, Bytes};
 pub use nal::Nal;
 pub use nal_types::{
     AUD_NUT, BLA_N_LP, BLA_W_LP, CRA_NUT, EOB_NUT, EOS_NUT, IDR_N_LP, IDR_W_RADL, PPS_NUT,

@@ -36,13 +36,13 @@ impl Bytes {
     }
 }
 
-/// Places in a list, each counted from its front, in ascending order: each is behind the one before it.
+/// Places of bytes in a list, each counted from its front, in ascending order: each is behind the one before it.
 #[derive(Debug, Drop)]
-pub struct Places {
+pub struct BytePlaces {
     items: Vec<u32>,
 }
 
-impl Model for Places {
+impl Model for BytePlaces {
     ghost use Rattle.std.specs.Prelude.{ℕ, List};
     ghost use Rattle.std.specs.List.Sorted.{IsStrictlyIncreasing};
 
@@ -53,13 +53,13 @@ impl Model for Places {
     ghost invariant = { λ p. IsStrictlyIncreasing p.items.items };
 }
 
-impl Places {
+impl BytePlaces {
     /// These places.
-    pub fn new(items: Vec<u32>) -> Places
+    pub fn new(items: Vec<u32>) -> BytePlaces
         requires in_order { IsStrictlyIncreasing items.items }
         ensures { result ≡ items.items }
     {
-        Places { items }
+        BytePlaces { items }
     }
 
     /// The places as a slice.

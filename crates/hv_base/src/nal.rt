@@ -2,7 +2,7 @@
 
 ghost use Rattle.std.specs.Prelude.{◌+◌, ◌<◌, ◌≤◌, ◌^◌, length};
 
-use crate::lists::{Bytes, Places};
+use crate::lists::{BytePlaces, Bytes};
 
 /// A NAL unit, apart from its header's fixed bits and its emulation prevention bytes (7.3.1.1, 7.3.1.2).
 #[derive(Debug, Drop)]
@@ -18,7 +18,7 @@ pub struct Nal {
     /// The raw byte sequence payload: the bytes behind the two of the header, without emulation prevention bytes.
     pub rbsp: Bytes,
     /// Where the emulation prevention bytes stood, in ascending order, each counted in bytes from the unit's first.
-    pub removed: Places,
+    pub removed: BytePlaces,
     ghost in_range: { (nal_type < 64) × (layer < 64) × (temporal_id < 7) },
     ghost sized: { length rbsp + length removed ≤ 2 ^ 26 },
 }

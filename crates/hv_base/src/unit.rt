@@ -2,4 +2,4 @@
 
 /// The number of a unit of work: picture by picture, in each the coding tree units in raster order, then the rows whose
 /// vertical edges are deblocked, those whose horizontal edges are, and those that have their offsets.
-pub type Unit = u64;
+pub type UnitNumber = u64;

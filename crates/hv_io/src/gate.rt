@@ -5,7 +5,7 @@ use hv_base::Unit;
 /// What may keep back a unit of work. No clause reads it.
 pub trait Gate {
     /// Called before a unit is built, and at each turn of waiting.
-    fn turn(&self, unit: Unit);
+    fn turn(&self, unit: UnitNumber);
 }
 
 /// A gate that keeps nothing back.
@@ -13,5 +13,5 @@ pub trait Gate {
 pub struct OpenGate;
 
 impl Gate for OpenGate {
-    fn turn(&self, _unit: Unit) {}
+    fn turn(&self, _unit: UnitNumber) {}
 }

@@ -3,7 +3,7 @@
 ghost use Rattle.std.specs.Prelude.{◌≡◌, ◌<◌, ◌≤◌, ◌^◌, length, IfOk};
 ghost use Rattle.spec_nal_units.specs.Judged as spec;
 
-use hv_base::Places;
+use hv_base::BytePlaces;
 use std::alloc::{AllocError, Global};
 
 /// Whether 00 00 and then this byte stand in a unit, that byte at place `i`.
@@ -43,7 +43,7 @@ pub fn payload_of(alloc: Global, unit: &[u8]) -> Result<Vec<u8>, AllocError>
 
 /// Where a unit's emulation prevention bytes stand.
 #[tactic(auto, unfolding(spec_nal_units::specs::Judged::removed_of))]
-pub fn removed_of(alloc: Global, unit: &[u8]) -> Result<Places, AllocError>
+pub fn removed_of(alloc: Global, unit: &[u8]) -> Result<BytePlaces, AllocError>
     requires { length unit.now ≤ 2 ^ 26 }
     ensures { IfOk result (λ p. p ≡ spec.removed_of unit.now) }
 {
@@ -53,5 +53,5 @@ pub fn removed_of(alloc: Global, unit: &[u8]) -> Result<Places, AllocError>
             removed.push(i as u32)?;
         }
     }
-    Ok(Places::new(removed))
+    Ok(BytePlaces::new(removed))
 }

@@ -2,7 +2,7 @@
 
 use crate::payload::Payload;
 use header_types::{FieldList, Lists};
-use hv_base::Places;
+use hv_base::BytePlaces;
 use slice_types::{SliceHeader, Substream};
 
 /// A slice segment: its header, and its NAL unit.
@@ -13,7 +13,7 @@ pub struct SegmentPlan {
     /// The unit's payload, behind the two bytes of its header. The segment's data begin at the header's `data_place`.
     pub payload: Payload,
     /// Where emulation prevention bytes stood, each counted in bytes from the unit's first.
-    pub removed: Places,
+    pub removed: BytePlaces,
     /// The number in the picture, from 0, of the segment that begins its slice: its own where it isn't a dependent one.
     pub slice: usize,
     /// The reference picture lists of the slice that it begins (8.3.4): `None` in a dependent slice segment.

@@ -22,7 +22,7 @@ use slice_types::{LongTermRefs, PictureKind, ReferenceFields};
 use std::alloc::{AllocError, Global};
 
 /// The places of the pictures that entries name, `None` where the buffer has no such picture.
-type Places = FieldList<Option<u32>>;
+type EntryPlaces = FieldList<Option<u32>>;
 
 /// The reference picture set of a picture with these fields and this order count, where `dpb` are the pictures of the
 /// decoded picture buffer in decoding order (8.3.2). `MissingReference` exactly where the picture isn't an intra random
@@ -101,7 +101,7 @@ fn marked_places(
     picture: CurrentPicture,
     long: &LongTermRefs,
     dpb: &[DpbPicture],
-) -> Result<Places, AllocError>
+) -> Result<EntryPlaces, AllocError>
     requires max_lsb_low { 16 ≤ picture.kind.max_lsb }
     requires max_lsb_high { picture.kind.max_lsb ≤ 65536 }
     requires entries { length long.now.entries ≤ 33 }
@@ -118,7 +118,7 @@ fn long_term_sets(
     alloc: Global,
     places: &[Option<u32>],
     entries: &[LongTermRef],
-) -> Result<(Places, Places), AllocError>
+) -> Result<(EntryPlaces, EntryPlaces), AllocError>
     requires same { length places.now ≡ length entries.now }
     ensures current { IfOk result (λ sets. sets.0 ≡ long_term_set places.now true entries.now) }
     ensures later { IfOk result (λ sets. sets.1 ≡ long_term_set places.now false entries.now) }
@@ -135,7 +135,7 @@ fn short_term_sets(
     counts: &[Option<i32>],
     picture: CurrentPicture,
     set: &StRps,
-) -> Result<(Places, Places, Places), AllocError>
+) -> Result<(EntryPlaces, EntryPlaces, EntryPlaces), AllocError>
     requires few { length counts.now < 2 ^ 32 }
     ensures before { IfOk result (λ sets. sets.0 ≡ short_term_set counts.now picture.poc true set.now.negative) }
     ensures after { IfOk result (λ sets. sets.1 ≡ short_term_set counts.now picture.poc true set.now.positive) }

@@ -15,12 +15,12 @@ ghost use Rattle.spec_slice_headers.specs.Substreams.{
 ghost use Rattle.std.specs.Prelude.{◌≡◌, ◌+◌, ◌≤◌, ◌<◌, All, IfOk, length, map, min};
 
 use header_types::FieldList;
-use hv_base::Places;
+use hv_base::BytePlaces;
 use slice_types::Substream;
 use std::alloc::{AllocError, Global};
 
 // How many bytes of the payload stand before a place of the unit.
-fn payload_before(removed: &Places, place: usize) -> usize
+fn payload_before(removed: &BytePlaces, place: usize) -> usize
     ensures { result ≡ payload_before removed.now place }
 {
     let before = removed.count_before(place);
@@ -54,7 +54,7 @@ fn unit_place(removed: &[u32], i: usize) -> usize
 }
 
 // The place in the unit behind its last byte.
-fn unit_end(payload: &[u8], removed: &Places) -> usize
+fn unit_end(payload: &[u8], removed: &BytePlaces) -> usize
     ensures value { result ≡ 2 + length payload.now + length removed.now }
     ensures few { result + 2 + length removed.now ≤ usize.MAX }
 {
@@ -63,7 +63,7 @@ fn unit_end(payload: &[u8], removed: &Places) -> usize
 
 // The place in the unit of a byte of the payload, or `end` where that place is behind it.
 #[tactic(auto, using(crate::proofs::UnitPlaces::up_to))]
-fn place_up_to(removed: &Places, i: usize, end: usize) -> usize
+fn place_up_to(removed: &BytePlaces, i: usize, end: usize) -> usize
     requires { end + 2 + length removed.now ≤ usize.MAX }
     ensures { result ≡ min (unit_place removed.now i) end }
 {
@@ -81,7 +81,7 @@ fn next_place(place: usize, offset: u64, end: usize) -> usize
 /// `first` of its payload: the emulation prevention bytes behind that byte are among them. `removed` has the places
 /// in the unit of its emulation prevention bytes.
 #[tactic(auto, unfolding(spec_slice_headers::specs::Substreams::data_size))]
-pub fn data_size(payload: &[u8], removed: &Places, first: usize) -> usize
+pub fn data_size(payload: &[u8], removed: &BytePlaces, first: usize) -> usize
     ensures { result ≡ data_size payload.now removed.now first }
 {
     let end = unit_end(payload, removed);
@@ -89,7 +89,7 @@ pub fn data_size(payload: &[u8], removed: &Places, first: usize) -> usize
 }
 
 // The range of the payload from one place of the unit to another.
-fn range_between(payload: &[u8], removed: &Places, from: usize, to: usize) -> Substream
+fn range_between(payload: &[u8], removed: &BytePlaces, from: usize, to: usize) -> Substream
     ensures { result ≡ range_between payload.now removed.now from to }
 {
     let end = payload_before(removed, to).min(payload.len());
@@ -100,7 +100,7 @@ fn range_between(payload: &[u8], removed: &Places, from: usize, to: usize) -> Su
 }
 
 // The range of the payload from a place of the unit on.
-fn range_from(payload: &[u8], removed: &Places, from: usize) -> Substream
+fn range_from(payload: &[u8], removed: &BytePlaces, from: usize) -> Substream
     ensures { result ≡ range_from payload.now removed.now from }
 {
     Substream {
@@ -116,7 +116,7 @@ fn range_from(payload: &[u8], removed: &Places, from: usize) -> Substream
 pub fn substreams(
     alloc: Global,
     payload: &[u8],
-    removed: &Places,
+    removed: &BytePlaces,
     first: usize,
     offsets: &[u64],
 ) -> Result<FieldList<Substream>, AllocError>

@@ -10,7 +10,7 @@ ghost use Rattle.board_core.specs.Progress.{AreDone, IsLeft};
 
 use super::Core;
 use crate::event::Event;
-use hv_base::{Line, Phase, Unit};
+use hv_base::{Line, Phase, UnitNumber};
 
 impl<'a> Core<'a> {
     /// Whether the list of events has ended: no unit before the least fault is uncounted.
@@ -131,7 +131,7 @@ impl<'a> Core<'a> {
         x < self.places.full_count(line) && self.is_before_fault(self.places.unit(line, x))
     }
 
-    fn is_before_fault(&self, unit: Unit) -> bool
+    fn is_before_fault(&self, unit: UnitNumber) -> bool
         ensures { IsTrue result ↔ IsBefore unit self.now.state.least }
     {
         match self.least {

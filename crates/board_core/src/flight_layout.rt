@@ -14,24 +14,24 @@ use crate::drawing_order::{count_before, delay_of, line_in};
 use crate::pictures::{full_count_at, rows_at, width_at};
 use crate::search::last_at_most;
 use flight_plan::{FlightPicture, FlightPlan};
-use hv_base::{Line, Phase, Unit};
+use hv_base::{Line, Phase, UnitNumber};
 use std::alloc::{AllocError, Global};
 use std::marker::Model;
 
 /// Where the lines and units of a flight stand, and which units are bad. Contracts see the plan.
 #[derive(Drop)]
-pub struct Places<'a> {
+pub struct FlightLayout<'a> {
     plan: &'a FlightPlan,
     /// By picture, the lines of the pictures before it.
     first_lines: Vec<u64>,
     /// By picture, the units of the pictures before it.
-    first_units: Vec<Unit>,
+    first_units: Vec<UnitNumber>,
     /// By unit, whether it is bad.
     bad: Vec<bool>,
     lines: usize,
 }
 
-impl<'a> Model for Places<'a> {
+impl<'a> Model for FlightLayout<'a> {
     ghost use Rattle.std.specs.Prelude.{ℕ, ◌≡◌, ◌<◌, ◌≤◌, ◌*◌, ◌^◌, ◌↔◌, false, true, length, take, sum_by};
     ghost use Rattle.std.specs.Prelude.{slice_index, slice_index_or};
     ghost use Rattle.flight_plan.specs.Flight.{FlightRows, IsFlight, picture_units};
@@ -56,9 +56,9 @@ impl<'a> Model for Places<'a> {
         × ((u : ℕ) → (slice_index_or p.bad.items u false ≡ true) ↔ IsBad p.plan.now u) };
 }
 
-impl<'a> Places<'a> {
+impl<'a> FlightLayout<'a> {
     /// The places of a flight.
-    pub fn new(alloc: Global, plan: &'a FlightPlan) -> Result<Places<'a>, AllocError>
+    pub fn new(alloc: Global, plan: &'a FlightPlan) -> Result<FlightLayout<'a>, AllocError>
         ensures { IfOk result (λ places. places ≡ plan.now) }
     {
         let mut first_lines = Vec::new(alloc);
@@ -73,7 +73,7 @@ impl<'a> Places<'a> {
             lines += 4 * u64::from(picture.rows());
             units += picture.units();
         }
-        Ok(Places {
+        Ok(FlightLayout {
             plan,
             first_lines,
             first_units,
@@ -128,7 +128,7 @@ impl<'a> Places<'a> {
     }
 
     /// Whether the unit is bad.
-    pub fn is_bad(&self, unit: Unit) -> bool
+    pub fn is_bad(&self, unit: UnitNumber) -> bool
         ensures { IsTrue result ↔ IsBad self.now unit }
     {
         match self.bad.get(unit as usize) {
@@ -151,7 +151,7 @@ impl<'a> Places<'a> {
 
     /// The number of the unit `x` of a line.
     #[tactic(auto, using(crate::proofs::Order::line_inside, crate::proofs::Order::unit_inside))]
-    pub fn unit(&self, line: Line, x: u32) -> Unit
+    pub fn unit(&self, line: Line, x: u32) -> UnitNumber
         requires line { IsLine self.now line }
         requires inside { x < full_count self.now line }
         ensures value { result ≡ unit_of self.now line x }
@@ -206,7 +206,7 @@ impl<'a> Places<'a> {
 
     /// The line and the place there of a coding tree unit. `None` exactly where the flight has no such coding tree
     /// unit.
-    pub fn place(&self, unit: Unit) -> Option<(Line, u32)>
+    pub fn place(&self, unit: UnitNumber) -> Option<(Line, u32)>
         ensures found { IfSome result (λ place. IsPlaceOf self.now unit place.0 place.1) }
         ensures none { result ≡ None → ¬ IsTreeUnit self.now.pictures unit }
     {

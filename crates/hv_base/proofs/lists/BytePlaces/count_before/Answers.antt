@@ -3,7 +3,7 @@ use Rattle.std.specs.List.{count_by}
 use Rattle.std.specs.List.Sorted.{IsStrictlyIncreasing}
 use Rattle.std.proofs.lemmas.List.Sorted.{IsPartitionPoint-from_clause, IsPartitionedBy-ltb}
 use Rattle.hv_base.proofs.Counting.{count_to, rising}
-use Rattle.hv_base.proofs.lists.Places.count_before.Goals as goal
+use Rattle.hv_base.proofs.lists.BytePlaces.count_before.Goals as goal
 
 pub returns : goal.returns
 returns c =

@@ -1,7 +1,7 @@
 use Rattle.std.proofs.Common.{ℕ, ◌≡◌, ◌<◌, ◌≤◌, ◌*◌, length, take, sum_by, slice_index}
 use Rattle.flight_plan.specs.Flight.{picture_units}
 use Rattle.board_core.specs.Places.{picture_lines}
-use Rattle.board_core.proofs.places.Places.new.Given as goal
+use Rattle.board_core.proofs.flight_layout.FlightLayout.new.Given as goal
 
 abbrev pub invariant-loop-picture : goal.invariant-loop-picture
 invariant-loop-picture l =

@@ -4,7 +4,7 @@ use Rattle.std.proofs.lemmas.List.Sums.{sum_by_more}
 use Rattle.flight_plan.specs.Flight.{PictureRows, no_picture, picture_units}
 use Rattle.board_core.specs.Places.{picture_lines}
 use Rattle.board_core.proofs.Tables.{table_next}
-use Rattle.board_core.proofs.places.Places.new.Goals as goal
+use Rattle.board_core.proofs.flight_layout.FlightLayout.new.Goals as goal
 
 pub loop-picture-preserved : goal.loop-picture-preserved
 loop-picture-preserved c =

@@ -7,7 +7,7 @@ use Rattle.std.proofs.Math.Seq.{take-length}
 use Rattle.flight_plan.specs.Flight.{FlightRows, IsTreeUnit, PictureRows, no_picture, picture_units, tree_units}
 use Rattle.flight_plan.specs.Flight.{units_of}
 use Rattle.board_core.proofs.Units.{past_tree}
-use Rattle.board_core.proofs.places.Places.place.Goals as goal
+use Rattle.board_core.proofs.flight_layout.FlightLayout.place.Goals as goal
 
 pub returns-then-within-tree_units-clause-none : goal.returns-then-within-tree_units-clause-none
 returns-then-within-tree_units-clause-none c _ =
