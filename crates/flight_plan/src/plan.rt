@@ -6,7 +6,7 @@ ghost use Rattle.flight_plan.specs.Flight.{IsEarlier, IsFlight, IsInRange, IsNon
 ghost use Rattle.flight_plan.specs.Flight.{picture_units, tree_units, units_of};
 
 use crate::row_range::{Reference, RowRange, RowRanges};
-use hv_base::Unit;
+use hv_base::UnitNumber;
 use std::alloc::{AllocError, Global};
 use std::marker::Model;
 

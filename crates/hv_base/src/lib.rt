@@ -31,7 +31,7 @@ pub use nal_types::{
 };
 pub use outcome::{Outcome, Status};
 pub use refusal::{Refusal, Stop};
-pub use unit::Unit;
+pub use unit::UnitNumber;
 
 #[cfg(test)]
 mod tests;

@@ -1,6 +1,6 @@
 //! What stands before each unit of work.
 
-use hv_base::Unit;
+use hv_base::UnitNumber;
 
 /// What may keep back a unit of work. No clause reads it.
 pub trait Gate {

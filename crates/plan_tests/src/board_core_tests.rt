@@ -74,6 +74,56 @@ fn the_core_runs_itself_to_the_end(rt: HostRuntime) {
     assert!(rt; is_run(rt.alloc()));
 }
 
+/// Takes an event, if it is ready, and answers whether it was.
+fn takes(core: &mut Core, event: Event) -> bool {
+    let is_ready = core.ready(event);
+    if is_ready {
+        core.step(event);
+    }
+    is_ready
+}
+
+/// Reads and builds a coding tree unit of a row, and answers whether both were ready.
+fn takes_unit(core: &mut Core, row: u32, x: u32) -> bool {
+    let line = Line {
+        phase: Phase::B,
+        picture: 0,
+        row,
+    };
+    takes(core, Event::Read(line, x)) && takes(core, Event::Build(line, x))
+}
+
+/// Whether the second of two rows of three units with entropy coding sync runs behind the first by two units: its first
+/// unit isn't ready behind one unit of the row above, and is behind two; its last one waits for all three.
+fn runs_behind(core: &mut Core) -> bool {
+    let is_drawn = takes(core, Event::Draw) && takes(core, Event::Draw);
+    let waits_for_two = takes_unit(core, 0, 0) && !takes_unit(core, 1, 0);
+    let has_two = takes_unit(core, 0, 1) && takes_unit(core, 1, 0);
+    let waits_for_three = !takes_unit(core, 1, 1) && takes_unit(core, 0, 2);
+    is_drawn
+        && waits_for_two
+        && has_two
+        && waits_for_three
+        && takes_unit(core, 1, 1)
+        && takes_unit(core, 1, 2)
+}
+
+/// Whether rows run behind one another on a new core.
+fn is_wavefront(alloc: Global) -> bool {
+    let Ok(plan) = plan_of(alloc) else {
+        return false;
+    };
+    match Core::new(alloc, &plan) {
+        Ok(mut core) => runs_behind(&mut core),
+        Err(AllocError) => false,
+    }
+}
+
+#[test]
+fn a_row_runs_two_units_behind_the_row_above(rt: HostRuntime) {
+    assert!(rt; is_wavefront(rt.alloc()));
+}
+
 /// A flight of three pictures of 512 rows of one coding tree unit.
 fn tall_plan_of(alloc: Global) -> Result<FlightPlan, AllocError> {
     let mut plan = FlightPlan::new(alloc);
