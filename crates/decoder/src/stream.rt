@@ -13,7 +13,7 @@ ghost use Rattle.decoder.specs.Writing.{IsAnswered, LeadsTo};
 
 use crate::buffer::Buffer;
 use crate::options::Options;
-use crate::writing::{write_flights, write_last};
+use crate::writing::{decode_flights, write_last};
 use hv_base::Outcome;
 use hv_io::Sink;
 use nal_stream::{Framer, Next};
@@ -123,7 +123,7 @@ impl Decoder {
             return Err(Outcome::Memory);
         };
         match planned.stop {
-            None => write_flights(planned.flights, &mut self.buffer, out),
+            None => decode_flights(planned.flights, &mut self.buffer, out),
             Some(_) => Err(write_last(planned, &mut self.buffer, out)),
         }
     }

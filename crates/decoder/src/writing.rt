@@ -1,4 +1,5 @@
-//! Writes pictures in output order, each as soon as it goes out of the decoded picture buffer.
+//! Decodes pictures one after the other, and writes them in output order, each as soon as it goes out of the decoded
+//! picture buffer.
 
 ghost use Rattle.std.specs.Prelude.{◌≡◌};
 ghost use Rattle.picture_build.specs.Pictures.{buffer_of};
@@ -19,7 +20,7 @@ pub(crate) fn write_last<O: Sink>(planned: Planned, buffer: &mut Buffer, out: &m
         (decoded_from (finished planned.last planned.stop) (pictures_of planned.flights) (buffer_of buffer.old))
         (change_of O.contents O.faults out.old out.new) result }
 {
-    match write_flights(planned.flights, buffer, out) {
+    match decode_flights(planned.flights, buffer, out) {
         Ok(()) => write_end(planned.last.as_slice(), planned.stop, buffer, out),
         Err(outcome) => outcome,
     }
@@ -48,7 +49,7 @@ pub(crate) fn outcome_of(stop: Option<Stop>) -> Outcome
 }
 
 /// Decodes the pictures of flights, and writes what goes out.
-pub(crate) fn write_flights<O: Sink>(
+pub(crate) fn decode_flights<O: Sink>(
     flights: Flights,
     buffer: &mut Buffer,
     out: &mut O,
@@ -58,13 +59,13 @@ pub(crate) fn write_flights<O: Sink>(
 {
     let mut left = flights;
     while let Some(flight) = left.next() {
-        write_pictures(flight.as_slice(), buffer, out)?;
+        decode_pictures(flight.as_slice(), buffer, out)?;
     }
     Ok(())
 }
 
 /// Decodes these pictures, up to the first in which something is broken or met.
-fn write_pictures<O: Sink>(
+fn decode_pictures<O: Sink>(
     pictures: &[PicturePlan],
     buffer: &mut Buffer,
     out: &mut O,
@@ -73,13 +74,13 @@ fn write_pictures<O: Sink>(
         (buffer_of buffer.new) result }
 {
     for picture in pictures {
-        write_picture(picture, buffer, out)?;
+        take_picture(picture, buffer, out)?;
     }
     Ok(())
 }
 
 /// Decodes a picture, and writes what goes out before it and behind it (C.5.2).
-fn write_picture<O: Sink>(
+fn take_picture<O: Sink>(
     picture: &PicturePlan,
     buffer: &mut Buffer,
     out: &mut O,

@@ -9,7 +9,7 @@ use crate::tally::Tally;
 use hv_base::Stop;
 use nal_stream::{Framer, Next};
 use picture_plan::{Flight, Planned, Planner};
-use plan_text::picture_text;
+use picture_text::plan_text;
 use std::alloc::{AllocError, Global};
 
 /// The sizes of pieces in which a stream comes.
@@ -242,7 +242,7 @@ impl Plan {
     fn add_flight(&mut self, alloc: Global, flight: &Flight) -> Result<(), AllocError> {
         for picture in flight.as_slice() {
             self.pictures = self.pictures.saturating_add(1);
-            self.last = picture_text(alloc, picture)?;
+            self.last = plan_text(alloc, picture)?;
         }
         Ok(())
     }

@@ -26,13 +26,11 @@ use crate::set_trace::print_set;
 use crate::trace_error::TraceError;
 use hv_base::{Nal, Outcome, Status, Stop};
 use nal_stream::{Framer, Next};
-use picture_lines::OutputTrace;
-use row_lines::RowTrace;
+use picture_text::{OutputTrace, RowTrace, TreeTrace};
 use std::alloc::Global;
 use std::io::{self, BufWriter, Read, Write};
 use std::process::ExitCode;
 use std::{env, fs};
-use tree_lines::TreeTrace;
 
 /// What is printed of a stream.
 #[derive(Drop)]

@@ -2,13 +2,11 @@
 
 use hv_base::Stop;
 use nal_stream::Next;
-use picture_lines::{OutputTrace, PictureLine, print_slice_segments};
 use picture_plan::{Flight, Flights, Planned, Planner};
+use picture_text::{OutputTrace, PictureLine, RowTrace, TreeTrace, print_slice_segments};
 use plan_types::PicturePlan;
-use row_lines::RowTrace;
 use std::alloc::Global;
 use std::io::{self, Write};
-use tree_lines::TreeTrace;
 
 /// What is printed of the pictures.
 #[derive(Drop)]

@@ -6,13 +6,13 @@ use Rattle.decoder.proofs.writing.write_last.Goals as goal
 
 pub returns-in-Ok : goal.returns-in-Ok
 returns-in-Ok g c =
-    last-written g.O.Sink.contents g.O.Sink.faults c.args.out.now c.write_flights.new.out c.write_end.new.out
-    (pictures_of c.args.planned.flights) (buffer_of c.args.buffer.now) (buffer_of c.write_flights.new.buffer)
+    last-written g.O.Sink.contents g.O.Sink.faults c.args.out.now c.decode_flights.new.out c.write_end.new.out
+    (pictures_of c.args.planned.flights) (buffer_of c.args.buffer.now) (buffer_of c.decode_flights.new.buffer)
     (finished c.args.planned.last c.args.planned.stop) c.write_end.result
     c.in-Ok.ensures (rw (← c.as_slice.ensures) c.write_end.ensures)
 
 pub returns : goal.returns
 returns g c =
-    last-over g.O.Sink.contents g.O.Sink.faults c.args.out.now c.write_flights.new.out
+    last-over g.O.Sink.contents g.O.Sink.faults c.args.out.now c.decode_flights.new.out
     (pictures_of c.args.planned.flights) (buffer_of c.args.buffer.now)
     (finished c.args.planned.last c.args.planned.stop) c.in-Err.outcome c.in-Err.ensures

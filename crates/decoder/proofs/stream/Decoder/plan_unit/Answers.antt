@@ -6,11 +6,11 @@ use Rattle.decoder.proofs.stream.Decoder.plan_unit.Goals as goal
 
 pub returns-in-None-clause-wrote : goal.returns-in-None-clause-wrote
 returns-in-None-clause-wrote g c = λ ended t later is going.
-    let new : Decoder = record { planner = c.unit.new.self; buffer = c.write_flights.new.buffer } in
-    unit-leads (change_of g.O.Sink.contents g.O.Sink.faults c.args.out.now c.write_flights.new.out) ended
+    let new : Decoder = record { planner = c.unit.new.self; buffer = c.decode_flights.new.buffer } in
+    unit-leads (change_of g.O.Sink.contents g.O.Sink.faults c.args.out.now c.decode_flights.new.out) ended
     c.args.self.now new (told_by c.args.next) t later c.in-Ok.planned.flights c.in-Ok.planned.last
-    c.write_flights.result
-    is c.in-Ok.ensures.value c.write_flights.ensures
+    c.decode_flights.result
+    is c.in-Ok.ensures.value c.decode_flights.ensures
 
 pub returns-in-Some-clause-wrote : goal.returns-in-Some-clause-wrote
 returns-in-Some-clause-wrote g c = λ ended t later is going.

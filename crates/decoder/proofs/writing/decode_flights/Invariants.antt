@@ -4,7 +4,7 @@ use Rattle.picture_plan.specs.Flights.{pictures_of}
 use Rattle.picture_build.specs.Pictures.{buffer_of}
 use Rattle.decoder.specs.Headline.{change_of}
 use Rattle.decoder.specs.Writing.{Passes}
-use Rattle.decoder.proofs.writing.write_flights.Given as goal
+use Rattle.decoder.proofs.writing.decode_flights.Given as goal
 
 abbrev pub invariant-loop-flight : goal.invariant-loop-flight
 invariant-loop-flight g l =

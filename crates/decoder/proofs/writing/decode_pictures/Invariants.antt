@@ -3,7 +3,7 @@ use Rattle.std.proofs.Common.{drop}
 use Rattle.picture_build.specs.Pictures.{buffer_of}
 use Rattle.decoder.specs.Headline.{change_of}
 use Rattle.decoder.specs.Writing.{Passes}
-use Rattle.decoder.proofs.writing.write_pictures.Given as goal
+use Rattle.decoder.proofs.writing.decode_pictures.Given as goal
 
 abbrev pub invariant-loop-picture : goal.invariant-loop-picture
 invariant-loop-picture g l =

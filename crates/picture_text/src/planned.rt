@@ -8,7 +8,7 @@ use std::alloc::{AllocError, Global};
 /// The order count; the reference picture set (StCurrBefore, StCurrAfter, StFoll, LtCurr, LtFoll) and the marks, by
 /// places in the buffer; how many scaling lists there are and the sum of their factors; the lists and substreams of
 /// each segment.
-pub fn picture_text(alloc: Global, picture: &PicturePlan) -> Result<String, AllocError> {
+pub fn plan_text(alloc: Global, picture: &PicturePlan) -> Result<String, AllocError> {
     let (poc, rps) = (picture.poc, &picture.rps);
     let mut text = format!(in alloc; "poc {poc}")?;
     push_places(alloc, &mut text, "before", rps.st_curr_before.as_slice())?;

@@ -4,7 +4,7 @@ use Rattle.decoder.specs.Headline.{change_of}
 use Rattle.decoder.specs.Writing.{TakesPicture}
 use Rattle.decoder.proofs.Writes.{exit-is, before-written, picture-taken, picture-before, picture-refused}
 use Rattle.decoder.proofs.Writes.{picture-behind}
-use Rattle.decoder.proofs.writing.write_picture.Goals as goal
+use Rattle.decoder.proofs.writing.take_picture.Goals as goal
 
 pub returns-in_err-write : goal.returns-in_err-write
 returns-in_err-write g c =

@@ -1,9 +1,9 @@
 //! The coding trees of pictures, read and printed.
 
+use crate::coded_picture::print_coded_picture;
 use crate::motion_buffer::MotionBuffer;
-use crate::picture_units::TreeLines;
+use crate::tree_units::TreeLines;
 use hv_base::Stop;
-use picture_lines::print_coded_picture;
 use picture_motion::PictureMotion;
 use picture_trees::{ReadError, read_picture};
 use plan_types::PicturePlan;

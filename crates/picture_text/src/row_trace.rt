@@ -1,11 +1,11 @@
 //! Pictures of I slices, decoded and printed.
 
+use crate::coded_picture::print_coded_picture;
 use crate::plane_rows::print_rows;
 use hv_base::Stop;
 use loop_filters::FilterScratch;
 use picture_buffer::Bases;
 use picture_build::build_picture;
-use picture_lines::print_coded_picture;
 use picture_trees::ReadError;
 use plan_types::{PicturePlan, SegmentPlan};
 use slice_types::SliceType;

@@ -16,7 +16,7 @@ pub fn print_slice_segments<W: Write>(picture: &PicturePlan, out: &mut W) -> io:
 
 /// Prints a picture's line: its number, the number of its first unit, its `nal_unit_type`, its order count, its coded
 /// size, and a letter for the type of each slice. An error is one of the writer.
-pub fn print_coded_picture<W: Write>(
+pub(crate) fn print_coded_picture<W: Write>(
     number: u64,
     picture: &PicturePlan,
     out: &mut W,
