@@ -1,15 +1,13 @@
 -- Rows of coding tree blocks in order.
-use Rattle.std.proofs.Common.{ℕ, ◌+◌, ◌*◌, ◌<◌, ◌≤◌, ◌/◌, ◌^◌, ℤ, pos, negsuc, ◌+ℤ◌, ◌-ℤ◌, ◌≤ℤ◌, arith, rules}
+use Rattle.std.proofs.Common.{ℕ, ◌+◌, ◌*◌, ◌<◌, ◌≤◌, ◌/◌, ◌^◌, ℤ, pos, ◌+ℤ◌, ◌-ℤ◌, ◌≤ℤ◌, arith, rules}
 use Rattle.std.proofs.Math.Nat.{div-mul-le_self}
 use Rattle.std.proofs.lemmas.Nat.{le-div}
 use Rattle.std.specs.Int.{int_shr}
-use Rattle.std.proofs.lemmas.Int.{ints}
-use Rattle.block_geometry.specs.Rows.{from_zero, line_in, row_of_line, tap_line}
+use Rattle.std.proofs.lemmas.Int.{ints, clamps}
+use Rattle.block_geometry.specs.Rows.{line_in, row_of_line, tap_line}
 
-from_zero-le : (a b : ℤ) → a ≤ℤ b → from_zero a ≤ from_zero b
-from_zero-le (pos a) (pos b) h = omega (arith, ints)
-from_zero-le (pos a) (negsuc b) h = omega (arith, ints)
-from_zero-le (negsuc a) b h = omega (arith, ints)
+line_in-le : (height : ℕ) (a b : ℤ) → a ≤ℤ b → line_in height a ≤ line_in height b
+line_in-le height a b h = omega (arith, ints, clamps)
 
 div-le-div : (k m n : ℕ) → 0 < k → m ≤ n → m / k ≤ n / k
 div-le-div k m n some h =
@@ -20,8 +18,7 @@ div-le-div k m n some h =
 pub row_of_line-le : (height ctb_log2 : ℕ) (a b : ℤ) → a ≤ℤ b
     → row_of_line height ctb_log2 a ≤ row_of_line height ctb_log2 b
 row_of_line-le height ctb_log2 a b h =
-    let zero : from_zero a ≤ from_zero b = from_zero-le a b h in
-    let line : line_in height a ≤ line_in height b = omega arith in
+    let line : line_in height a ≤ line_in height b = line_in-le height a b h in
     let some : 0 < 2 ^ ctb_log2 = search rules in
     div-le-div (2 ^ ctb_log2) _ _ some line
 

@@ -1,15 +1,11 @@
 -- Rows of coding tree blocks of a picture, and the luma lines that a filter reads.
-use Rattle.std.specs.Prelude.{ℕ, ◌-◌, ◌/◌, ◌^◌, ℤ, pos, negsuc, ◌+ℤ◌, ◌-ℤ◌, min}
+use Rattle.std.specs.Prelude.{ℕ, ◌-◌, ◌/◌, ◌^◌, ℤ, pos, ◌+ℤ◌, ◌-ℤ◌}
 use Rattle.std.specs.Int.{int_shr}
-
--- a place at or below zero is taken as zero
-abbrev pub from_zero : ℤ → ℕ
-from_zero (pos y) = y
-from_zero (negsuc y) = 0
+use Rattle.spec_arithmetic.specs.Clipping.{clip3_from_zero}
 
 -- a luma line, clamped into a picture of this height
 abbrev pub line_in : ℕ → ℤ → ℕ
-line_in height y = min (from_zero y) (height - 1)
+line_in height y = clip3_from_zero (height - 1) y
 
 -- the row of coding tree blocks that has a luma line, clamped into a picture of this height
 abbrev pub row_of_line : ℕ → ℕ → ℤ → ℕ

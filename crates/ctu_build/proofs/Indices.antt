@@ -1,15 +1,15 @@
 -- Offsets that are far from 0.
 use Rattle.std.proofs.Common.{◌≡◌, ℕ, ◌≤◌, ℤ, pos, ◌+ℤ◌, ◌-ℤ◌, neg_ℤ, ◌==◌, false, ap, ◌∙◌, arith}
-use Rattle.std.specs.Int.{int_max, int_min}
 use Rattle.std.proofs.lemmas.Int.{clamps, ints}
+use Rattle.spec_arithmetic.specs.Clipping.{clip3}
 use Rattle.ctu_build.specs.Offsets.{near_offset}
 use Rattle.spec_reconstruction.specs.declared.format.UnitFormat.{UnitFormat}
 use Rattle.spec_reconstruction.specs.Parameters.{chroma_offset, chroma_parameter, depth_offset, offset_parameter}
 use Rattle.spec_reconstruction.specs.Parameters.{parameter_of}
 
 held_index : (qp luma chroma : ℕ) (offset : ℤ) → qp ≤ 255 → luma ≤ 36 → chroma ≤ 36
-    → int_max (neg_ℤ (pos chroma)) (int_min (pos qp -ℤ pos luma +ℤ near_offset offset) (pos 57))
-    ≡ int_max (neg_ℤ (pos chroma)) (int_min (pos qp -ℤ pos luma +ℤ offset) (pos 57))
+    → clip3 (neg_ℤ (pos chroma)) (pos 57) (pos qp -ℤ pos luma +ℤ near_offset offset)
+    ≡ clip3 (neg_ℤ (pos chroma)) (pos 57) (pos qp -ℤ pos luma +ℤ offset)
 unfolding near_offset
 held_index qp luma chroma offset hq hl hc = omega (arith, ints, clamps)
 

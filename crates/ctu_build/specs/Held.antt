@@ -1,10 +1,11 @@
 -- The samples that the cells of a unit have.
 use Rattle.std.specs.Prelude.{◌≡◌, ℕ, ◌+◌, ◌*◌, ◌^◌, ◌<◌, ◌≤◌, ◌&&◌, nat_lt, ◌==◌, Bool, false, ℤ, pos, ◌+ℤ◌, Option}
 use Rattle.std.specs.Prelude.{Some, None, List, slice_index_or, if◌then◌else◌}
+use Rattle.spec_arithmetic.specs.Clipping.{clip1}
 use Rattle.ctu_records.specs.declared.item.CodedBlock.{CodedBlock}
 use Rattle.ctu_records.specs.declared.item.Square.{Square}
 use Rattle.ctu_records.specs.Places.{inside}
-use Rattle.spec_reconstruction.specs.Known.{Known, clipped}
+use Rattle.spec_reconstruction.specs.Known.{Known}
 use Rattle.spec_slice_data.specs.Residual.{samples_of_place}
 use Rattle.ctu_build.specs.declared.extents.Extents.{Extents}
 use Rattle.ctu_build.specs.declared.place.Place.{Place}
@@ -42,7 +43,7 @@ pub record AreCells (values : List ℕ) (known : List Bool) (extents : Extents) 
 
 -- a sample and a residual, where the sample is known
 unfoldable pub added : ℕ → Bool → ℤ → ℕ → ℕ
-added depth known residual sample = if known then clipped depth (pos sample +ℤ residual) else sample
+added depth known residual sample = if known then clip1 depth (pos sample +ℤ residual) else sample
 
 -- samples in rows of a block
 abbrev pub block_of : ℕ → List ℕ → ℕ → ℕ → ℕ

@@ -1,7 +1,7 @@
 -- Offsets of quantization parameters.
 use Rattle.std.specs.Prelude.{ℤ, pos, negsuc}
-use Rattle.std.specs.Int.{int_max, int_min}
+use Rattle.spec_arithmetic.specs.Clipping.{clip3}
 
 -- an offset, or where it is so far from 0 that qPi is held anyway, one that is far enough
 unfoldable pub near_offset : ℤ → ℤ
-near_offset offset = int_max (negsuc 511) (int_min offset (pos 511))
+near_offset offset = clip3 (negsuc 511) (pos 511) offset

@@ -3,7 +3,7 @@
 ghost use Rattle.ctu_build.specs.Held.{added, cell, inside_of, IsInside};
 ghost use Rattle.std.specs.Prelude.{◌≡◌, ℕ, ◌+◌, ◌-◌, ◌*◌, ◌<◌, ◌≤◌, ◌^◌, ◌&&◌, pos, negsuc, ◌≤ℤ◌, cond, true, false};
 ghost use Rattle.std.specs.Prelude.{nat_le, nat_lt, length, slice_index_or};
-ghost use Rattle.spec_reconstruction.specs.Known.{clipped};
+ghost use Rattle.spec_arithmetic.specs.Clipping.{clip1};
 ghost use Rattle.std.specs.List.{All};
 ghost use Rattle.spec_transforms.specs.Matrices.{at};
 ghost use Rattle.spec_transforms.specs.Scaling.{IsDepth};
@@ -242,7 +242,7 @@ fn added(sample: u16, known: bool, residual: i32, depth: u32) -> u16
 /// Clip1.
 fn clipped(value: i32, depth: u32) -> u16
     requires depth { IsDepth depth }
-    ensures { result ≡ clipped depth value }
+    ensures { result ≡ clip1 depth value }
 {
     value.clamp(0, greatest_sample(depth)) as u16
 }

@@ -1,7 +1,7 @@
 //! How the lines of a place are filtered across an edge (8.7.2.5.3, 8.7.2.5.6).
 
 ghost use Rattle.std.specs.Prelude.{◌≡◌, ◌<◌, ◌≤◌, ◌+◌, ◌*◌, ◌/◌, ℕ};
-ghost use Rattle.spec_deblocking.specs.Decisions.{bend, bend_before, bend_behind, bends, is_flat, side_bound};
+ghost use Rattle.spec_deblocking.specs.Decisions.{bend, d_p, d_q, d_pq, d_sam, side_bound};
 ghost use Rattle.spec_deblocking.specs.Decisions.{luma_filter, edge_filter};
 ghost use Rattle.deblock.specs.Samples.{IsDepth, AreSmall};
 
@@ -22,7 +22,7 @@ fn bend(s2: u32, s1: u32, s0: u32) -> u32
 #[inline(always)]
 fn bend_before(line: &Line) -> u32
     requires { AreSmall 16383 line.now }
-    ensures value { result ≡ bend_before line.now }
+    ensures value { result ≡ d_p line.now }
     ensures few { result ≤ 32766 }
 {
     bend(line.p2, line.p1, line.p0)
@@ -32,7 +32,7 @@ fn bend_before(line: &Line) -> u32
 #[inline(always)]
 fn bend_behind(line: &Line) -> u32
     requires { AreSmall 16383 line.now }
-    ensures value { result ≡ bend_behind line.now }
+    ensures value { result ≡ d_q line.now }
     ensures few { result ≤ 32766 }
 {
     bend(line.q2, line.q1, line.q0)
@@ -42,7 +42,7 @@ fn bend_behind(line: &Line) -> u32
 #[inline(always)]
 fn bends(line: &Line) -> u32
     requires { AreSmall 16383 line.now }
-    ensures value { result ≡ bends line.now }
+    ensures value { result ≡ d_pq line.now }
     ensures few { result ≤ 65532 }
 {
     bend_before(line) + bend_behind(line)
@@ -50,11 +50,11 @@ fn bends(line: &Line) -> u32
 
 /// dSam.
 #[inline(always)]
-#[tactic(auto, unfolding(spec_deblocking::specs::Decisions::is_flat))]
+#[tactic(auto, unfolding(spec_deblocking::specs::Decisions::d_sam))]
 fn is_flat(beta: u32, tc: u32, line: &Line) -> bool
     requires line { AreSmall 16383 line.now }
     requires tc { tc ≤ 16320 }
-    ensures { result ≡ is_flat beta tc line.now }
+    ensures { result ≡ d_sam beta tc line.now }
 {
     2 * bends(line) < beta / 4
         && line.p3.abs_diff(line.p0) + line.q0.abs_diff(line.q3) < beta / 8

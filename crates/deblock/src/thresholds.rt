@@ -2,7 +2,8 @@
 
 ghost use Rattle.std.specs.Prelude.{◌≡◌, ◌<◌, ◌≤◌, ◌+◌, ◌*◌, ◌-◌, ◌^◌, ℕ, ℤ, pos, negsuc, ◌+ℤ◌, ◌-ℤ◌, ◌*ℤ◌, ◌≤ℤ◌};
 ghost use Rattle.spec_slice_data.specs.Quantization.{chroma_qp_of_index};
-ghost use Rattle.spec_deblocking.specs.Thresholds.{clipped, mean_qp, chroma_qp, edge_qp, beta_index, tc_index, beta};
+ghost use Rattle.spec_arithmetic.specs.Clipping.{clip3_from_zero};
+ghost use Rattle.spec_deblocking.specs.Thresholds.{mean_qp, chroma_qp, edge_qp, beta_index, tc_index, beta};
 ghost use Rattle.spec_deblocking.specs.Thresholds.{tc};
 ghost use Rattle.std.specs.Int.{int_shr};
 ghost use Rattle.deblock.specs.Samples.{IsDepth, IsFew};
@@ -13,7 +14,7 @@ use spec_deblocking::{BETA, Place, Plane, TC};
 #[inline(always)]
 pub fn clipped(greatest: u32, number: i32) -> u32
     requires { greatest ≤ 65535 }
-    ensures value { result ≡ clipped greatest number }
+    ensures value { result ≡ clip3_from_zero greatest number }
     ensures few { result ≤ greatest }
 {
     number.clamp(0, greatest as i32) as u32

@@ -2,8 +2,9 @@
 
 ghost use Rattle.std.specs.Prelude.{◌≡◌, ◌≤◌, ◌+◌, ◌-◌, ◌*◌, ◌^◌, ℤ, pos, negsuc, ◌+ℤ◌, ◌-ℤ◌, ◌*ℤ◌, ◌≤ℤ◌};
 ghost use Rattle.std.specs.Int.{int_shr};
+ghost use Rattle.spec_arithmetic.specs.Clipping.{clip1};
 ghost use Rattle.spec_inter_prediction.specs.Taps.{IsDepth};
-ghost use Rattle.spec_inter_prediction.specs.Weighting.{clip1, rounded, scaled_offset, default_one, default_two};
+ghost use Rattle.spec_inter_prediction.specs.Weighting.{rounded_if_shifted, scaled_offset, default_one, default_two};
 ghost use Rattle.spec_inter_prediction.specs.Weighting.{explicit_one, explicit_two, IsWeight};
 ghost use Rattle.inter_pred.specs.Passes.{value_of, IsSmall};
 
@@ -24,7 +25,7 @@ fn power(shift: u32) -> i32
 #[inline(always)]
 fn greatest(depth: u32) -> i32
     requires { IsDepth depth }
-    ensures value { result ≡ pos (2 ^ depth) -ℤ pos 1 }
+    ensures value { result ≡ pos (2 ^ depth - 1) }
     ensures low { pos 0 ≤ℤ result }
     ensures high { result ≤ℤ pos 16383 }
 {
@@ -55,12 +56,12 @@ fn shifted(v: i32, shift: u32) -> i32
 
 /// A number in units of 2^`shift`, to the nearest.
 #[inline(always)]
-#[tactic(auto, unfolding(spec_inter_prediction::specs::Weighting::rounded))]
+#[tactic(auto, unfolding(spec_inter_prediction::specs::Weighting::rounded_if_shifted))]
 fn rounded(v: i32, shift: u32) -> i32
     requires low { negsuc 134217727 ≤ℤ v }
     requires high { v ≤ℤ pos 134217727 }
     requires shift { shift ≤ 14 }
-    ensures value { result ≡ rounded shift v }
+    ensures value { result ≡ rounded_if_shifted shift v }
     ensures least { negsuc 536870911 ≤ℤ result }
     ensures greatest { result ≤ℤ pos 536870911 }
 {

@@ -2,8 +2,9 @@
 
 ghost use Rattle.std.specs.Prelude.{◌≡◌, ◌≤◌, ◌<◌, ◌+◌, ◌-◌, ◌*◌, ◌^◌, ◌/◌, ℕ, true, length, cond, nat_le, nat_lt};
 ghost use Rattle.std.specs.Prelude.{◌&&◌};
+ghost use Rattle.spec_arithmetic.specs.Sums.{sum_below};
 ghost use Rattle.spec_intra_prediction.specs.Neighbours.{at, left_at, above_at};
-ghost use Rattle.spec_intra_prediction.specs.PlanarDc.{planar, dc, levelled, mean_beside, sum_below};
+ghost use Rattle.spec_intra_prediction.specs.PlanarDc.{planar, dc, levelled, mean_beside};
 
 use crate::rows::{columns, lay};
 

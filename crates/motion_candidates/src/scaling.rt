@@ -1,9 +1,10 @@
 //! The scaling of vectors by distances in order counts (8.5.3.2.7).
 
 ghost use Rattle.std.specs.Prelude.{◌≡◌, ◌≤◌, ◌/◌, ◌+◌, ◌≢◌, false, pos, negsuc, ◌+ℤ◌, ◌-ℤ◌, ◌*ℤ◌, ◌≤ℤ◌};
-ghost use Rattle.std.specs.Int.{int_shr};
-ghost use Rattle.spec_motion.specs.Scaling.{clip3, distance, inverse, is_kept, scale_factor, scaled, scaled_component};
-ghost use Rattle.spec_motion.specs.Scaling.{shortened, stretched};
+ghost use Rattle.spec_arithmetic.specs.Clipping.{clip3};
+ghost use Rattle.spec_arithmetic.specs.Rounding.{rounded};
+ghost use Rattle.spec_motion.specs.Scaling.{dist_scale_factor, distance, is_kept, scaled, scaled_component};
+ghost use Rattle.spec_motion.specs.Scaling.{shortened, stretched, tx};
 
 use ctu_records::Mv;
 
@@ -37,11 +38,11 @@ fn is_kept(spanned: i64, wanted: i64) -> bool
 /// The factor from one difference of order counts to another one.
 fn factor_of(spanned: i64, wanted: i64) -> i32
     requires { spanned ≢ pos 0 }
-    ensures value { result ≡ scale_factor (distance spanned) (distance wanted) }
+    ensures value { result ≡ dist_scale_factor (distance spanned) (distance wanted) }
     ensures low { negsuc 4095 ≤ℤ result }
     ensures high { result ≤ℤ pos 4095 }
 {
-    scale_factor(distance(spanned), distance(wanted))
+    dist_scale_factor(distance(spanned), distance(wanted))
 }
 
 /// A vector, times a factor.
@@ -67,27 +68,27 @@ fn distance(difference: i64) -> i32
 }
 
 /// distScaleFactor.
-#[tactic(auto, unfolding(spec_motion::specs::Scaling::scale_factor))]
-fn scale_factor(td: i32, tb: i32) -> i32
+#[tactic(auto, unfolding(spec_motion::specs::Scaling::dist_scale_factor))]
+fn dist_scale_factor(td: i32, tb: i32) -> i32
     requires td_low { negsuc 127 ≤ℤ td }
     requires td_high { td ≤ℤ pos 127 }
     requires some { td ≢ pos 0 }
     requires tb_low { negsuc 127 ≤ℤ tb }
     requires tb_high { tb ≤ℤ pos 127 }
-    ensures value { result ≡ scale_factor td tb }
+    ensures value { result ≡ dist_scale_factor td tb }
     ensures low { negsuc 4095 ≤ℤ result }
     ensures high { result ≤ℤ pos 4095 }
 {
-    held_factor(weighted(tb, inverse(td)))
+    held_factor(weighted(tb, tx(td)))
 }
 
 /// tx of a td.
-#[tactic(auto, unfolding(spec_motion::specs::Scaling::inverse))]
-fn inverse(td: i32) -> i32
+#[tactic(auto, unfolding(spec_motion::specs::Scaling::tx))]
+fn tx(td: i32) -> i32
     requires low { negsuc 127 ≤ℤ td }
     requires high { td ≤ℤ pos 127 }
     requires some { td ≢ pos 0 }
-    ensures value { result ≡ inverse td }
+    ensures value { result ≡ tx td }
     ensures least { negsuc 16447 ≤ℤ result }
     ensures greatest { result ≤ℤ pos 16448 }
 {
@@ -122,7 +123,7 @@ fn weighted(tb: i32, tx: i32) -> i32
 fn held_factor(product: i32) -> i32
     requires low { negsuc 2105343 ≤ℤ product }
     requires high { product ≤ℤ pos 2105344 }
-    ensures value { result ≡ clip3 (negsuc 4095) (pos 4095) (int_shr (product +ℤ pos 32) 6) }
+    ensures value { result ≡ clip3 (negsuc 4095) (pos 4095) (rounded 6 product) }
     ensures least { negsuc 4095 ≤ℤ result }
     ensures greatest { result ≤ℤ pos 4095 }
 {

@@ -3,7 +3,7 @@
 ghost use Rattle.std.specs.Prelude.{◌≡◌, take};
 ghost use Rattle.std.specs.List.{list_all};
 ghost use Rattle.spec_motion.specs.Derivation.{IsBlock};
-ghost use Rattle.spec_motion.specs.Temporal.{bottom_right, brought, centre, collocated_mv, column_vector};
+ghost use Rattle.spec_motion.specs.Temporal.{bottom_right, brought, centre, mv_lx_col, mv_col};
 ghost use Rattle.spec_motion.specs.Temporal.{is_none_later, is_not_later, takes_first, temporal_mv};
 ghost use Rattle.spec_motion.specs.Vectors.{or_else};
 
@@ -28,9 +28,9 @@ pub(crate) fn temporal_mv<V: MotionView>(
 {
     if slice.temporal {
         let target = reference_in(slice, list, ref_idx);
-        match collocated_mv(slice, list, target, bottom_right(view, slice, block)) {
+        match mv_lx_col(slice, list, target, bottom_right(view, slice, block)) {
             Some(mv) => Some(mv),
-            None => collocated_mv(slice, list, target, centre(view, block)),
+            None => mv_lx_col(slice, list, target, centre(view, block)),
         }
     } else {
         None
@@ -68,16 +68,16 @@ fn centre<V: MotionView>(view: &V, block: Rectangle) -> Option<Collocated>
 }
 
 /// The predictor of a block of the collocated picture.
-fn collocated_mv(
+fn mv_lx_col(
     slice: &SliceMotion,
     list: u8,
     target: Reference,
     block: Option<Collocated>,
 ) -> Option<Mv>
-    ensures { result ≡ collocated_mv slice.now list target block }
+    ensures { result ≡ mv_lx_col slice.now list target block }
 {
     match block {
-        Some(block) => match column_vector(slice, list, block.list_0, block.list_1) {
+        Some(block) => match mv_col(slice, list, block.list_0, block.list_1) {
             Some(vector) => brought(slice, target, vector),
             None => None,
         },
@@ -86,13 +86,13 @@ fn collocated_mv(
 }
 
 /// Which vector of the collocated picture is taken.
-fn column_vector(
+fn mv_col(
     slice: &SliceMotion,
     list: u8,
     first: Option<CollocatedVector>,
     second: Option<CollocatedVector>,
 ) -> Option<CollocatedVector>
-    ensures { result ≡ column_vector slice.now list first second }
+    ensures { result ≡ mv_col slice.now list first second }
 {
     match (first, second) {
         (Some(first), Some(second)) => {

@@ -13,10 +13,12 @@ use Rattle.std.proofs.lemmas.Bool.Decides.{Decides-int_eq}
 use mir.Val.{to_z, of_z, SFits}
 use mir.Syntax.{w32}
 use Rattle.std.proofs.Math.Nat.{mul-le-mul, mul-le-mul_right, pow-le-pow_right, div-le_of_le-mul}
+use Rattle.spec_arithmetic.specs.Rounding.{rounded}
+use Rattle.spec_arithmetic.specs.Sums.{int_sum_below}
 use Rattle.spec_transforms.specs.declared.level_scale.TheConstants.{LEVEL_SCALE}
 use Rattle.spec_transforms.specs.Matrices.{at, matrix_in}
-use Rattle.spec_transforms.specs.Scaling.{Is16, clip16, rounded}
-use Rattle.spec_transforms.specs.Transforms.{sum_below, IsResidual}
+use Rattle.spec_transforms.specs.Scaling.{Is16, clip16}
+use Rattle.spec_transforms.specs.Transforms.{IsResidual}
 use Rattle.spec_transforms.proofs.Entries.{tested}
 use Rattle.spec_transforms.proofs.Sums.{IsWithin, sum_within}
 use Rattle.residual_transform.specs.Sums.{IsEntry, IsHalfSum, IsMatrix, IsPartialSum, IsSum}
@@ -46,7 +48,7 @@ product_is a b entry small =
 pub column_within : (entries values : List ℤ) (stride size n j column : ℕ) → IsMatrix entries stride size →
     All Is16 values → size * size ≤ length values →
     n ≤ size → j < size → column < size
-    → IsWithin (2949120 * n) (sum_below n (λ k. matrix_in entries stride k j *ℤ at values (size * k + column)))
+    → IsWithin (2949120 * n) (int_sum_below n (λ k. matrix_in entries stride k j *ℤ at values (size * k + column)))
 column_within entries values stride size n j column matrix small long few inside beside =
     sum_within 2949120 n _ (λ k below.
     let k_in : k < size = omega arith in
@@ -67,7 +69,7 @@ pub half_within : (entries values : List ℤ) (stride size half first n j column
     All Is16 values → size * size ≤ length values →
     2 * half ≡ size → first < 2 → n ≤ half → j < half → column < size
     → IsWithin (2949120 * n)
-    (sum_below n (λ k. matrix_in entries stride (2 * k + first) j *ℤ at values (size * (2 * k + first) + column)))
+    (int_sum_below n (λ k. matrix_in entries stride (2 * k + first) j *ℤ at values (size * (2 * k + first) + column)))
 half_within entries values stride size half first n j column matrix small long halves one few inside beside =
     sum_within 2949120 n _ (λ k below.
     let k_in : 2 * k + first < size = omega arith in

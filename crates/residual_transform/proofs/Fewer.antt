@@ -6,25 +6,27 @@ use Rattle.std.proofs.lemmas.Nat.{rows}
 use Rattle.std.proofs.lemmas.Bool.{cases_lt}
 use Rattle.std.proofs.Math.Nat.{mul-le-mul_left}
 use Rattle.std.proofs.Math.IntN.{*ℤ-zero}
+use Rattle.spec_arithmetic.specs.Rounding.{rounded}
+use Rattle.spec_arithmetic.specs.Sums.{int_sum_below}
 use Rattle.spec_transforms.specs.Matrices.{Matrix, at}
-use Rattle.spec_transforms.specs.Scaling.{clip16, rounded}
-use Rattle.spec_transforms.specs.Transforms.{block_in, sum_below, first_stage, second_stage}
+use Rattle.spec_transforms.specs.Scaling.{clip16}
+use Rattle.spec_transforms.specs.Transforms.{block_in, first_stage, second_stage}
 use Rattle.spec_transforms.proofs.Sums.{sum_same}
 
-zeros : (n : ℕ) (f : ℕ → ℤ) → ((k : ℕ) → k < n → f k ≡ pos 0) → sum_below n f ≡ pos 0
+zeros : (n : ℕ) (f : ℕ → ℤ) → ((k : ℕ) → k < n → f k ≡ pos 0) → int_sum_below n f ≡ pos 0
 zeros zero f none = refl
 zeros (suc n) f none =
-    let below : sum_below n f ≡ pos 0 = zeros n f (λ k h. none k (omega arith)) in
+    let below : int_sum_below n f ≡ pos 0 = zeros n f (λ k h. none k (omega arith)) in
     let last : f n ≡ pos 0 = none n (omega arith) in
     rw (below, last) refl
 
 -- the terms from n on add nothing
 fewer : (n size : ℕ) (f : ℕ → ℤ) → n ≤ size → ((k : ℕ) → n ≤ k → k < size → f k ≡ pos 0)
-    → sum_below size f ≡ sum_below n f
+    → int_sum_below size f ≡ int_sum_below n f
 fewer n zero f few none = let e : n ≡ 0 = omega (arith, few) in rw e refl
 fewer n (suc size) f few none = ⊎_elim
     (λ less.
-    let below : sum_below size f ≡ sum_below n f =
+    let below : int_sum_below size f ≡ int_sum_below n f =
     fewer n size f (omega (arith, less)) (λ k low h. none k low (omega arith)) in
     let last : f size ≡ pos 0 = none size (omega (arith, less)) (omega arith) in
     omega (arith, ints, below, last))
@@ -35,7 +37,7 @@ fewer n (suc size) f few none = ⊎_elim
 first_fewer : (matrix : Matrix) (size rows : ℕ) (d : List ℤ) (x y : ℕ) → rows ≤ size
     → ((i : ℕ) → size * rows ≤ i → at d i ≡ pos 0)
     → first_stage matrix size (block_in size d) x y
-    ≡ clip16 (rounded 7 (sum_below rows (λ k. matrix k y *ℤ at d (size * k + x))))
+    ≡ clip16 (rounded 7 (int_sum_below rows (λ k. matrix k y *ℤ at d (size * k + x))))
 unfolding first_stage
 first_fewer matrix size rows d x y few empty =
     ap (λ (z : ℤ). clip16 (rounded 7 z)) (fewer rows size _ few (λ k low h.
@@ -46,7 +48,7 @@ first_fewer matrix size rows d x y few empty =
 -- a column of the first stage that has no coefficient
 first_zero : (matrix : Matrix) (size rows : ℕ) (d : List ℤ) (x y : ℕ)
     → ((k : ℕ) → k < rows → at d (size * k + x) ≡ pos 0)
-    → clip16 (rounded 7 (sum_below rows (λ k. matrix k y *ℤ at d (size * k + x)))) ≡ pos 0
+    → clip16 (rounded 7 (int_sum_below rows (λ k. matrix k y *ℤ at d (size * k + x)))) ≡ pos 0
 first_zero matrix size rows d x y empty =
     ap (λ (z : ℤ). clip16 (rounded 7 z)) (zeros rows _ (λ k h. rw (empty k h) (*ℤ-zero (matrix k y))))
 
@@ -56,8 +58,8 @@ pub both_fewer : (matrix : Matrix) (size rows columns : ℕ) (d g : List ℤ) (x
     → ((i : ℕ) → size * rows ≤ i → at d i ≡ pos 0)
     → ((x y : ℕ) → columns ≤ x → x < size → y < rows → at d (size * y + x) ≡ pos 0)
     → ((x y : ℕ) → x < columns → y < size
-    → block_in size g y x ≡ clip16 (rounded 7 (sum_below rows (λ k. matrix k y *ℤ at d (size * k + x)))))
-    → sum_below columns (λ k. matrix k x *ℤ block_in size g y k)
+    → block_in size g y x ≡ clip16 (rounded 7 (int_sum_below rows (λ k. matrix k y *ℤ at d (size * k + x)))))
+    → int_sum_below columns (λ k. matrix k x *ℤ block_in size g y k)
     ≡ second_stage matrix size (first_stage matrix size (block_in size d)) x y
 unfolding second_stage
 both_fewer matrix size rows columns d g x y few_rows few_columns below empty beside stored =

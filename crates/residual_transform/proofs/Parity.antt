@@ -3,47 +3,47 @@ use Rattle.std.proofs.Common.{◌≡◌, ℕ, zero, suc, ◌+◌, ◌-◌, ◌*�
 use Rattle.std.proofs.Common.{List, refl, ap, ◌∙◌, subst, ⊎_elim, arith}
 use Rattle.std.proofs.lemmas.Int.{ints}
 use Rattle.std.proofs.lemmas.Bool.{cases_lt}
+use Rattle.spec_arithmetic.specs.Sums.{int_sum_below}
 use Rattle.spec_transforms.specs.Matrices.{at, matrix_in}
-use Rattle.spec_transforms.specs.Transforms.{sum_below}
 use Rattle.spec_transforms.proofs.Sums.{sum_same}
 use Rattle.residual_transform.specs.Sums.{IsMatrix}
 
 -- the terms below an even number
 pairs : (h : ℕ) (f : ℕ → ℤ)
-    → sum_below (2 * h) f ≡ sum_below h (λ k. f (2 * k + 0)) +ℤ sum_below h (λ k. f (2 * k + 1))
+    → int_sum_below (2 * h) f ≡ int_sum_below h (λ k. f (2 * k + 0)) +ℤ int_sum_below h (λ k. f (2 * k + 1))
 pairs zero f = refl
 pairs (suc h) f =
-    let below : sum_below (2 * h) f ≡ sum_below h (λ k. f (2 * k + 0)) +ℤ sum_below h (λ k. f (2 * k + 1)) = pairs h f in
+    let below : int_sum_below (2 * h) f ≡ int_sum_below h (λ k. f (2 * k + 0)) +ℤ int_sum_below h (λ k. f (2 * k + 1)) = pairs h f in
     let e : 2 * suc h ≡ suc (suc (2 * h)) = omega arith in
     let z : 2 * h + 0 ≡ 2 * h = omega arith in
     let o : 2 * h + 1 ≡ suc (2 * h) = omega arith in
     rw (e, z, o) (omega (arith, ints, below))
 
-even_count : (n : ℕ) (f : ℕ → ℤ) → n % 2 < 1 → sum_below n f
-    ≡ sum_below ((n + 1) / 2) (λ k. f (2 * k + 0)) +ℤ sum_below (n / 2) (λ k. f (2 * k + 1))
+even_count : (n : ℕ) (f : ℕ → ℤ) → n % 2 < 1 → int_sum_below n f
+    ≡ int_sum_below ((n + 1) / 2) (λ k. f (2 * k + 0)) +ℤ int_sum_below (n / 2) (λ k. f (2 * k + 1))
 even_count n f even =
     let e : n ≡ 2 * (n / 2) = omega (arith, even) in
     let h : (n + 1) / 2 ≡ n / 2 = omega (arith, even) in
-    rw h (ap (λ (m : ℕ). sum_below m f) e ∙ pairs (n / 2) f)
+    rw h (ap (λ (m : ℕ). int_sum_below m f) e ∙ pairs (n / 2) f)
 
-odd_count : (n : ℕ) (f : ℕ → ℤ) → 1 ≤ n % 2 → sum_below n f
-    ≡ sum_below ((n + 1) / 2) (λ k. f (2 * k + 0)) +ℤ sum_below (n / 2) (λ k. f (2 * k + 1))
+odd_count : (n : ℕ) (f : ℕ → ℤ) → 1 ≤ n % 2 → int_sum_below n f
+    ≡ int_sum_below ((n + 1) / 2) (λ k. f (2 * k + 0)) +ℤ int_sum_below (n / 2) (λ k. f (2 * k + 1))
 odd_count n f odd =
     let e : n ≡ suc (2 * (n / 2)) = omega (arith, odd) in
     let h : (n + 1) / 2 ≡ suc (n / 2) = omega (arith, odd) in
     let z : 2 * (n / 2) + 0 ≡ 2 * (n / 2) = omega arith in
     let below = pairs (n / 2) f in
-    let all : sum_below n f ≡ sum_below (2 * (n / 2)) f +ℤ f (2 * (n / 2)) = ap (λ (m : ℕ). sum_below m f) e in
+    let all : int_sum_below n f ≡ int_sum_below (2 * (n / 2)) f +ℤ f (2 * (n / 2)) = ap (λ (m : ℕ). int_sum_below m f) e in
     rw (h, z) (omega (arith, ints, below, all))
 
-by_parity : (n : ℕ) (f : ℕ → ℤ) → sum_below n f
-    ≡ sum_below ((n + 1) / 2) (λ k. f (2 * k + 0)) +ℤ sum_below (n / 2) (λ k. f (2 * k + 1))
+by_parity : (n : ℕ) (f : ℕ → ℤ) → int_sum_below n f
+    ≡ int_sum_below ((n + 1) / 2) (λ k. f (2 * k + 0)) +ℤ int_sum_below (n / 2) (λ k. f (2 * k + 1))
 by_parity n f = ⊎_elim (even_count n f) (odd_count n f) (cases_lt (n % 2) 1)
 
-opposite : (n : ℕ) (f g : ℕ → ℤ) → ((k : ℕ) → k < n → f k ≡ neg_ℤ (g k)) → sum_below n f ≡ neg_ℤ (sum_below n g)
+opposite : (n : ℕ) (f g : ℕ → ℤ) → ((k : ℕ) → k < n → f k ≡ neg_ℤ (g k)) → int_sum_below n f ≡ neg_ℤ (int_sum_below n g)
 opposite zero f g each = refl
 opposite (suc n) f g each =
-    let below : sum_below n f ≡ neg_ℤ (sum_below n g) = opposite n f g (λ k l. each k (omega arith)) in
+    let below : int_sum_below n f ≡ neg_ℤ (int_sum_below n g) = opposite n f g (λ k l. each k (omega arith)) in
     let last : f n ≡ neg_ℤ (g n) = each n (omega arith) in
     omega (arith, ints, below, last)
 
@@ -53,11 +53,11 @@ neg_mul a b = grind (arith, ints)
 -- what the transform of a column adds up at a place, and what the even or the odd rows of the matrix do
 abbrev pub all_rows : (entries values : List ℤ) (stride size column n j : ℕ) → ℤ
 all_rows entries values stride size column n j =
-    sum_below n (λ k. matrix_in entries stride k j *ℤ at values (size * k + column))
+    int_sum_below n (λ k. matrix_in entries stride k j *ℤ at values (size * k + column))
 
 abbrev pub every_other_row : (entries values : List ℤ) (stride size column first n j : ℕ) → ℤ
 every_other_row entries values stride size column first n j =
-    sum_below n (λ k. matrix_in entries stride (2 * k + first) j *ℤ at values (size * (2 * k + first) + column))
+    int_sum_below n (λ k. matrix_in entries stride (2 * k + first) j *ℤ at values (size * (2 * k + first) + column))
 
 -- from the back, the odd terms are opposite
 from_back : (entries values : List ℤ) (stride size column n j : ℕ) → IsMatrix entries stride size → 4 < size

@@ -1,8 +1,9 @@
 -- Bounds of what a stage of a transform adds up, and a level scaled by what its block has in common.
 use Rattle.std.specs.Prelude.{◌≡◌, ℕ, ◌+◌, ◌-◌, ◌*◌, ◌<◌, ◌≤◌, ℤ, pos, negsuc, neg_ℤ, ◌*ℤ◌, ◌≤ℤ◌, List, length}
 use Rattle.std.specs.List.{All}
+use Rattle.spec_arithmetic.specs.Rounding.{rounded}
 use Rattle.spec_transforms.specs.Matrices.{matrix_in}
-use Rattle.spec_transforms.specs.Scaling.{clip16, rounded}
+use Rattle.spec_transforms.specs.Scaling.{clip16}
 
 abbrev pub IsEntry : ℤ → Type 0
 IsEntry v = (negsuc 89 ≤ℤ v) × (v ≤ℤ pos 90)

@@ -2,9 +2,9 @@
 
 ghost use Rattle.std.specs.Prelude.{◌≡◌, ℕ, ◌+◌, ◌-◌, ◌*◌, ◌<◌, ◌≤◌, ◌+ℤ◌, ◌-ℤ◌, ◌*ℤ◌, length};
 ghost use Rattle.std.specs.List.{All};
+ghost use Rattle.spec_arithmetic.specs.Sums.{int_sum_below};
 ghost use Rattle.spec_transforms.specs.Matrices.{at, matrix_in};
 ghost use Rattle.spec_transforms.specs.Scaling.{Is16};
-ghost use Rattle.spec_transforms.specs.Transforms.{sum_below};
 ghost use Rattle.residual_transform.specs.Sums.{IsHalfSum, IsMatrix, IsSum};
 
 use crate::matrix::{Matrix, row};
@@ -26,7 +26,7 @@ pub fn column_halves<const SIZE: usize, const HALF: usize>(
     requires count { count ≤ SIZE }
     requires room { SIZE * SIZE ≤ length values.now }
     requires values { All Is16 values.now }
-    ensures value { (j : ℕ) → j < SIZE → at result j ≡ sum_below count
+    ensures value { (j : ℕ) → j < SIZE → at result j ≡ int_sum_below count
         (λ k. matrix_in matrix.now.entries.now matrix.now.stride k j *ℤ at values.now (SIZE * k + column)) }
     ensures small { (j : ℕ) → j < SIZE → IsSum (at result j) }
 {
@@ -52,7 +52,7 @@ fn half_sums<const SIZE: usize, const HALF: usize>(
     requires count { count ≤ HALF }
     requires room { SIZE * SIZE ≤ length values.now }
     requires values { All Is16 values.now }
-    ensures value { (j : ℕ) → j < HALF → at result j ≡ sum_below count
+    ensures value { (j : ℕ) → j < HALF → at result j ≡ int_sum_below count
         (λ k. matrix_in matrix.now.entries.now matrix.now.stride (2 * k + first) j
         *ℤ at values.now (SIZE * (2 * k + first) + column)) }
     ensures small { (j : ℕ) → j < HALF → IsHalfSum (at result j) }

@@ -3,9 +3,11 @@
 ghost use Rattle.std.specs.Prelude.{◌≡◌, ℕ, ◌+◌, ◌-◌, ◌*◌, ◌^◌, ◌<◌, ◌≤◌, pos, negsuc, ◌+ℤ◌, ◌*ℤ◌, ◌≤ℤ◌, length};
 ghost use Rattle.std.specs.Int.{int_shr};
 ghost use Rattle.std.specs.List.{All};
+ghost use Rattle.spec_arithmetic.specs.Rounding.{rounded};
+ghost use Rattle.spec_arithmetic.specs.Sums.{int_sum_below};
 ghost use Rattle.spec_transforms.specs.Matrices.{at, matrix_in};
-ghost use Rattle.spec_transforms.specs.Scaling.{Is16, IsDepth, clip16, rounded};
-ghost use Rattle.spec_transforms.specs.Transforms.{IsResidual, residual_of, sum_below};
+ghost use Rattle.spec_transforms.specs.Scaling.{Is16, IsDepth, clip16};
+ghost use Rattle.spec_transforms.specs.Transforms.{IsResidual, residual_of};
 ghost use Rattle.residual_transform.specs.Sums.{IsEntry, IsMatrix, IsPartialSum, IsSum};
 
 use crate::matrix::{Matrix, row};
@@ -24,7 +26,7 @@ pub fn column_sums<const SIZE: usize>(
     requires count { count ≤ SIZE }
     requires room { SIZE * SIZE ≤ length values.now }
     requires values { All Is16 values.now }
-    ensures value { (j : ℕ) → j < SIZE → at result j ≡ sum_below count
+    ensures value { (j : ℕ) → j < SIZE → at result j ≡ int_sum_below count
         (λ k. matrix_in matrix.now.entries.now matrix.now.stride k j *ℤ at values.now (SIZE * k + column)) }
     ensures small { (j : ℕ) → j < SIZE → IsSum (at result j) }
 {

@@ -3,8 +3,9 @@
 ghost use Rattle.std.specs.Prelude.{◌≡◌, ℕ, ◌+◌, ◌-◌, ◌*◌, ◌^◌, ◌<◌, ◌≤◌, pos, negsuc, ◌+ℤ◌, ◌*ℤ◌, ◌≤ℤ◌, length};
 ghost use Rattle.std.specs.Prelude.{slice_index};
 ghost use Rattle.std.specs.List.{All};
+ghost use Rattle.spec_arithmetic.specs.Rounding.{rounded};
 ghost use Rattle.spec_transforms.specs.Matrices.{at};
-ghost use Rattle.spec_transforms.specs.Scaling.{Is16, IsDepth, IsParameter, IsSize, clip16, quantizer, rounded, scaled};
+ghost use Rattle.spec_transforms.specs.Scaling.{Is16, IsDepth, IsParameter, IsSize, clip16, quantizer, scaled};
 ghost use Rattle.residual_transform.specs.Sums.{scaled_by};
 
 use crate::filled::is_zero;

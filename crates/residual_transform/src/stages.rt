@@ -2,10 +2,12 @@
 
 ghost use Rattle.std.specs.Prelude.{◌≡◌, ℕ, ◌+◌, ◌*◌, ◌^◌, ◌<◌, ◌≤◌, ◌*ℤ◌, Bool, true, length};
 ghost use Rattle.std.specs.List.{All};
+ghost use Rattle.spec_arithmetic.specs.Rounding.{rounded};
+ghost use Rattle.spec_arithmetic.specs.Sums.{int_sum_below};
 ghost use Rattle.spec_transforms.specs.Matrices.{at, matrix_in};
-ghost use Rattle.spec_transforms.specs.Scaling.{Is16, IsDepth, IsSize, clip16, rounded};
+ghost use Rattle.spec_transforms.specs.Scaling.{Is16, IsDepth, IsSize, clip16};
 ghost use Rattle.spec_transforms.specs.Transforms.{IsResidual, block_in, first_stage, residual_of, second_stage};
-ghost use Rattle.spec_transforms.specs.Transforms.{sum_below, transformed};
+ghost use Rattle.spec_transforms.specs.Transforms.{transformed};
 ghost use Rattle.residual_transform.specs.Sums.{IsMatrix, IsSum};
 
 use crate::filled::{filled_columns, filled_rows};
@@ -89,7 +91,7 @@ fn transform_columns<const SIZE: usize, const HALF: usize, const AREA: usize>(
     requires columns { filled.columns ≤ SIZE }
     requires out { All Is16 out.old }
     ensures value { (x y : ℕ) → x < filled.columns → y < SIZE → block_in SIZE out.new y x
-        ≡ clip16 (rounded 7 (sum_below filled.rows
+        ≡ clip16 (rounded 7 (int_sum_below filled.rows
         (λ k. matrix_in matrix.now.entries.now matrix.now.stride k y *ℤ at d.now (SIZE * k + x)))) }
     ensures small { All Is16 out.new }
 {
@@ -116,7 +118,7 @@ fn transform_rows<const SIZE: usize, const HALF: usize, const AREA: usize>(
     requires columns { columns ≤ SIZE }
     requires room { length out.old ≡ SIZE * SIZE }
     ensures value { (x y : ℕ) → x < SIZE → y < SIZE → block_in SIZE out.new x y
-        ≡ residual_of depth (sum_below columns
+        ≡ residual_of depth (int_sum_below columns
         (λ k. matrix_in matrix.now.entries.now matrix.now.stride k x *ℤ block_in SIZE g.now y k)) }
     ensures small { All IsResidual out.new }
 {
@@ -140,7 +142,7 @@ fn sums_of<const SIZE: usize, const HALF: usize>(
     requires count { count ≤ SIZE }
     requires room { SIZE * SIZE ≤ length values.now }
     requires values { All Is16 values.now }
-    ensures value { (j : ℕ) → j < SIZE → at result j ≡ sum_below count
+    ensures value { (j : ℕ) → j < SIZE → at result j ≡ int_sum_below count
         (λ k. matrix_in matrix.now.entries.now matrix.now.stride k j *ℤ at values.now (SIZE * k + column)) }
     ensures small { (j : ℕ) → j < SIZE → IsSum (at result j) }
 {

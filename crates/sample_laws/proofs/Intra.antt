@@ -8,12 +8,13 @@ use Rattle.std.proofs.lemmas.Bool.{leb-true, leb-false}
 use Rattle.std.proofs.lemmas.List.{get_or-drop}
 use Rattle.std.proofs.lemmas.List.Elements.{All-nil, All-cons, All-head, All-tail, All-map}
 use Rattle.std.proofs.lemmas.Nat.{pow_pos}
+use Rattle.spec_arithmetic.specs.Sums.{sum_below}
 use Rattle.spec_bits.proofs.Numbers.{two_pow-succ}
 use Rattle.spec_intra_prediction.specs.Neighbours.{at, left_at, above_at, left_side, above_side, known_beside, beside}
 use Rattle.spec_intra_prediction.specs.Substitution.{first_available, sample_or, following, substituted}
 use Rattle.spec_intra_prediction.specs.Smoothing.{is_filtered, is_strong, smoothed_at, smoothed, straight_at}
 use Rattle.spec_intra_prediction.specs.Smoothing.{straightened, filtered}
-use Rattle.spec_intra_prediction.specs.PlanarDc.{planar, mean_beside, levelled, dc, sum_below}
+use Rattle.spec_intra_prediction.specs.PlanarDc.{planar, mean_beside, levelled, dc}
 use Rattle.spec_intra_prediction.specs.Angular.{angle, inverse_angle, reference, met, between, met_sample, stepped}
 use Rattle.spec_intra_prediction.specs.Angular.{angular}
 use Rattle.spec_intra_prediction.specs.Prediction.{has_filtered_edges, directed, predicted_from, predicted}

@@ -1,14 +1,12 @@
 -- What is laid over samples in range is in range.
-use Rattle.std.proofs.Common.{◌≡◌, ℕ, ◌+◌, ◌-◌, ◌*◌, ◌^◌, ◌<◌, ◌≤◌, ℤ, pos, ◌+ℤ◌, ◌-ℤ◌, true, List, Option, Some, None}
+use Rattle.std.proofs.Common.{◌≡◌, ℕ, ◌+◌, ◌-◌, ◌*◌, ◌^◌, ◌<◌, ◌≤◌, ℤ, pos, ◌+ℤ◌, true, List, Option, Some, None}
 use Rattle.std.proofs.Common.{ap, sym, subst, ◌∙◌, arith}
 use Rattle.std.specs.Prelude.{◌==◌, ◌&&◌, nat_le, nat_lt}
-use Rattle.std.specs.Int.{int_min, int_max}
-use Rattle.std.specs.Int.RustNames.{unsigned_abs}
 use Rattle.std.proofs.Math.Nat.{mul_comm, mul-lt-mul_of_pos_right, mul-mul-mul_comm}
 use Rattle.std.proofs.Math.Pow.{lt_of_le_ones}
 use Rattle.std.proofs.lemmas.Bool.{and_parts, leb-true, ltb-true, eqb-true}
-use Rattle.std.proofs.lemmas.Int.{ints, clamps}
 use Rattle.std.proofs.lemmas.Nat.{pow-add, pow_pos, mul-add-lt, mul-pow}
+use Rattle.spec_arithmetic.specs.Clipping.{clip1}
 use Rattle.ctu_records.specs.declared.item.Item.{Item}
 use Rattle.ctu_records.specs.declared.item.Square.{Square}
 use Rattle.ctu_records.specs.declared.prediction.PredictionUnit.{PredictionUnit}
@@ -77,11 +75,14 @@ laid_in_range format c x y n block known each ranged =
     changed_in_range format c x y n (λ i j before. Some (block i j)) known
     (λ i j before column line is. each i j column line) ranged
 
+-- a sample is clipped
+clip_below : (depth : ℕ) (v : ℤ) → clip1 depth v < 2 ^ depth
+clip_below depth v = lt_of_le_ones depth (clip_most (2 ^ depth - 1) v)
+
 residual_in_range : (depth : ℕ) (residual : ℤ) (before : Option ℕ)
     → IsInRange depth (with_residual depth residual before)
 residual_in_range depth residual None = tt
-residual_in_range depth residual (Some sample) =
-    lt_of_le_ones depth (clip_most (2 ^ depth - 1) (pos sample +ℤ residual))
+residual_in_range depth residual (Some sample) = clip_below depth (pos sample +ℤ residual)
 
 pub constructed_in_range : (format : UnitFormat) (c x y n : ℕ) (residuals : ℕ → ℕ → ℤ) (known : Known)
     → AreInRange format known → AreInRange format (constructed (depth_of format c) c x y n residuals known)
@@ -89,19 +90,15 @@ constructed_in_range format c x y n residuals known ranged =
     changed_in_range format c x y n (λ i j before. with_residual (depth_of format c) (residuals i j) before) known
     (λ i j before column line is. residual_in_range (depth_of format c) (residuals i j) before) ranged
 
--- a weighted sample is clipped
-clip_below : (m : ℕ) (v : ℤ) → 0 < m → unsigned_abs (int_max (pos 0) (int_min v (pos m -ℤ pos 1))) < m
-clip_below m v some = omega (arith, ints, clamps, some)
-
 one_in_range : (depth : ℕ) (w : Weighting) (list : ℕ) (p : ℤ) → weighted_one depth w list p < 2 ^ depth
 unfolding weighted_one default_one explicit_one
-one_in_range depth Default list p = clip_below (2 ^ depth) _ (pow_pos depth)
-one_in_range depth (Explicit w) list p = clip_below (2 ^ depth) _ (pow_pos depth)
+one_in_range depth Default list p = clip_below depth _
+one_in_range depth (Explicit w) list p = clip_below depth _
 
 two_in_range : (depth : ℕ) (w : Weighting) (p q : ℤ) → weighted_two depth w p q < 2 ^ depth
 unfolding weighted_two default_two explicit_two
-two_in_range depth Default p q = clip_below (2 ^ depth) _ (pow_pos depth)
-two_in_range depth (Explicit w) p q = clip_below (2 ^ depth) _ (pow_pos depth)
+two_in_range depth Default p q = clip_below depth _
+two_in_range depth (Explicit w) p q = clip_below depth _
 
 sample_in_range : (format : UnitFormat) (inter : InterUnit) (c : ℕ) (w : Weighting) (first second : Option Vector)
     (x y : ℕ)

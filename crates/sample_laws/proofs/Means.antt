@@ -1,17 +1,16 @@
 -- Means of samples are no greater than the greatest of them.
-use Rattle.std.proofs.Common.{◌≡◌, ℕ, zero, suc, ◌+◌, ◌*◌, ◌/◌, ◌<◌, ◌≤◌, ℤ, pos, Bool, true, false, cond, List, length}
+use Rattle.std.proofs.Common.{◌≡◌, ℕ, zero, suc, ◌+◌, ◌*◌, ◌/◌, ◌<◌, ◌≤◌, ℤ, Bool, true, false, cond, List, length}
 use Rattle.std.proofs.Common.{inl, inr, refl, ap, sym, subst, ◌∙◌, arith}
 use Rattle.std.specs.Prelude.{map}
-use Rattle.std.specs.Int.{int_min, int_max}
-use Rattle.std.specs.Int.RustNames.{unsigned_abs}
 use Rattle.std.specs.List.{All, range_with_len}
 use Rattle.std.proofs.Math.Nat.{add-mul, mul-le-mul_left, div-lt_iff_lt-mul, mul_comm}
 use Rattle.std.proofs.lemmas.Bool.{cases_lt}
 use Rattle.std.proofs.lemmas.Int.{ints, clamps}
 use Rattle.std.proofs.lemmas.List.{get_or_past}
 use Rattle.std.proofs.lemmas.List.FromFn.{get_or-map-range_with_len, length-map-range_with_len}
+use Rattle.spec_arithmetic.specs.Clipping.{clip3_from_zero}
+use Rattle.spec_arithmetic.specs.Sums.{sum_below}
 use Rattle.spec_intra_prediction.specs.Neighbours.{at}
-use Rattle.spec_intra_prediction.specs.PlanarDc.{sum_below}
 
 -- one of two by what is tested
 pub case_holds : {X : Type 0} (P : X → Type 0) (b : Bool) (x y : X) → (b ≡ true → P x) → (b ≡ false → P y)
@@ -52,7 +51,7 @@ sum_most m (suc n) f small =
     omega (arith, more, small n, sum_most m n f small)
 
 -- what is clipped to a greatest number
-pub clip_most : (m : ℕ) (v : ℤ) → unsigned_abs (int_max (pos 0) (int_min v (pos m))) ≤ m
+pub clip_most : (m : ℕ) (v : ℤ) → clip3_from_zero m v ≤ m
 clip_most m v = omega (arith, ints, clamps)
 
 -- samples up to a greatest one

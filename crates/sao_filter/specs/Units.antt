@@ -2,7 +2,7 @@
 use Rattle.std.specs.Prelude.{◌≡◌, ◌<◌, ◌≤◌, ℕ, ◌+◌, ◌-◌, ◌*◌, ◌==◌, nat_lt, min, Bool, true, ◌&&◌, List, ℤ, pos}
 use Rattle.std.specs.Prelude.{slice_index_or, if◌then◌else◌}
 use Rattle.spec_sample_adaptive_offset.specs.Plane.{OffsetPlane, may_read, meets}
-use Rattle.spec_sample_adaptive_offset.specs.Offsets.{offset_value, band_index, edge_index}
+use Rattle.spec_sample_adaptive_offset.specs.Offsets.{offset_value, band_index, edge_idx}
 use Rattle.sao_filter.specs.declared.row.OffsetRow.{OffsetRow}
 use Rattle.sao_filter.specs.declared.block.Block.{Block}
 use Rattle.sao_filter.specs.Row.{top, lines_of, plane_of}
@@ -39,4 +39,4 @@ IsBandTable depth position offsets table =
 
 abbrev pub IsEdgeTable : ℕ → List ℤ → List ℤ → Type 0
 IsEdgeTable depth offsets table =
-    (k : ℕ) → k < 5 → slice_index_or table k (pos 0) ≡ offset_value depth offsets (edge_index k)
+    (k : ℕ) → k < 5 → slice_index_or table k (pos 0) ≡ offset_value depth offsets (edge_idx k)

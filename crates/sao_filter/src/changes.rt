@@ -2,7 +2,7 @@
 
 ghost use Rattle.std.specs.Prelude.{◌≡◌, ◌≤◌, ◌<◌, ◌+◌, ◌-◌, ◌*◌, ◌/◌, ◌%◌, ◌^◌, ℕ, List, ℤ, pos, negsuc, ◌≤ℤ◌, ◌*ℤ◌};
 ghost use Rattle.std.specs.Prelude.{min, slice_index_or};
-ghost use Rattle.spec_sample_adaptive_offset.specs.Offsets.{band_index, band_moved, compared, edge_index, edge_moved};
+ghost use Rattle.spec_sample_adaptive_offset.specs.Offsets.{band_index, band_moved, compared, edge_idx, edge_moved};
 ghost use Rattle.spec_sample_adaptive_offset.specs.Offsets.{moved, offset_value};
 ghost use Rattle.sao_filter.specs.Units.{IsBandTable, IsEdgeTable};
 
@@ -59,10 +59,10 @@ pub fn band_changes(depth: u32, position: u8, offsets: &[i8; 4]) -> [i16; 32]
 }
 
 /// Which offset a sample has by the signs of its differences from both neighbours, or 0.
-#[tactic(auto, unfolding(spec_sample_adaptive_offset::specs::Offsets::edge_index))]
+#[tactic(auto, unfolding(spec_sample_adaptive_offset::specs::Offsets::edge_idx))]
 fn edge_index(signs: usize) -> usize
     requires signs { signs < 5 }
-    ensures value { result ≡ edge_index signs }
+    ensures value { result ≡ edge_idx signs }
     ensures few { result ≤ 4 }
 {
     match signs {

@@ -14,20 +14,20 @@ abbrev pub bend : ℕ → ℕ → ℕ → ℕ
 bend s2 s1 s0 = abs_diff (s2 + s0) (2 * s1)
 
 -- dp and dq of a line
-abbrev pub bend_before : Line → ℕ
-bend_before line = bend line.p2 line.p1 line.p0
+abbrev pub d_p : Line → ℕ
+d_p line = bend line.p2 line.p1 line.p0
 
-abbrev pub bend_behind : Line → ℕ
-bend_behind line = bend line.q2 line.q1 line.q0
+abbrev pub d_q : Line → ℕ
+d_q line = bend line.q2 line.q1 line.q0
 
 -- dpq of a line
-abbrev pub bends : Line → ℕ
-bends line = bend_before line + bend_behind line
+abbrev pub d_pq : Line → ℕ
+d_pq line = d_p line + d_q line
 
 -- dSam of a line
-unfoldable pub is_flat : ℕ → ℕ → Line → Bool
-is_flat beta tc line =
-    nat_lt (2 * bends line) (beta / 4)
+unfoldable pub d_sam : ℕ → ℕ → Line → Bool
+d_sam beta tc line =
+    nat_lt (2 * d_pq line) (beta / 4)
     && (nat_lt (abs_diff line.p3 line.p0 + abs_diff line.q0 line.q3) (beta / 8)
     && nat_lt (abs_diff line.p0 line.q0) ((5 * tc + 1) / 2))
 
@@ -38,11 +38,11 @@ side_bound beta = (beta + beta / 2) / 8
 -- dE, dEp and dEq of luma, from the first and the last of four lines
 unfoldable pub luma_filter : ℕ → ℕ → Line → Line → Filter
 luma_filter beta tc first last =
-    if nat_lt (bends first + bends last) beta
-    then (if is_flat beta tc first && is_flat beta tc last
+    if nat_lt (d_pq first + d_pq last) beta
+    then (if d_sam beta tc first && d_sam beta tc last
     then Strong
-    else Normal (nat_lt (bend_before first + bend_before last) (side_bound beta))
-    (nat_lt (bend_behind first + bend_behind last) (side_bound beta)))
+    else Normal (nat_lt (d_p first + d_p last) (side_bound beta))
+    (nat_lt (d_q first + d_q last) (side_bound beta)))
     else Off
 
 -- how the lines of an edge are filtered, from the places on both sides and the first and the last of the lines

@@ -1,16 +1,16 @@
 -- The filters of one line (8.7.2.5.7, 8.7.2.5.8). The greatest sample, 2 ^ BitDepth - 1, is a parameter of all that
 -- clip.
-use Rattle.std.specs.Prelude.{ℕ, ◌+◌, ◌-◌, ◌*◌, ◌/◌, max, min, Bool, nat_lt, ℤ, pos, ◌+ℤ◌, neg_ℤ, ◌-ℤ◌, if◌then◌else◌}
-use Rattle.std.specs.Int.{int_shr, int_min, int_max}
+use Rattle.std.specs.Prelude.{ℕ, ◌+◌, ◌-◌, ◌*◌, ◌/◌, Bool, nat_lt, ℤ, pos, ◌+ℤ◌, neg_ℤ, ◌-ℤ◌, if◌then◌else◌}
+use Rattle.std.specs.Int.{int_shr}
 use Rattle.std.specs.Int.RustNames.{unsigned_abs}
+use Rattle.spec_arithmetic.specs.Clipping.{clip3, clip3_from_zero, nat_clip3}
 use Rattle.spec_deblocking.specs.declared.line.Line.{Line}
 use Rattle.spec_deblocking.specs.declared.line.Filter.{Filter}
 use Rattle.spec_deblocking.specs.declared.line.Filter.TheVariants.{Off, Normal, Strong, Nearest}
-use Rattle.spec_deblocking.specs.Thresholds.{clipped}
 
--- a value within a reach of a sample
+-- a value within a reach of a sample: Clip3( sample - reach, sample + reach, value )
 unfoldable pub held : ℕ → ℕ → ℕ → ℕ
-held value sample reach = max (sample - reach) (min value (sample + reach))
+held value sample reach = nat_clip3 (sample - reach) (sample + reach) value
 
 -- the strong filter of luma
 unfoldable pub strong : ℕ → Line → Line
@@ -25,13 +25,13 @@ strong tc line = let l : Line = line in record {
   q3 = l.q3;
 }
 
--- a sample after a change
+-- a sample after a change: Clip1
 unfoldable pub moved : ℕ → ℕ → ℤ → ℕ
-moved greatest sample change = clipped greatest (pos sample +ℤ change)
+moved greatest sample change = clip3_from_zero greatest (pos sample +ℤ change)
 
--- Clip3 of a change
+-- a change within a reach: Clip3( -reach, reach, change )
 unfoldable pub within : ℕ → ℤ → ℤ
-within reach change = int_max (neg_ℤ (pos reach)) (int_min change (pos reach))
+within reach change = clip3 (neg_ℤ (pos reach)) (pos reach) change
 
 -- delta of the normal filter, before it is clipped: (9 * (q0 - p0) - 3 * (q1 - p1) + 8) >> 4
 unfoldable pub normal_change : Line → ℤ

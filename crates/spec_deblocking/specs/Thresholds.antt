@@ -1,21 +1,17 @@
 -- The thresholds of an edge, from the places of p0 and q0 (8.7.2.5.3, 8.7.2.5.5). The offsets are those of the slice
 -- that has q0.
 use Rattle.std.specs.Prelude.{ℕ, ◌*◌, ◌-◌, ◌^◌, ℤ, pos, negsuc, ◌+ℤ◌, ◌-ℤ◌, ◌*ℤ◌, slice_index_or}
-use Rattle.std.specs.Int.{int_shr, int_min, int_max}
-use Rattle.std.specs.Int.RustNames.{unsigned_abs}
+use Rattle.spec_arithmetic.specs.Clipping.{clip3_from_zero}
+use Rattle.spec_arithmetic.specs.Rounding.{rounded}
 use Rattle.spec_slice_data.specs.Quantization.{chroma_qp_of_index}
 use Rattle.spec_deblocking.specs.declared.place.Place.{Place}
 use Rattle.spec_deblocking.specs.declared.place.Plane.{Plane}
 use Rattle.spec_deblocking.specs.declared.place.Plane.TheVariants.{Luma, Chroma}
 use Rattle.spec_deblocking.specs.declared.tables.TheConstants.{BETA, TC}
 
--- Clip3 of a number, where the least is 0
-abbrev pub clipped : ℕ → ℤ → ℕ
-clipped greatest z = unsigned_abs (int_max (pos 0) (int_min z (pos greatest)))
-
 -- qPL
 unfoldable pub mean_qp : Place → Place → ℤ
-mean_qp p q = int_shr (p.qp_y +ℤ q.qp_y +ℤ pos 1) 1
+mean_qp p q = rounded 1 (p.qp_y +ℤ q.qp_y)
 
 -- QpC by qPi, which below 0 is qPi itself (ChromaArrayType is 1; no bit depth offset)
 unfoldable pub chroma_qp : ℤ → ℤ
@@ -28,11 +24,12 @@ edge_qp Luma p q = mean_qp p q
 edge_qp (Chroma offset) p q = chroma_qp (mean_qp p q +ℤ offset)
 
 abbrev pub beta_index : Place → Place → ℕ
-beta_index p q = clipped 51 (mean_qp p q +ℤ pos 2 *ℤ q.slice_beta_offset_div2)
+beta_index p q = clip3_from_zero 51 (mean_qp p q +ℤ pos 2 *ℤ q.slice_beta_offset_div2)
 
 abbrev pub tc_index : Plane → Place → Place → ℕ
 tc_index plane p q =
-    clipped 53 (edge_qp plane p q +ℤ pos 2 *ℤ (pos q.left_strength -ℤ pos 1) +ℤ pos 2 *ℤ q.slice_tc_offset_div2)
+    clip3_from_zero 53
+    (edge_qp plane p q +ℤ pos 2 *ℤ (pos q.left_strength -ℤ pos 1) +ℤ pos 2 *ℤ q.slice_tc_offset_div2)
 
 -- the bound on how far the lines of an edge are from straight, at a bit depth
 unfoldable pub beta : ℕ → Place → Place → ℕ

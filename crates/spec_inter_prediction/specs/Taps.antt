@@ -1,8 +1,8 @@
 -- The interpolation filters (8.5.3.3.3.1, 8.5.3.3.3.2), and how they run over a picture. Samples of one line, or
 -- column, beside each other are a to h; d is the whole place of luma, and b that of chroma.
 use Rattle.std.specs.Prelude.{ℕ, ◌-◌, ◌≤◌, ◌==◌, ℤ, pos, ◌+ℤ◌, ◌-ℤ◌, ◌*ℤ◌, if◌then◌else◌}
-use Rattle.std.specs.Int.{int_shr, int_max, int_min}
-use Rattle.std.specs.Int.RustNames.{unsigned_abs}
+use Rattle.std.specs.Int.{int_shr}
+use Rattle.spec_arithmetic.specs.Clipping.{clip3_from_zero}
 
 -- the luma filter at a quarter of a sample: 64 times the sample at a whole place
 unfoldable pub luma_taps : ℕ → ℤ → ℤ → ℤ → ℤ → ℤ → ℤ → ℤ → ℤ → ℤ
@@ -37,9 +37,9 @@ chroma_filter eighth s = chroma_taps eighth (s 0) (s 1) (s 2) (s 3)
 abbrev pub filtered : ((ℕ → ℤ) → ℤ) → ((ℕ → ℤ) → ℤ) → ℕ → (ℕ → ℕ → ℤ) → ℤ
 filtered across down depth s = int_shr (down (λ j. int_shr (across (λ i. s i j)) (depth - 8))) 6
 
--- a coordinate of a reference picture whose side has so many samples: Clip3(0, side - 1, v)
+-- a coordinate of a reference picture whose side has so many samples: Clip3( 0, side - 1, v )
 unfoldable pub clamped : ℤ → ℕ → ℕ
-clamped v side = unsigned_abs (int_max (pos 0) (int_min v (pos side -ℤ pos 1)))
+clamped v side = clip3_from_zero (side - 1) v
 
 -- the bit depths that there are (7.4.3.2.1)
 abbrev pub IsDepth : ℕ → Type 0

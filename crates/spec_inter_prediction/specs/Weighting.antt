@@ -1,19 +1,17 @@
 -- Weighted sample prediction (8.5.3.3.4): samples of 14 bits become samples of a picture.
-use Rattle.std.specs.Prelude.{ℕ, ◌+◌, ◌-◌, ◌^◌, ◌≤◌, ◌==◌, ℤ, pos, negsuc, ◌+ℤ◌, ◌-ℤ◌, ◌*ℤ◌, ◌≤ℤ◌, if◌then◌else◌}
-use Rattle.std.specs.Int.{int_shr, int_max, int_min}
-use Rattle.std.specs.Int.RustNames.{unsigned_abs}
+use Rattle.std.specs.Prelude.{ℕ, ◌+◌, ◌-◌, ◌^◌, ◌≤◌, ◌==◌, ℤ, pos, negsuc, ◌+ℤ◌, ◌*ℤ◌, ◌≤ℤ◌, if◌then◌else◌}
+use Rattle.std.specs.Int.{int_shr}
+use Rattle.spec_arithmetic.specs.Clipping.{clip1}
+use Rattle.spec_arithmetic.specs.Rounding.{rounded}
 use Rattle.spec_inter_prediction.specs.declared.weighting.Weight.{Weight}
 use Rattle.spec_inter_prediction.specs.declared.weighting.Weights.{Weights}
 use Rattle.spec_inter_prediction.specs.declared.weighting.Weighting.{Weighting}
 use Rattle.spec_inter_prediction.specs.declared.weighting.Weighting.TheVariants.{Default, Explicit}
 
--- Clip1 of a component of this bit depth
-abbrev pub clip1 : ℕ → ℤ → ℕ
-clip1 depth v = unsigned_abs (int_max (pos 0) (int_min v (pos (2 ^ depth) -ℤ pos 1)))
-
--- a number in units of 2^shift, to the nearest whole number
-unfoldable pub rounded : ℕ → ℤ → ℤ
-rounded shift v = if shift == 0 then v else int_shr (v +ℤ pos (2 ^ (shift - 1))) shift
+-- a number in units of 2^-shift, to the nearest whole number. A shift of 0, which shift1 and log2WD are at 14 bits
+-- alone, leaves it as it is: nothing is added, since there is no half to round
+unfoldable pub rounded_if_shifted : ℕ → ℤ → ℤ
+rounded_if_shifted shift v = if shift == 0 then v else rounded shift v
 
 -- an offset on the scale of the samples: o0 or o1
 abbrev pub scaled_offset : ℕ → ℤ → ℤ
@@ -25,14 +23,15 @@ log2_wd depth denominator = denominator + (14 - depth)
 
 -- default weighting of one prediction, and of two (8.5.3.3.4.2)
 unfoldable pub default_one : ℕ → ℤ → ℕ
-default_one depth p = clip1 depth (rounded (14 - depth) p)
+default_one depth p = clip1 depth (rounded_if_shifted (14 - depth) p)
 
 unfoldable pub default_two : ℕ → ℤ → ℤ → ℕ
-default_two depth p q = clip1 depth (rounded (15 - depth) (p +ℤ q))
+default_two depth p q = clip1 depth (rounded_if_shifted (15 - depth) (p +ℤ q))
 
 -- explicit weighting of one prediction, and of two (8.5.3.3.4.3), under log2WD
 unfoldable pub explicit_one : ℕ → ℕ → Weight → ℤ → ℕ
-explicit_one depth log2_wd w p = clip1 depth (rounded log2_wd (p *ℤ w.weight) +ℤ scaled_offset depth w.offset)
+explicit_one depth log2_wd w p =
+    clip1 depth (rounded_if_shifted log2_wd (p *ℤ w.weight) +ℤ scaled_offset depth w.offset)
 
 unfoldable pub explicit_two : ℕ → ℕ → Weight → Weight → ℤ → ℤ → ℕ
 explicit_two depth log2_wd w v p q =

@@ -3,8 +3,8 @@
 -- lines.
 use Rattle.std.specs.Prelude.{ℕ, suc, ◌+◌, ◌-◌, ◌*◌, ◌/◌, ◌%◌, ◌^◌, ◌==◌, ℤ, pos, negsuc, ◌+ℤ◌, ◌-ℤ◌, Bool, ◌&&◌, ◌||◌}
 use Rattle.std.specs.Prelude.{nat_lt, List, slice_index_or, if◌then◌else◌}
-use Rattle.std.specs.Int.{int_shr, int_min, int_max}
-use Rattle.std.specs.Int.RustNames.{unsigned_abs}
+use Rattle.std.specs.Int.{int_shr}
+use Rattle.spec_arithmetic.specs.Clipping.{clip1}
 use Rattle.spec_intra_prediction.specs.declared.angles.TheConstants.{INTRA_PRED_ANGLE, INVERSE_ANGLE}
 use Rattle.spec_intra_prediction.specs.Neighbours.{at}
 
@@ -27,11 +27,12 @@ abbrev pub met : ℕ → ℤ → ℕ → ℕ
 met n (pos size) y = 32 * n + (y + 1) * size
 met n (negsuc size) y = 32 * n - (y + 1) * suc size
 
--- two samples of ref, by 1/32 of the way between them
+-- two samples of ref, by iFact: 1/32 of the way between them
 abbrev pub between : ℕ → ℕ → ℕ → ℕ
-between part first second =
-    if part == 0 then first else ((32 - part) * first + part * second + 16) / 32
+between i_fact first second =
+    if i_fact == 0 then first else ((32 - i_fact) * first + i_fact * second + 16) / 32
 
+-- column x of a line that meets ref at a place: between ref[x + iIdx + 1] and ref[x + iIdx + 2]
 abbrev pub met_sample : ℕ → ℕ → List ℕ → List ℕ → ℕ → ℕ → ℕ
 met_sample n inverse main side place x =
     between (place % 32) (reference n inverse main side (place / 32 + x + 1))
@@ -39,8 +40,7 @@ met_sample n inverse main side place x =
 
 -- Clip1 of a sample beside the block, moved by half of what the side changes
 abbrev pub stepped : ℕ → ℕ → ℕ → ℕ → ℕ
-stepped depth first now corner =
-    unsigned_abs (int_max (pos 0) (int_min (pos first +ℤ int_shr (pos now -ℤ pos corner) 1) (pos (2 ^ depth - 1))))
+stepped depth first now corner = clip1 depth (pos first +ℤ int_shr (pos now -ℤ pos corner) 1)
 
 -- the sample at (x, y); horizontal and vertical, whose angle is 0, step the first of each line where edges are filtered
 unfoldable pub angular : Bool → ℕ → ℕ → ℕ → List ℕ → List ℕ → ℕ → ℕ → ℕ

@@ -1,5 +1,6 @@
 -- Planar and DC prediction (8.4.4.2.4, 8.4.4.2.5).
-use Rattle.std.specs.Prelude.{ℕ, zero, suc, ◌+◌, ◌-◌, ◌*◌, ◌/◌, ◌^◌, ◌==◌, Bool, List, if◌then◌else◌}
+use Rattle.std.specs.Prelude.{ℕ, ◌+◌, ◌-◌, ◌*◌, ◌/◌, ◌^◌, ◌==◌, Bool, List, if◌then◌else◌}
+use Rattle.spec_arithmetic.specs.Sums.{sum_below}
 use Rattle.spec_intra_prediction.specs.Neighbours.{left_at, above_at}
 
 -- planar: the mean of a line from the left to the upper right end, and one from above to the lower left end
@@ -9,11 +10,6 @@ planar log2 p x y =
     ((n - 1 - x) * left_at n p y + (x + 1) * above_at n p n + (n - 1 - y) * above_at n p x + (y + 1) * left_at n p n
     + n)
     / 2 ^ (log2 + 1)
-
--- the sum of f k over the k below n
-abbrev pub sum_below : ℕ → (ℕ → ℕ) → ℕ
-sum_below zero f = 0
-sum_below (suc n) f = sum_below n f + f n
 
 -- dcVal: the mean of what stands on the left and above
 unfoldable pub mean_beside : ℕ → List ℕ → ℕ

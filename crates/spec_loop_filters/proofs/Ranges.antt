@@ -5,6 +5,7 @@ use Rattle.std.specs.Int.{int_max, int_min}
 use Rattle.std.specs.Int.RustNames.{unsigned_abs}
 use Rattle.std.proofs.lemmas.Int.{ints, int_max_is, int_min_is}
 use Rattle.std.proofs.lemmas.Bool.Decides.{nat_tests}
+use Rattle.spec_arithmetic.specs.Clipping.{clip3_from_zero}
 use Rattle.spec_deblocking.specs.declared.line.Line.{Line}
 use Rattle.spec_deblocking.specs.declared.line.Filter.{Filter}
 use Rattle.spec_deblocking.specs.declared.line.Filter.TheVariants.{Off, Normal, Strong, Nearest}
@@ -12,7 +13,7 @@ use Rattle.spec_deblocking.specs.declared.place.Place.{Place}
 use Rattle.spec_deblocking.specs.declared.place.Plane.{Plane}
 use Rattle.spec_deblocking.specs.Lines.{across, nth}
 use Rattle.spec_deblocking.specs.Places.{place_before, place_behind, turned}
-use Rattle.spec_deblocking.specs.Thresholds.{clipped, tc}
+use Rattle.spec_deblocking.specs.Thresholds.{tc}
 use Rattle.spec_deblocking.specs.Filters.{filtered, held, moved, nearest, normal, normal_change, second_sample, strong}
 use Rattle.spec_deblocking.specs.Planes.{deblocked, edge_sample, filtered_line, horizontal, vertical}
 use Rattle.spec_sample_adaptive_offset.proofs.Samples.{in_range}
@@ -42,7 +43,7 @@ size_few : (g : ℕ) (z : ℤ) → pos 0 ≤ℤ z → z ≤ℤ pos g → unsigne
 size_few g (pos n) low high = omega (arith, ints)
 size_few g (negsuc n) low high = absurd (omega (arith, ints))
 
-clipped_few : (g : ℕ) (z : ℤ) → clipped g z ≤ g
+clipped_few : (g : ℕ) (z : ℤ) → clip3_from_zero g z ≤ g
 clipped_few g z =
     let v : ℤ = int_min z (pos g) in
     let most : v ≤ℤ pos g = omega (arith, ints, int_min_is z (pos g)) in

@@ -58,12 +58,13 @@ unfoldable pub merge_motion : SliceMotion → Known → Rectangle → ℕ → �
 merge_motion slice known block column row =
     if is_in_region slice.log2_parallel block column row then None else known column row
 
--- a candidate, unless it has the motion of another one
+-- whether both of two candidates are there and have the same motion
 abbrev pub is_same : Option Motion → Option Motion → Bool
 is_same None other = false
 is_same (Some candidate) None = false
 is_same (Some candidate) (Some other) = same_motion candidate other
 
+-- a candidate, unless it has the motion of another one
 abbrev pub unless_same : Option Motion → Option Motion → Option Motion
 unless_same candidate other = if is_same candidate other then None else candidate
 

@@ -1,25 +1,22 @@
 -- The scaling of vectors by distances in order counts (8.5.3.2.7, 8.5.3.2.8).
 use Rattle.std.specs.Prelude.{suc, ◌+◌, ◌/◌, Bool, ◌||◌, ℤ, pos, negsuc, neg_ℤ, ◌+ℤ◌, ◌*ℤ◌, if◌then◌else◌}
-use Rattle.std.specs.Int.{int_min, int_max, int_shr}
 use Rattle.std.specs.Int.RustNames.{int_div, unsigned_abs}
 use Rattle.std.specs.Ordering.{int_eq}
+use Rattle.spec_arithmetic.specs.Clipping.{clip3}
+use Rattle.spec_arithmetic.specs.Rounding.{rounded}
 use Rattle.ctu_records.specs.declared.prediction.Mv.{Mv}
 
--- Clip3
-abbrev pub clip3 : ℤ → ℤ → ℤ → ℤ
-clip3 low high v = int_max low (int_min v high)
-
--- td and tb of a difference of order counts
+-- td or tb, by the difference of order counts that it is of
 abbrev pub distance : ℤ → ℤ
 distance difference = clip3 (negsuc 127) (pos 127) difference
 
 -- tx, of a td that isn't 0
-unfoldable pub inverse : ℤ → ℤ
-inverse td = int_div (pos (16384 + unsigned_abs td / 2)) td
+unfoldable pub tx : ℤ → ℤ
+tx td = int_div (pos (16384 + unsigned_abs td / 2)) td
 
 -- distScaleFactor
-unfoldable pub scale_factor : ℤ → ℤ → ℤ
-scale_factor td tb = clip3 (negsuc 4095) (pos 4095) (int_shr (tb *ℤ inverse td +ℤ pos 32) 6)
+unfoldable pub dist_scale_factor : ℤ → ℤ → ℤ
+dist_scale_factor td tb = clip3 (negsuc 4095) (pos 4095) (rounded 6 (tb *ℤ tx td))
 
 -- Sign( p ) * ( ( Abs( p ) + 127 ) >> 8 )
 abbrev pub shortened : ℤ → ℤ
@@ -42,4 +39,4 @@ is_kept spanned wanted = int_eq spanned wanted || int_eq spanned (pos 0)
 -- a vector over one difference of order counts, brought to another one
 unfoldable pub scaled : ℤ → ℤ → Mv → Mv
 scaled spanned wanted mv =
-    if is_kept spanned wanted then mv else stretched (scale_factor (distance spanned) (distance wanted)) mv
+    if is_kept spanned wanted then mv else stretched (dist_scale_factor (distance spanned) (distance wanted)) mv

@@ -27,10 +27,10 @@ abbrev pub takes_first : SliceMotion → ℕ → Bool
 takes_first slice list = if is_none_later slice then list == 0 else not slice.from_list_0
 
 -- mvCol, refIdxCol and listCol
-abbrev pub column_vector : SliceMotion → ℕ → Option CollocatedVector → Option CollocatedVector → Option CollocatedVector
-column_vector slice list None second = second
-column_vector slice list (Some first) None = Some first
-column_vector slice list (Some first) (Some second) = if takes_first slice list then Some first else Some second
+abbrev pub mv_col : SliceMotion → ℕ → Option CollocatedVector → Option CollocatedVector → Option CollocatedVector
+mv_col slice list None second = second
+mv_col slice list (Some first) None = Some first
+mv_col slice list (Some first) (Some second) = if takes_first slice list then Some first else Some second
 
 -- a vector of the collocated picture, brought to a reference of the slice; none where their marks as long-term differ
 unfoldable pub brought : SliceMotion → Reference → CollocatedVector → Option Mv
@@ -41,10 +41,10 @@ brought slice target vector =
     else None
 
 -- mvLXCol of a block of the collocated picture
-abbrev pub collocated_mv : SliceMotion → ℕ → Reference → Option Collocated → Option Mv
-collocated_mv slice list target None = None
-collocated_mv slice list target (Some block) =
-    option_and_then (brought slice target) (column_vector slice list block.list_0 block.list_1)
+abbrev pub mv_lx_col : SliceMotion → ℕ → Reference → Option Collocated → Option Mv
+mv_lx_col slice list target None = None
+mv_lx_col slice list target (Some block) =
+    option_and_then (brought slice target) (mv_col slice list block.list_0 block.list_1)
 
 -- what the collocated picture has at the bottom right of a block, where that place is inside the picture and in the row
 -- of coding tree blocks; the place is brought to its block of 4x4 places behind that
@@ -64,6 +64,6 @@ unfoldable pub temporal_mv : SliceMotion → Beneath → Rectangle → ℕ → �
 temporal_mv slice beneath block list ref_idx =
     if slice.temporal
     then or_else
-    (collocated_mv slice list (reference_in slice list ref_idx) (bottom_right slice beneath block))
-    (collocated_mv slice list (reference_in slice list ref_idx) (centre beneath block))
+    (mv_lx_col slice list (reference_in slice list ref_idx) (bottom_right slice beneath block))
+    (mv_lx_col slice list (reference_in slice list ref_idx) (centre beneath block))
     else None

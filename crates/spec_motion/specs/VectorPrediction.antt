@@ -58,12 +58,13 @@ abbrev pub is_there : Option Motion → Bool
 is_there None = false
 is_there (Some motion) = true
 
--- the first candidate alone, where the second one is the same
+-- whether both of two candidates are there and are the same
 abbrev pub is_same_mv : Option Mv → Option Mv → Bool
 is_same_mv None second = false
 is_same_mv (Some first) None = false
 is_same_mv (Some first) (Some second) = same_mv first second
 
+-- two candidates, the first alone where the second one is the same
 abbrev pub distinct : Option Mv → Option Mv → List Mv
 distinct first second = option_to_list first ++ (if is_same_mv first second then [] else option_to_list second)
 

@@ -17,11 +17,12 @@ pub struct SliceMotion {
     pub references_0: [Reference; 16],
     /// RefPicList1.
     pub references_1: [Reference; 16],
-    /// num_ref_idx_l0_active_minus1 + 1.
+    /// How many of `references_0` there are: num_ref_idx_l0_active_minus1 + 1, and 0 in I slices.
     pub active_0: u8,
-    /// num_ref_idx_l1_active_minus1 + 1, read of B slices alone.
+    /// How many of `references_1` there are: num_ref_idx_l1_active_minus1 + 1 in B slices, else 0.
     pub active_1: u8,
-    /// slice_temporal_mvp_enabled_flag.
+    /// Whether there is a collocated picture: slice_temporal_mvp_enabled_flag is 1 in a P or B slice whose list has a
+    /// picture at collocated_ref_idx.
     pub temporal: bool,
     /// collocated_from_l0_flag.
     pub from_list_0: bool,

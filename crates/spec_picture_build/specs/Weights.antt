@@ -2,9 +2,9 @@
 -- are.
 use Rattle.std.specs.Prelude.{ℕ, ◌^◌, ℤ, pos, negsuc, ◌+ℤ◌, ◌-ℤ◌, ◌*ℤ◌, min, nat_lt, List, length, map, slice_index_or}
 use Rattle.std.specs.Prelude.{Option, Some, None, if◌then◌else◌}
-use Rattle.std.specs.Int.{int_max, int_min, int_shr}
-use Rattle.std.specs.Int.RustNames.{unsigned_abs}
+use Rattle.std.specs.Int.{int_shr}
 use Rattle.std.specs.List.{range_with_len}
+use Rattle.spec_arithmetic.specs.Clipping.{clip3, clip3_from_zero}
 use Rattle.slice_types.specs.declared.slice.InterFields.{InterFields}
 use Rattle.slice_types.specs.declared.weights.ChromaWeight.{ChromaWeight}
 use Rattle.slice_types.specs.declared.weights.LumaWeight.{LumaWeight}
@@ -17,32 +17,28 @@ use Rattle.spec_inter_prediction.specs.declared.tables.WeightTable.{WeightTable}
 use Rattle.spec_inter_prediction.specs.declared.weighting.Weight.{Weight}
 use Rattle.spec_inter_prediction.specs.Tables.{no_weights}
 
--- Clip3
-abbrev pub held : ℤ → ℤ → ℤ → ℤ
-held least greatest v = int_max least (int_min v greatest)
-
 -- luma_log2_weight_denom and ChromaLog2WeightDenom
 abbrev pub luma_denominator : PredWeightTable → ℕ
 luma_denominator t = min t.luma_log2_weight_denom 7
 
 abbrev pub chroma_denominator : PredWeightTable → ℕ
 chroma_denominator t =
-    unsigned_abs (held (pos 0) (pos 7) (pos t.luma_log2_weight_denom +ℤ t.delta_chroma_log2_weight_denom))
+    clip3_from_zero 7 (pos t.luma_log2_weight_denom +ℤ t.delta_chroma_log2_weight_denom)
 
 -- 1, and what differs from it, in units of 2^-denominator
 abbrev pub weight_by : ℕ → ℤ → ℤ
-weight_by denominator delta = held (negsuc 127) (pos 255) (pos (2 ^ denominator) +ℤ delta)
+weight_by denominator delta = clip3 (negsuc 127) (pos 255) (pos (2 ^ denominator) +ℤ delta)
 
 -- LumaWeightLX and luma_offset_lX
 abbrev pub luma_weight : ℕ → Option LumaWeight → Weight
 luma_weight denominator None = record { weight = weight_by denominator (pos 0); offset = pos 0 }
 luma_weight denominator (Some w) =
-    record { weight = weight_by denominator w.delta_luma_weight; offset = held (negsuc 127) (pos 127) w.luma_offset }
+    record { weight = weight_by denominator w.delta_luma_weight; offset = clip3 (negsuc 127) (pos 127) w.luma_offset }
 
 -- ChromaOffsetLX by ChromaWeightLX
 abbrev pub chroma_offset : ℕ → ℤ → ℤ → ℤ
 chroma_offset denominator weight delta =
-    held (negsuc 127) (pos 127) (pos 128 +ℤ delta -ℤ int_shr (pos 128 *ℤ weight) denominator)
+    clip3 (negsuc 127) (pos 127) (pos 128 +ℤ delta -ℤ int_shr (pos 128 *ℤ weight) denominator)
 
 abbrev pub chroma_weight : ℕ → ChromaWeight → Weight
 chroma_weight denominator w = record {

@@ -1,7 +1,7 @@
 -- What a coding tree unit adds to what the loop filters of its picture need (8.7.2, 8.7.3).
 use Rattle.std.specs.Prelude.{ℕ, ◌+◌, ◌-◌, ◌==◌, ℤ, pos, negsuc, Bool, false, ◌&&◌, ◌||◌, nat_le, nat_lt, List, Option}
 use Rattle.std.specs.Prelude.{Some, None, if◌then◌else◌}
-use Rattle.std.specs.Int.{int_max, int_min}
+use Rattle.spec_arithmetic.specs.Clipping.{clip3}
 use Rattle.block_geometry.specs.CodingTreeBlocks.{is_from}
 use Rattle.ctu_records.specs.declared.item.Item.{Item}
 use Rattle.ctu_records.specs.declared.offset.ComponentOffset.{ComponentOffset}
@@ -83,7 +83,7 @@ pcm_disabled (Some pcm) = pcm.pcm_loop_filter_disabled_flag
 
 -- slice_beta_offset_div2 and slice_tc_offset_div2: from -6 to 6 (7.4.7.1)
 abbrev pub held_offset : ℤ → ℤ
-held_offset offset = int_max (negsuc 5) (int_min offset (pos 6))
+held_offset offset = clip3 (negsuc 5) (pos 6) offset
 
 -- a place of a unit in a slice
 unfoldable pub place_of : SliceDeblocking → UnitPlace → Place

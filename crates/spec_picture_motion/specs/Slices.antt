@@ -51,7 +51,8 @@ abbrev pub max_candidates : Option InterFields → ℕ
 max_candidates None = 0
 max_candidates (Some fields) = 5 - fields.five_minus_max_num_merge_cand
 
--- Log2ParMrgLevel: at most CtbLog2SizeY
+-- Log2ParMrgLevel. It is at most CtbLog2SizeY, or the slice that names the set is refused (SetMismatch), and so never
+-- above 6: the minimum changes nothing
 abbrev pub log2_parallel : PpsFields → ℕ
 log2_parallel pps = min (pps.log2_parallel_merge_level_minus2 + 2) 6
 

@@ -1,7 +1,6 @@
 -- The samples that are known while a coding tree unit is built.
 use Rattle.std.specs.Prelude.{ℕ, ◌+◌, ◌-◌, ◌==◌, ◌&&◌, Bool, Option, Some, None, ℤ, pos, ◌+ℤ◌, ◌^◌, if◌then◌else◌}
-use Rattle.std.specs.Int.{int_min, int_max}
-use Rattle.std.specs.Int.RustNames.{unsigned_abs}
+use Rattle.spec_arithmetic.specs.Clipping.{clip1}
 use Rattle.ctu_records.specs.Places.{inside}
 
 -- by component, column and line, both counted from 1 at the unit's first sample: line 0 stands above the unit, column 0
@@ -22,14 +21,10 @@ changed c x y n change known component column line =
 abbrev pub laid : ℕ → ℕ → ℕ → ℕ → (ℕ → ℕ → ℕ) → Known → Known
 laid c x y n block = changed c x y n (λ i j before. Some (block i j))
 
--- Clip1 (8.6.5)
-abbrev pub clipped : ℕ → ℤ → ℕ
-clipped depth v = unsigned_abs (int_max (pos 0) (int_min v (pos (2 ^ depth - 1))))
-
--- a sample and a residual
+-- a sample and a residual: Clip1 of their sum
 abbrev pub with_residual : ℕ → ℤ → Option ℕ → Option ℕ
 with_residual depth residual None = None
-with_residual depth residual (Some sample) = Some (clipped depth (pos sample +ℤ residual))
+with_residual depth residual (Some sample) = Some (clip1 depth (pos sample +ℤ residual))
 
 -- picture construction of a square: residuals added to its predicted samples (8.6.5)
 abbrev pub constructed : ℕ → ℕ → ℕ → ℕ → ℕ → (ℕ → ℕ → ℤ) → Known → Known

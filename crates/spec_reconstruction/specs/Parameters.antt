@@ -1,6 +1,6 @@
 -- The quantization parameters of transform blocks (8.6.1, 8.6.2).
 use Rattle.std.specs.Prelude.{ℕ, suc, ◌+◌, ◌-◌, ◌*◌, ◌==◌, ℤ, pos, negsuc, ◌+ℤ◌, ◌-ℤ◌, neg_ℤ, if◌then◌else◌}
-use Rattle.std.specs.Int.{int_min, int_max}
+use Rattle.spec_arithmetic.specs.Clipping.{clip3}
 use Rattle.spec_reconstruction.specs.declared.format.UnitFormat.{UnitFormat}
 use Rattle.spec_slice_data.specs.Quantization.{chroma_qp_of_index}
 
@@ -20,9 +20,9 @@ abbrev pub offset_parameter : ℕ → ℤ → ℕ
 offset_parameter offset (pos index) = chroma_qp_of_index index + offset
 offset_parameter offset (negsuc below) = offset - suc below
 
--- Qp'Cb or Qp'Cr by QpBdOffsetC and what qPi is held from: qPi is Clip3(-QpBdOffsetC, 57, ..)
+-- Qp'Cb or Qp'Cr by QpBdOffsetC and what qPi is held from: qPi is Clip3( -QpBdOffsetC, 57, .. )
 unfoldable pub chroma_parameter : ℕ → ℤ → ℕ
-chroma_parameter offset index = offset_parameter offset (int_max (neg_ℤ (pos offset)) (int_min index (pos 57)))
+chroma_parameter offset index = offset_parameter offset (clip3 (neg_ℤ (pos offset)) (pos 57) index)
 
 -- qP of a block of a component in a coding unit whose Qp'Y is qp
 unfoldable pub parameter_of : UnitFormat → ℕ → ℕ → ℕ

@@ -23,7 +23,8 @@ use Rattle.spec_residuals.specs.LastPosition.{is_luma, by_component}
 abbrev pub too_great : Breach
 too_great = breach.Fault rule.CoeffRange
 
--- ctxSet: 2 in luma sub-blocks other than the first, and 1 more where the sub-block before had a level above 1
+-- ctxSet: 2 in luma sub-blocks other than the first, and 1 more where the last earlier sub-block that has flags
+-- coeff_abs_level_greater1_flag had one equal to 1; its levels past the eighth, which have none, don't count
 -- (9.3.4.2.6)
 abbrev pub context_set : ResidualBlock → SubBlock → Bool → ℕ
 context_set block sub raised = (if is_luma block && nat_lt 0 sub.index then 2 else 0) + (if raised then 1 else 0)

@@ -1,8 +1,7 @@
 -- The offsets of a component of a coding tree unit, and which of them a sample has (7.4.9.3, 8.7.3.2).
 use Rattle.std.specs.Prelude.{ℕ, ◌+◌, ◌-◌, ◌/◌, ◌%◌, ◌^◌, ◌==◌, min, nat_lt, ℤ, pos, ◌+ℤ◌, ◌*ℤ◌, List, slice_index_or}
 use Rattle.std.specs.Prelude.{if◌then◌else◌}
-use Rattle.std.specs.Int.{int_min, int_max}
-use Rattle.std.specs.Int.RustNames.{unsigned_abs}
+use Rattle.spec_arithmetic.specs.Clipping.{clip1}
 
 -- SaoOffsetVal: none at index 0, and the four offsets, which are coded for up to 10 bits, from 1 on
 unfoldable pub offset_value : ℕ → List ℤ → ℕ → ℤ
@@ -19,12 +18,12 @@ abbrev pub compared : ℕ → ℕ → ℕ
 compared sample other = if nat_lt sample other then 0 else (if sample == other then 1 else 2)
 
 -- edgeIdx, by 2 and the signs of the differences from both neighbours
-unfoldable pub edge_index : ℕ → ℕ
-edge_index signs = if signs == 0 then 1 else (if signs == 1 then 2 else (if signs == 2 then 0 else signs))
+unfoldable pub edge_idx : ℕ → ℕ
+edge_idx signs = if signs == 0 then 1 else (if signs == 1 then 2 else (if signs == 2 then 0 else signs))
 
--- a sample with its offset, clipped to the bit depth
+-- a sample with its offset: Clip1
 unfoldable pub moved : ℕ → ℕ → ℤ → ℕ
-moved depth sample offset = unsigned_abs (int_max (pos 0) (int_min (pos sample +ℤ offset) (pos (2 ^ depth - 1))))
+moved depth sample offset = clip1 depth (pos sample +ℤ offset)
 
 -- a sample by band offset
 abbrev pub band_moved : ℕ → ℕ → List ℤ → ℕ → ℕ
@@ -34,4 +33,4 @@ band_moved depth position offsets sample =
 -- a sample by edge offset, between its two neighbours
 abbrev pub edge_moved : ℕ → List ℤ → ℕ → ℕ → ℕ → ℕ
 edge_moved depth offsets sample first second =
-    moved depth sample (offset_value depth offsets (edge_index (compared sample first + compared sample second)))
+    moved depth sample (offset_value depth offsets (edge_idx (compared sample first + compared sample second)))

@@ -7,7 +7,7 @@ use ctu_records::ComponentOffset;
 pub struct OffsetUnit {
     /// SaoTypeIdx of the component, with what belongs to it.
     pub offset: ComponentOffset,
-    /// The first coding tree unit of the slice, as a place in decoding order (SliceAddrRs, where there is one tile).
+    /// SliceAddrRs: the address of the first coding tree unit of the slice, in raster order of the picture.
     pub slice: u32,
     /// slice_loop_filter_across_slices_enabled_flag of the slice.
     pub across: bool,

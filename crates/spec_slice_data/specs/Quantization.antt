@@ -13,7 +13,8 @@ use Rattle.spec_formats.specs.Format.{◌>>=◌, give, wanted, when◌then◌els
 use Rattle.spec_slice_data.specs.Offset.{signed}
 use Rattle.spec_slice_data.specs.declared.syntax.CtuSyntax.{CtuSyntax}
 
--- a group begins at a place
+-- a group begins at a place: qPY_PRED is the mean of qPY_A and qPY_B, each of which is qPY_PREV (`last`) where the
+-- place beside the group isn't in the unit (8.6.1)
 unfoldable pub group_at : Ctu → ℕ → ℕ → Quantization
 group_at ctu x y =
     let predicted = (qp_left ctu x y + qp_above ctu x y + 1) / 2 in

@@ -2,17 +2,19 @@
 use Rattle.std.proofs.Common.{◌≡◌, ℕ, zero, suc, ◌+◌, ◌*◌, ◌<◌, ℤ, pos, neg_ℤ, ◌≤ℤ◌, ◌+ℤ◌, ◌*ℤ◌, Bool, refl, ap, arith}
 use Rattle.std.proofs.Common.{add-one}
 use Rattle.std.proofs.lemmas.Int.{ints}
+use Rattle.spec_arithmetic.specs.Rounding.{rounded}
+use Rattle.spec_arithmetic.specs.Sums.{int_sum_below}
 use Rattle.spec_transforms.specs.Matrices.{Matrix}
-use Rattle.spec_transforms.specs.Scaling.{clip16, rounded}
-use Rattle.spec_transforms.specs.Transforms.{Block, sum_below, first_stage, second_stage, residual_of, transformed}
+use Rattle.spec_transforms.specs.Scaling.{clip16}
+use Rattle.spec_transforms.specs.Transforms.{Block, first_stage, second_stage, residual_of, transformed}
 
-pub sum_more : (n : ℕ) (f : ℕ → ℤ) → sum_below (n + 1) f ≡ sum_below n f +ℤ f n
+pub sum_more : (n : ℕ) (f : ℕ → ℤ) → int_sum_below (n + 1) f ≡ int_sum_below n f +ℤ f n
 sum_more n f = rw add-one refl
 
-pub sum_same : (n : ℕ) (f g : ℕ → ℤ) → ((k : ℕ) → k < n → f k ≡ g k) → sum_below n f ≡ sum_below n g
+pub sum_same : (n : ℕ) (f g : ℕ → ℤ) → ((k : ℕ) → k < n → f k ≡ g k) → int_sum_below n f ≡ int_sum_below n g
 sum_same zero f g same = refl
 sum_same (suc n) f g same =
-    let below : sum_below n f ≡ sum_below n g = sum_same n f g (λ k l. same k (omega arith)) in
+    let below : int_sum_below n f ≡ int_sum_below n g = sum_same n f g (λ k l. same k (omega arith)) in
     let last : f n ≡ g n = same n (omega arith) in
     cc
 
@@ -20,7 +22,7 @@ sum_same (suc n) f g same =
 abbrev pub IsWithin : ℕ → ℤ → Type 0
 IsWithin b v = (neg_ℤ (pos b) ≤ℤ v) × (v ≤ℤ pos b)
 
-pub sum_within : (b n : ℕ) (f : ℕ → ℤ) → ((k : ℕ) → k < n → IsWithin b (f k)) → IsWithin (b * n) (sum_below n f)
+pub sum_within : (b n : ℕ) (f : ℕ → ℤ) → ((k : ℕ) → k < n → IsWithin b (f k)) → IsWithin (b * n) (int_sum_below n f)
 sum_within b zero f each = (omega (arith, ints), omega (arith, ints))
 sum_within b (suc n) f each =
     let below = sum_within b n f (λ k l. each k (omega arith)) in

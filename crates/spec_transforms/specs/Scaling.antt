@@ -1,19 +1,16 @@
 -- Scaling of transform coefficient levels (8.6.3).
 use Rattle.std.specs.Prelude.{ℕ, ◌+◌, ◌-◌, ◌*◌, ◌/◌, ◌%◌, ◌^◌, ◌≤◌, ℤ, pos, negsuc, ◌+ℤ◌, ◌*ℤ◌, ◌≤ℤ◌, slice_index}
-use Rattle.std.specs.Int.{int_shr, int_min, int_max}
+use Rattle.spec_arithmetic.specs.Clipping.{clip3}
+use Rattle.spec_arithmetic.specs.Rounding.{rounded}
 use Rattle.spec_transforms.specs.declared.level_scale.TheConstants.{LEVEL_SCALE}
 
 -- a signed number of 16 bits: what levels, scaled coefficients and what is between the stages of a transform are
 abbrev pub Is16 : ℤ → Type 0
 Is16 v = (negsuc 32767 ≤ℤ v) × (v ≤ℤ pos 32767)
 
--- Clip3(-32768, 32767, v)
+-- Clip3( -32768, 32767, v )
 abbrev pub clip16 : ℤ → ℤ
-clip16 v = int_max (negsuc 32767) (int_min v (pos 32767))
-
--- a sum, in units of 2^-shift, to the nearest whole number
-abbrev pub rounded : ℕ → ℤ → ℤ
-rounded shift v = int_shr (v +ℤ pos (2 ^ (shift - 1))) shift
+clip16 v = clip3 (negsuc 32767) (pos 32767) v
 
 -- levelScale[qP % 6] << (qP / 6)
 unfoldable pub quantizer : ℕ → ℕ

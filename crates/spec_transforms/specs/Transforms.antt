@@ -1,7 +1,9 @@
 -- Residuals from scaled coefficients: the transformation process, and transform skip (8.6.2, 8.6.4).
 use Rattle.std.specs.Prelude.{ℕ, zero, suc, ◌+◌, ◌-◌, ◌*◌, Bool, ℤ, pos, negsuc, ◌+ℤ◌, ◌*ℤ◌, ◌≤ℤ◌, List}
+use Rattle.spec_arithmetic.specs.Rounding.{rounded}
+use Rattle.spec_arithmetic.specs.Sums.{int_sum_below}
 use Rattle.spec_transforms.specs.Matrices.{Matrix, at, entry}
-use Rattle.spec_transforms.specs.Scaling.{clip16, rounded}
+use Rattle.spec_transforms.specs.Scaling.{clip16}
 
 -- the values of a block by column and row
 abbrev pub Block : Type 0
@@ -11,18 +13,13 @@ Block = ℕ → ℕ → ℤ
 abbrev pub block_in : ℕ → List ℤ → Block
 block_in size values x y = at values (size * y + x)
 
--- the sum of f k over the k below n
-abbrev pub sum_below : ℕ → (ℕ → ℤ) → ℤ
-sum_below zero f = pos 0
-sum_below (suc n) f = sum_below n f +ℤ f n
-
 -- the first stage: each column of coefficients is transformed, rounded and held to 16 bits
 unfoldable pub first_stage : Matrix → ℕ → Block → Block
-first_stage matrix size d x y = clip16 (rounded 7 (sum_below size (λ k. matrix k y *ℤ d x k)))
+first_stage matrix size d x y = clip16 (rounded 7 (int_sum_below size (λ k. matrix k y *ℤ d x k)))
 
 -- the second stage: each row of what the first gave is transformed
 unfoldable pub second_stage : Matrix → ℕ → Block → Block
-second_stage matrix size g x y = sum_below size (λ k. matrix k x *ℤ g k y)
+second_stage matrix size g x y = int_sum_below size (λ k. matrix k x *ℤ g k y)
 
 -- bdShift of residuals is 20 - BitDepth (8.6.2)
 abbrev pub residual_of : ℕ → ℤ → ℤ

@@ -1,5 +1,5 @@
 use Rattle.std.proofs.Common.{◌≡◌, ◌≤◌, ◌*◌}
-use Rattle.spec_intra_prediction.specs.PlanarDc.{sum_below}
+use Rattle.spec_arithmetic.specs.Sums.{sum_below}
 use Rattle.spec_intra_prediction.specs.Neighbours.{left_at, above_at}
 use Rattle.intra_pred.proofs.planar_dc.mean_beside.Given as goal
 

@@ -1,13 +1,13 @@
 use Rattle.std.proofs.Common.{◌≡◌, ℕ, ◌+◌, ◌*◌, ◌<◌, ◌*ℤ◌}
+use Rattle.spec_arithmetic.specs.Sums.{int_sum_below}
 use Rattle.spec_transforms.specs.Matrices.{at, matrix_in}
-use Rattle.spec_transforms.specs.Transforms.{sum_below}
 use Rattle.residual_transform.proofs.halves.half_sums.Given as goal
 
 abbrev pub invariant-loop-k : goal.invariant-loop-k
 invariant-loop-k g l = record {
   told : (j : ℕ) → j < g.row.HALF
       → at l.sums j
-      ≡ sum_below l.k
+      ≡ int_sum_below l.k
       (λ k. matrix_in l.matrix.entries.now l.matrix.stride (2 * k + l.first) j
       *ℤ at l.values (g.row.SIZE * (2 * k + l.first) + l.column));
 }

@@ -1,7 +1,8 @@
 use Rattle.std.proofs.Common.{◌≡◌, ℕ, ◌+◌, ◌<◌, length}
 use Rattle.std.specs.List.{All}
+use Rattle.spec_arithmetic.specs.Rounding.{rounded}
 use Rattle.spec_transforms.specs.Matrices.{at}
-use Rattle.spec_transforms.specs.Scaling.{Is16, clip16, rounded}
+use Rattle.spec_transforms.specs.Scaling.{Is16, clip16}
 use Rattle.residual_transform.proofs.stages.store_held.Given as goal
 
 abbrev pub invariant-loop-j : goal.invariant-loop-j

@@ -1,8 +1,9 @@
 use Rattle.std.proofs.Common.{ℕ, ◌≡◌, ◌+◌, ◌*◌, ◌<◌, ◌*ℤ◌, ◌∙◌, ap, ℤ, pos, arith, below_more}
 use Rattle.std.proofs.lemmas.Nat.{rows}
 use Rattle.std.proofs.lemmas.List.Elements.{All-from_get_or}
+use Rattle.spec_arithmetic.specs.Sums.{int_sum_below}
 use Rattle.spec_transforms.specs.Matrices.{matrix_in}
-use Rattle.spec_transforms.specs.Transforms.{IsResidual, block_in, residual_of, sum_below}
+use Rattle.spec_transforms.specs.Transforms.{IsResidual, block_in, residual_of}
 use Rattle.residual_transform.proofs.Bounds.{one_more_line}
 use Rattle.residual_transform.proofs.stages.transform_rows.Goals as goal
 
@@ -11,7 +12,7 @@ loop-line-preserved g c = record {
   told = λ x y inside h. below_more
       (λ y. (x : ℕ) → x < g.row.SIZE
       → block_in g.row.SIZE c.store_residuals.new.out x y
-      ≡ residual_of c.args.depth (sum_below c.args.columns
+      ≡ residual_of c.args.depth (int_sum_below c.args.columns
       (λ k. matrix_in c.args.matrix.now.entries.now c.args.matrix.now.stride k x *ℤ block_in g.row.SIZE c.args.g.now y k)))
       c.loop-line.line
       (λ k below x inside.

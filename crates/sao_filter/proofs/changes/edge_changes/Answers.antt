@@ -3,7 +3,7 @@ use Rattle.std.proofs.Common.{◌∙◌}
 use Rattle.std.proofs.lemmas.Int.{to_z-of_z}
 use mir.Syntax.{w16}
 use Rattle.std.proofs.lemmas.Grind.{common_steps}
-use Rattle.spec_sample_adaptive_offset.specs.Offsets.{edge_index, offset_value}
+use Rattle.spec_sample_adaptive_offset.specs.Offsets.{edge_idx, offset_value}
 use Rattle.sao_filter.proofs.Laid.{table_more}
 use Rattle.sao_filter.proofs.changes.edge_changes.Goals as goal
 
@@ -17,6 +17,6 @@ loop-k-preserved c =
       length = grind (arith, common_steps, c.loop-k.invariant.length);
       told =
           table_more c.loop-k.table c.loop-k.k c.offset_value.result (to_z w16 (of_z w16 c.offset_value.result))
-          (λ (q : ℕ). offset_value c.args.depth c.args.offsets.now (edge_index q)) room
+          (λ (q : ℕ). offset_value c.args.depth c.args.offsets.now (edge_idx q)) room
           (to_z-of_z w16 c.offset_value.result (search rules)) is c.loop-k.invariant.told;
     }

@@ -1,0 +1,3 @@
+pub mod Clipping
+pub mod Rounding
+pub mod Sums
