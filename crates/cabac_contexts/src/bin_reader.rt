@@ -3,7 +3,7 @@
 ghost use Rattle.std.specs.Prelude.{◌≡◌, ◌+◌, ◌^◌, ◌<◌, ◌≤◌, IfOk, false};
 ghost use Rattle.spec_cabac.specs.Engine.{IsLive};
 ghost use Rattle.spec_cabac.specs.Bins.{decision, bypass, terminate, pcm_start, sample, pcm_end, fixed, ones};
-ghost use Rattle.spec_cabac.specs.Bins.{exp_golomb};
+ghost use Rattle.spec_cabac.specs.Bins.{exp_golomb, truncated};
 ghost use Rattle.cabac_contexts.specs.Takes.{Reaches, Takes};
 
 use crate::contexts::Contexts;
@@ -91,6 +91,21 @@ impl<'a> BinReader<'a> {
         ensures small { IfOk result (λ value. value < 2 ^ n) }
     {
         self.interval.bypass_bins(n).ok_or(DATA_END)
+    }
+
+    /// A number up to a greatest one by TR binarization without a suffix (9.3.3.2): how many bypass bins are 1 before
+    /// the first 0.
+    pub fn truncated(&mut self, greatest: u32) -> Result<u32, Breach>
+        requires { IsLive self.old.interval }
+        ensures value { Takes (λ x. x) result self.old self.new (truncated (λ i. bypass) greatest) }
+        ensures small { IfOk result (λ n. n ≤ greatest) }
+    {
+        for n in 0..greatest {
+            if !self.bypass()? {
+                return Ok(n);
+            }
+        }
+        Ok(greatest)
     }
 
     /// How many bypass bins are 1 before the first 0; the breach where 32 are.

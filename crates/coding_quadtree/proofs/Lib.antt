@@ -1,4 +1,3 @@
-pub mod Growth
 pub mod Offsets
 pub mod Powers
 pub mod Sides

@@ -4,7 +4,6 @@
 
 mod beside;
 mod bins;
-mod coded_block;
 mod ctu;
 mod ends;
 mod judge;
@@ -14,9 +13,7 @@ mod motion;
 mod offset;
 mod part_mode;
 mod quadtree;
-mod quantization;
 mod squares;
-mod transform;
 mod unit;
 mod unit_place;
 mod unit_start;

@@ -8,15 +8,14 @@ ghost use Rattle.spec_slice_data.specs.Modes.{listed_mode, luma_block, luma_bloc
 ghost use Rattle.spec_slice_data.specs.Modes.{luma_quarters, luma_whole, prev_intra_luma_pred_flag, passed, remaining};
 ghost use Rattle.spec_slice_data.specs.Modes.{third_candidate};
 ghost use Rattle.cabac_contexts.specs.Takes.{Takes};
-ghost use Rattle.coding_quadtree.specs.Leaves.{Fills, Grows};
+ghost use Rattle.transform_tree.specs.Leaves.{Fills, Grows};
 
-use crate::bins::truncated;
-use crate::squares::{lower_left, lower_right, upper_left, upper_right};
 use cabac_contexts::BinReader;
 use ctu_records::{LumaMode, Records, Square};
 use hv_base::Breach;
 use spec_cabac::{INTRA_CHROMA_PRED_MODE, PREV_INTRA_LUMA_PRED_FLAG};
 use spec_slice_data::Candidates;
+use transform_tree::{lower_left, lower_right, upper_left, upper_right};
 
 /// The first of planar, DC and vertical that is neither of two others.
 #[tactic(auto, unfolding(spec_slice_data::specs::Modes::third_candidate))]
@@ -99,7 +98,7 @@ fn luma_mode(reader: &mut BinReader<'_>, most_probable: bool, c: Candidates) -> 
     ensures { Takes (λ x. x) result reader.old reader.new (luma_mode most_probable c) }
 {
     if most_probable {
-        let index = truncated(reader, 2)?;
+        let index = reader.truncated(2)?;
         Ok(candidate(c, index))
     } else {
         let rem = reader.fixed(5)?;
@@ -108,7 +107,7 @@ fn luma_mode(reader: &mut BinReader<'_>, most_probable: bool, c: Candidates) -> 
 }
 
 /// A prediction block.
-#[tactic(auto, unfolding(spec_slice_data::specs::Modes::luma_block), using(crate::proofs::Powers::some_places))]
+#[tactic(auto, unfolding(spec_slice_data::specs::Modes::luma_block), using(transform_tree::proofs::Powers::some_places))]
 fn luma_block(
     reader: &mut BinReader<'_>,
     records: &mut Records,

@@ -7,7 +7,7 @@ ghost use Rattle.spec_cabac.specs.Engine.{IsLive};
 ghost use Rattle.spec_slice_data.specs.Inter.{is_merged, last_two, later_parts, merge_idx, merged, motion, part_count};
 ghost use Rattle.spec_slice_data.specs.Inter.{prediction_unit, rqt_root_cbf, with_part};
 ghost use Rattle.cabac_contexts.specs.Takes.{Takes};
-ghost use Rattle.coding_quadtree.specs.Leaves.{Fills, Grows};
+ghost use Rattle.transform_tree.specs.Leaves.{Fills, Grows};
 
 use crate::bins::merge_idx;
 use crate::vectors::vectors;

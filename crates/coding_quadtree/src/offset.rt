@@ -1,18 +1,18 @@
 //! sao (7.3.8.3).
 
-ghost use Rattle.std.specs.Prelude.{◌≡◌, ◌≤◌, ◌<◌, IfOk};
+ghost use Rattle.std.specs.Prelude.{◌≡◌, ◌≤◌, IfOk};
 ghost use Rattle.spec_cabac.specs.Engine.{IsLive};
 ghost use Rattle.spec_slice_data.specs.Offset.{band, band_offset, class_of, class_where, edge, kind_of, like_component};
 ghost use Rattle.spec_slice_data.specs.Offset.{merge_flag, offsets, own_component, own_sao, sao, sao_offset_abs};
-ghost use Rattle.spec_slice_data.specs.Offset.{sao_or_above, sao_type_idx, signed};
+ghost use Rattle.spec_slice_data.specs.Offset.{sao_or_above, sao_type_idx};
 ghost use Rattle.cabac_contexts.specs.Takes.{Takes};
 
-use crate::bins::truncated;
 use cabac_contexts::BinReader;
 use ctu_records::{ComponentOffset, Sao};
 use hv_base::Breach;
 use spec_cabac::{SAO_MERGE_FLAG, SAO_TYPE_IDX};
 use spec_slice_data::CtuSyntax;
+use transform_tree::signed;
 
 /// sao_offset_abs.
 #[tactic(auto, unfolding(spec_slice_data::specs::Offset::sao_offset_abs))]
@@ -21,16 +21,7 @@ fn sao_offset_abs(reader: &mut BinReader<'_>) -> Result<u32, Breach>
     ensures value { Takes (λ x. x) result reader.old reader.new sao_offset_abs }
     ensures small { IfOk result (λ n. n ≤ 7) }
 {
-    truncated(reader, 7)
-}
-
-/// A small number by its size and whether it is negative.
-#[tactic(auto, unfolding(spec_slice_data::specs::Offset::signed))]
-pub fn signed(size: u32, negative: bool) -> i8
-    requires { size ≤ 100 }
-    ensures { result ≡ signed size negative }
-{
-    if negative { -(size as i8) } else { size as i8 }
+    reader.truncated(7)
 }
 
 /// An offset of band offset.

@@ -6,12 +6,11 @@ ghost use Rattle.spec_cabac.specs.Engine.{IsLive};
 ghost use Rattle.spec_slice_data.specs.Syntax.{IsSyntax};
 ghost use Rattle.spec_slice_data.specs.Tree.{coding_quadtree, coding_tree_unit, deeper, split_cu_flag};
 ghost use Rattle.cabac_contexts.specs.Takes.{Takes};
-ghost use Rattle.coding_quadtree.specs.Leaves.{Fills, Grows};
-ghost use Rattle.coding_quadtree.specs.Quarters.{in_quarters};
+ghost use Rattle.transform_tree.specs.Leaves.{Fills, Grows};
+ghost use Rattle.transform_tree.specs.Quarters.{in_quarters};
 
 use crate::offset::sao;
-use crate::quantization::begin_group;
-use crate::squares::{lower_left, lower_right, side, upper_left, upper_right};
+use crate::squares::side;
 use crate::unit::coding_unit;
 use cabac_contexts::BinReader;
 use ctu_records::{Records, Sao, Square};
@@ -19,6 +18,7 @@ use hv_base::Breach;
 use residual_syntax::Levels;
 use spec_cabac::SPLIT_CU_FLAG;
 use spec_slice_data::CtuSyntax;
+use transform_tree::{begin_group, lower_left, lower_right, upper_left, upper_right};
 
 /// How many of the places on the left and above are deeper.
 #[tactic(auto, unfolding(spec_slice_data::specs::Tree::deeper))]
@@ -34,7 +34,7 @@ fn deeper(records: &Records, depth: u8, x: u8, y: u8) -> usize
 }
 
 /// split_cu_flag, or what it is taken to be.
-#[tactic(auto, unfolding(spec_slice_data::specs::Tree::split_cu_flag), using(crate::proofs::Powers::some_places))]
+#[tactic(auto, unfolding(spec_slice_data::specs::Tree::split_cu_flag), using(transform_tree::proofs::Powers::some_places))]
 fn split_cu_flag(
     reader: &mut BinReader<'_>,
     records: &Records,
@@ -61,7 +61,7 @@ fn split_cu_flag(
 
 /// A block of the coding quadtree.
 #[cycle(blocks)]
-#[tactic(auto, using(crate::proofs::Powers::some_places))]
+#[tactic(auto, using(transform_tree::proofs::Powers::some_places))]
 pub fn coding_quadtree(
     reader: &mut BinReader<'_>,
     records: &mut Records,

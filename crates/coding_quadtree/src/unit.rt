@@ -9,21 +9,20 @@ ghost use Rattle.spec_slice_data.specs.Tree.{intra_syntax, intra_unit, is_split,
 ghost use Rattle.spec_slice_data.specs.Tree.{pcm_samples, pcm_unit, skipped_unit, unit_body, unit_tree};
 ghost use Rattle.cabac_contexts.specs.Takes.{Reaches, Takes, state_of};
 ghost use Rattle.spec_cabac.specs.Bins.{read};
-ghost use Rattle.coding_quadtree.specs.Leaves.{Fills, Grows, Leaves};
+ghost use Rattle.transform_tree.specs.Leaves.{Fills, Grows, Leaves};
 
-use crate::coded_block::UnitContext;
 use crate::modes::{chroma_modes, luma_modes};
 use crate::motion::{add_part, later_parts, merged, motion, part_count, rqt_root_cbf};
 use crate::part_mode::part_mode;
 use crate::squares::area;
-use crate::transform::{TransformNode, transform_tree};
 use crate::unit_start::unit_start;
 use cabac_contexts::BinReader;
 use ctu_records::{CodingUnit, Item, PartMode, Quantization, Records, Square, part_block};
 use hv_base::Breach;
 use residual_syntax::Levels;
 use spec_cabac::PART_MODE;
-use spec_slice_data::{ChromaFlags, CtuSyntax, PcmSyntax, UnitStart, UnitSyntax};
+use spec_slice_data::{CtuSyntax, PcmSyntax, UnitStart, UnitSyntax};
+use transform_tree::unit_tree;
 
 /// A sample of pulse code modulation.
 #[tactic(auto, using(crate::proofs::Powers::few_bits))]
@@ -134,36 +133,8 @@ fn begin_unit(records: &mut Records, start: &UnitStart)
     });
 }
 
-/// The transform tree of a coding unit.
-#[tactic(auto, using(crate::proofs::Powers::some_places))]
-fn unit_tree(
-    reader: &mut BinReader<'_>,
-    records: &mut Records,
-    levels: &mut Levels,
-    syntax: &CtuSyntax,
-    unit: UnitSyntax,
-) -> Result<(), Breach>
-    requires live { IsLive reader.old.interval }
-    requires syntax { IsSyntax syntax.now }
-    requires placed { IsPlaced unit.square }
-    requires room { length records.old.items + 56 * 4 ^ unit.square.log2_size ≤ room }
-    ensures value { Fills result records.new reader.old reader.new (unit_tree syntax.now unit records.old) }
-    ensures room { Grows result records.old records.new (56 * 4 ^ unit.square.log2_size) }
-{
-    let of = UnitContext {
-        syntax: *syntax,
-        unit,
-    };
-    let root = TransformNode {
-        flags: ChromaFlags { cb: true, cr: true },
-        square: unit.square,
-        depth: 0,
-    };
-    transform_tree(reader, records, levels, &of, root)
-}
-
 /// The modes and the transform tree of an intra coding unit.
-#[tactic(auto, unfolding(spec_slice_data::specs::Tree::intra_unit), using(crate::proofs::Powers::some_places))]
+#[tactic(auto, unfolding(spec_slice_data::specs::Tree::intra_unit), using(transform_tree::proofs::Powers::some_places))]
 fn intra_unit(
     reader: &mut BinReader<'_>,
     records: &mut Records,
@@ -195,7 +166,7 @@ fn intra_unit(
 }
 
 /// An intra coding unit.
-#[tactic(auto, unfolding(spec_slice_data::specs::Tree::intra_body), using(crate::proofs::Powers::some_area))]
+#[tactic(auto, unfolding(spec_slice_data::specs::Tree::intra_body), using(transform_tree::proofs::Powers::some_area))]
 fn intra_body(
     reader: &mut BinReader<'_>,
     records: &mut Records,
@@ -316,7 +287,7 @@ fn inter_unit(
 }
 
 /// A coding unit behind pred_mode_flag.
-#[tactic(auto, using(crate::proofs::Powers::some_area))]
+#[tactic(auto, using(transform_tree::proofs::Powers::some_area))]
 fn unit_body(
     reader: &mut BinReader<'_>,
     records: &mut Records,
@@ -343,7 +314,7 @@ fn unit_body(
 }
 
 /// A coding unit.
-#[tactic(auto, unfolding(spec_slice_data::specs::Tree::coding_unit), using(crate::proofs::Powers::some_area))]
+#[tactic(auto, unfolding(spec_slice_data::specs::Tree::coding_unit), using(transform_tree::proofs::Powers::some_area))]
 pub fn coding_unit(
     reader: &mut BinReader<'_>,
     records: &mut Records,

@@ -77,7 +77,7 @@ fn pred_mode_flag(
 }
 
 /// What a coding unit begins with.
-#[tactic(auto, unfolding(spec_slice_data::specs::Tree::unit_start), using(crate::proofs::Powers::some_places))]
+#[tactic(auto, unfolding(spec_slice_data::specs::Tree::unit_start), using(transform_tree::proofs::Powers::some_places))]
 pub fn unit_start(
     reader: &mut BinReader<'_>,
     records: &Records,

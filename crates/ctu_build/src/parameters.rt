@@ -7,11 +7,11 @@ ghost use Rattle.spec_reconstruction.specs.Factors.{factor, first_factor};
 ghost use Rattle.spec_reconstruction.specs.Parameters.{depth_of, depth_offset, chroma_offset, chroma_parameter};
 ghost use Rattle.spec_reconstruction.specs.Parameters.{offset_parameter, parameter_of};
 ghost use Rattle.spec_reconstruction.specs.Residuals.{factors_of};
-ghost use Rattle.spec_slice_data.specs.Quantization.{chroma_qp_of_index};
 ghost use Rattle.spec_transforms.specs.Scaling.{IsDepth, IsParameter};
 ghost use Rattle.spec_reconstruction.specs.Sound.{IsFormat};
 
 use spec_reconstruction::{ScalingFactors, UnitFormat, UnitMode};
+use spec_slice_data::chroma_qp_of_index;
 
 /// The bit depth of a component.
 pub(crate) fn depth_of(format: &UnitFormat, c: u8) -> u32
@@ -107,24 +107,6 @@ fn offset_parameter(offset: u32, index: i32) -> u32
         offset.saturating_sub(size)
     } else {
         chroma_qp_of_index(size) + offset
-    }
-}
-
-/// QpC by qPi.
-#[tactic(auto, unfolding(spec_slice_data::specs::Quantization::chroma_qp_of_index))]
-fn chroma_qp_of_index(index: u32) -> u32
-    requires { index ≤ 57 }
-    ensures value { result ≡ chroma_qp_of_index index }
-    ensures range { result ≤ 51 }
-{
-    match index {
-        0..=29 => index,
-        30..=34 => index - 1,
-        35..=36 => index - 2,
-        37..=38 => index - 3,
-        39..=40 => index - 4,
-        41..=42 => index - 5,
-        _ => index - 6,
     }
 }
 

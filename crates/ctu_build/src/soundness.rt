@@ -5,6 +5,7 @@ ghost use Rattle.spec_reconstruction.specs.Sound.{IsCoded, IsSquare};
 ghost use Rattle.spec_slice_data.specs.Residual.{samples_of_place};
 
 use ctu_records::{CodedBlock, Square};
+use inter_samples::samples_of_place;
 
 /// Whether so many samples or places from one on are among the first of them.
 fn lies_inside(first: u32, log2: u8, all: u32) -> bool
@@ -23,14 +24,6 @@ pub(crate) fn is_square(square: Square) -> bool
     square.log2_size <= 3
         && lies_inside(u32::from(square.x), square.log2_size, 16)
         && lies_inside(u32::from(square.y), square.log2_size, 16)
-}
-
-/// How many samples a place has on a side in a component.
-fn samples_of_place(c: u8) -> u32
-    ensures value { result ≡ samples_of_place c }
-    ensures few { result ≤ 4 }
-{
-    if c == 0 { 4 } else { 2 }
 }
 
 /// Whether a coded block lies in the greatest unit.

@@ -1,7 +1,6 @@
 //! The thresholds of an edge (8.7.2.5.3, 8.7.2.5.5).
 
 ghost use Rattle.std.specs.Prelude.{◌≡◌, ◌<◌, ◌≤◌, ◌+◌, ◌*◌, ◌-◌, ◌^◌, ℕ, ℤ, pos, negsuc, ◌+ℤ◌, ◌-ℤ◌, ◌*ℤ◌, ◌≤ℤ◌};
-ghost use Rattle.spec_slice_data.specs.Quantization.{chroma_qp_of_index};
 ghost use Rattle.spec_arithmetic.specs.Clipping.{clip3_from_zero};
 ghost use Rattle.spec_deblocking.specs.Thresholds.{mean_qp, chroma_qp, edge_qp, beta_index, tc_index, beta};
 ghost use Rattle.spec_deblocking.specs.Thresholds.{tc};
@@ -9,6 +8,7 @@ ghost use Rattle.std.specs.Int.{int_shr};
 ghost use Rattle.deblock.specs.Samples.{IsDepth, IsFew};
 
 use spec_deblocking::{BETA, Place, Plane, TC};
+use spec_slice_data::chroma_qp_of_index;
 
 /// Clip3 of a number, where the least is 0.
 #[inline(always)]
@@ -70,23 +70,6 @@ fn mean_qp(p: &Place, q: &Place) -> i32
     ensures greatest { result ≤ℤ pos 127 }
 {
     half(sum(sum(widened(p.qp_y), widened(q.qp_y)), 1))
-}
-
-/// QpC by qPi from 0 on.
-#[tactic(auto, unfolding(spec_slice_data::specs::Quantization::chroma_qp_of_index))]
-fn chroma_qp_of_index(index: u32) -> u32
-    ensures value { result ≡ chroma_qp_of_index index }
-    ensures few { result ≤ index }
-{
-    match index {
-        0..=29 => index,
-        30..=34 => index - 1,
-        35..=36 => index - 2,
-        37..=38 => index - 3,
-        39..=40 => index - 4,
-        41..=42 => index - 5,
-        _ => index - 6,
-    }
 }
 
 /// QpC by qPi.

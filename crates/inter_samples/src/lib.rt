@@ -11,4 +11,5 @@ mod weights;
 
 pub use component::predict;
 pub use inter::UnitInter;
+pub use place::samples_of_place;
 pub use scratch::InterScratch;

@@ -24,8 +24,8 @@ pub fn depth_of(format: &UnitFormat, c: u8) -> u32
     })
 }
 
-/// How many samples of a component a place has on a side.
-fn samples_of_place(c: u8) -> u32
+/// How many samples of a component a place has on a side (6.2).
+pub fn samples_of_place(c: u8) -> u32
     ensures value { result ≡ samples_of_place c }
     ensures high { result ≤ 4 }
 {

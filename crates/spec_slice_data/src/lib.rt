@@ -2,10 +2,12 @@
 //! unit in reading order, and what follows them. Each element is a format over bins.
 #![tactic(auto)]
 
+mod chroma_parameter;
 mod laws;
 mod modes;
 mod syntax;
 
+pub use chroma_parameter::chroma_qp_of_index;
 pub use laws::{
     chroma_parameters_are_tabled, coding_tree_unit_is_spelled, slice_segment_data_are_spelled,
 };

@@ -1,6 +1,6 @@
 use Rattle.std.proofs.Common.{rules, ◌<◌, arith}
-use Rattle.coding_quadtree.proofs.Growth.{at_most}
-use Rattle.coding_quadtree.proofs.Powers.{quarters}
+use Rattle.transform_tree.proofs.Growth.{at_most}
+use Rattle.transform_tree.proofs.Powers.{quarters}
 use Rattle.coding_quadtree.proofs.Trees.{quadtree_some}
 use Rattle.coding_quadtree.proofs.quadtree.+blocks.Goals as goal
 

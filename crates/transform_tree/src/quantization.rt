@@ -3,16 +3,17 @@
 ghost use Rattle.std.specs.Prelude.{◌≡◌, ℕ, ◌+◌, ◌-◌, ◌*◌, ◌/◌, ◌^◌, ◌<◌, ◌≤◌, true, length, IfOk};
 ghost use Rattle.ctu_records.specs.Tree.{IsPlaced, room};
 ghost use Rattle.spec_cabac.specs.Engine.{IsLive};
-ghost use Rattle.spec_slice_data.specs.Quantization.{cu_qp_delta, cu_qp_delta_abs, delta_where, group_at, grouped};
-ghost use Rattle.spec_slice_data.specs.Quantization.{is_delta, qp_of};
+ghost use Rattle.spec_cabac.specs.Bins.{truncated};
+ghost use Rattle.spec_slice_data.specs.Quantization.{cu_qp_delta, cu_qp_delta_abs, delta_bin, delta_where, group_at};
+ghost use Rattle.spec_slice_data.specs.Quantization.{grouped, is_delta, qp_of};
 ghost use Rattle.cabac_contexts.specs.Takes.{Takes};
-ghost use Rattle.coding_quadtree.specs.Leaves.{Fills, Grows};
+ghost use Rattle.transform_tree.specs.Leaves.{Fills, Grows};
 
-use crate::bins::delta_prefix;
-use crate::offset::signed;
+use crate::sign::signed;
 use cabac_contexts::BinReader;
 use ctu_records::{QpDelta, Quantization, Records, Square};
 use hv_base::{Breach, FaultKind};
+use spec_cabac::CU_QP_DELTA_ABS;
 use spec_slice_data::CtuSyntax;
 
 const OUT_OF_RANGE: Breach = Breach::Fault(FaultKind::QpRange);
@@ -35,7 +36,8 @@ fn group_at(records: &Records, x: u8, y: u8) -> Quantization
     }
 }
 
-/// A block of the coding quadtree that is no smaller than a group begins one.
+/// A block of the coding quadtree that is no smaller than a quantization group begins one (7.3.8.4, 8.6.1): with it
+/// its parameter is predicted.
 #[tactic(auto, unfolding(spec_slice_data::specs::Quantization::grouped))]
 pub fn begin_group(records: &mut Records, syntax: &CtuSyntax, square: Square)
     requires x { square.x < 16 }
@@ -47,6 +49,32 @@ pub fn begin_group(records: &mut Records, syntax: &CtuSyntax, square: Square)
         let group = group_at(records, square.x, square.y);
         records.set_quantization(group);
     }
+}
+
+/// A bin of the prefix of cu_qp_delta_abs.
+fn delta_bin(reader: &mut BinReader<'_>, i: u32) -> Result<bool, Breach>
+    requires { IsLive reader.old.interval }
+    ensures { Takes (λ x. x) result reader.old reader.new (delta_bin i) }
+{
+    if i == 0 {
+        reader.decision(CU_QP_DELTA_ABS)
+    } else {
+        reader.decision(CU_QP_DELTA_ABS + 1)
+    }
+}
+
+/// The prefix of cu_qp_delta_abs, whose first bin has a context of its own.
+fn delta_prefix(reader: &mut BinReader<'_>) -> Result<u32, Breach>
+    requires { IsLive reader.old.interval }
+    ensures value { Takes (λ x. x) result reader.old reader.new (truncated delta_bin 5) }
+    ensures small { IfOk result (λ n. n ≤ 5) }
+{
+    for i in 0..5u32 {
+        if !delta_bin(reader, i)? {
+            return Ok(i);
+        }
+    }
+    Ok(5)
 }
 
 /// cu_qp_delta_abs.

@@ -1,5 +1,5 @@
 use Rattle.std.proofs.Common.{◌-◌, ◌*◌}
-use Rattle.coding_quadtree.proofs.transform.+trees.Given as goal
+use Rattle.transform_tree.proofs.tree.+trees.Given as goal
 
 abbrev pub decreases-transform_tree : goal.decreases-transform_tree
 decreases-transform_tree l = 2 * l.node.square.log2_size

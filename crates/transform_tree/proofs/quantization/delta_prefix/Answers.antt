@@ -3,7 +3,7 @@ use Rattle.std.proofs.lemmas.Result.{err_from_is_err_and}
 use Rattle.spec_formats.specs.Format.{give}
 use Rattle.spec_slice_data.specs.Quantization.{delta_bin}
 use Rattle.spec_cabac.proofs.Prefix.{unary_goes_on, unary_stops, unary_ends, unary_over}
-use Rattle.coding_quadtree.proofs.bins.delta_prefix.Goals as goal
+use Rattle.transform_tree.proofs.quantization.delta_prefix.Goals as goal
 
 pub returns-in_err-delta_bin-clause-value : goal.returns-in_err-delta_bin-clause-value
 returns-in_err-delta_bin-clause-value c =

@@ -1,8 +1,8 @@
 use Rattle.std.proofs.Common.{◌≡◌, rules, ◌<◌, arith}
-use Rattle.coding_quadtree.proofs.Growth.{at_most}
-use Rattle.coding_quadtree.proofs.Powers.{quarters, some_area}
-use Rattle.coding_quadtree.proofs.Trees.{tree_none, tree_some}
-use Rattle.coding_quadtree.proofs.transform.+trees.Goals as goal
+use Rattle.transform_tree.proofs.Growth.{at_most}
+use Rattle.transform_tree.proofs.Powers.{quarters, some_area}
+use Rattle.transform_tree.proofs.Trees.{tree_none, tree_some}
+use Rattle.transform_tree.proofs.tree.+trees.Goals as goal
 
 pub transform_tree-returns-then-square-eq0-clause-value : goal.transform_tree-returns-then-square-eq0-clause-value
 transform_tree-returns-then-square-eq0-clause-value t c =

@@ -6,14 +6,15 @@ ghost use Rattle.spec_cabac.specs.Engine.{IsLive};
 ghost use Rattle.spec_slice_data.specs.Residual.{coded_block, residual_block, scan_of, scan_of_mode, with_level};
 ghost use Rattle.spec_slice_data.specs.Residual.{with_residual};
 ghost use Rattle.spec_slice_data.specs.Transform.{block_where};
-ghost use Rattle.coding_quadtree.specs.Leaves.{Fills, Grows};
+ghost use Rattle.transform_tree.specs.Leaves.{Fills, Grows};
 
+use crate::node::UnitContext;
 use block_geometry::Scan;
 use cabac_contexts::BinReader;
 use ctu_records::{CodedBlock, Item, Records};
 use hv_base::Breach;
 use residual_syntax::{Level, Levels, ResidualBlock, read_residual};
-use spec_slice_data::{CtuSyntax, TransformBlock, UnitSyntax};
+use spec_slice_data::{TransformBlock, UnitSyntax};
 
 /// scanIdx by an intra mode.
 #[tactic(auto, unfolding(spec_slice_data::specs::Residual::scan_of_mode))]
@@ -39,15 +40,6 @@ fn scan_of(unit: &UnitSyntax, block: TransformBlock) -> Scan
     } else {
         Scan::Diagonal
     }
-}
-
-/// What the transform tree of a coding unit depends on.
-#[derive(Clone, Copy)]
-pub struct UnitContext {
-    /// What all elements of the coding tree unit depend on.
-    pub syntax: CtuSyntax,
-    /// What is known of the coding unit.
-    pub unit: UnitSyntax,
 }
 
 /// What residual_coding of a block depends on.

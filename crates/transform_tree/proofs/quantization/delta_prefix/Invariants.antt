@@ -4,7 +4,7 @@ use Rattle.spec_cabac.specs.Engine.{IsLive}
 use Rattle.spec_cabac.specs.Bins.{read, unary, truncated}
 use Rattle.spec_slice_data.specs.Quantization.{delta_bin}
 use Rattle.cabac_contexts.specs.Takes.{state_of}
-use Rattle.coding_quadtree.proofs.bins.delta_prefix.Given as goal
+use Rattle.transform_tree.proofs.quantization.delta_prefix.Given as goal
 
 abbrev pub invariant-loop-i : goal.invariant-loop-i
 invariant-loop-i l = record {

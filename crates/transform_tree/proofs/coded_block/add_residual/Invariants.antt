@@ -2,7 +2,7 @@
 use Rattle.std.proofs.Common.{◌≡◌, ◌+◌, take, length}
 use Rattle.std.specs.Prelude.{fold}
 use Rattle.spec_slice_data.specs.Residual.{with_level}
-use Rattle.coding_quadtree.proofs.coded_block.add_residual.Given as goal
+use Rattle.transform_tree.proofs.coded_block.add_residual.Given as goal
 
 abbrev pub invariant-loop-level : goal.invariant-loop-level
 invariant-loop-level l =
