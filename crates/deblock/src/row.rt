@@ -119,9 +119,43 @@ fn copy(samples: &[u16], from: usize, out: &mut [u16])
     }
 }
 
-/// Filters the edges of a row in one direction, over a copy of its samples.
+/// Filters the edges of a row in one direction, over a copy of its samples: by code of its own for luma and for chroma.
 #[inline(always)]
 fn filter_row<V: Places>(view: &V, pass: &Pass, samples: &[u16], out: &mut [u16])
+    requires pass { IsPass pass.now }
+    requires samples { length samples.now ≡ size pass.now.before }
+    requires bounded { IsBounded (2 ^ pass.now.bit_depth - 1) samples.now }
+    requires room { length out.old ≡ size pass.now.behind }
+    requires start { IsBounded (2 ^ pass.now.bit_depth - 1) out.old }
+    requires same { (i j : ℕ) → holds pass.now.behind i j ≡ true
+        → seen pass.now.behind out.old i j ≡ seen pass.now.before samples.now i j }
+    ensures value { (i j : ℕ) → holds pass.now.behind i j ≡ true
+        → seen pass.now.behind out.new i j
+        ≡ vertical pass.now.plane pass.now.bit_depth pass.now.side (placed pass.now.behind.turned (V.place_at view.now))
+        (seen pass.now.before samples.now) i j }
+    ensures bounded { IsBounded (2 ^ pass.now.bit_depth - 1) out.new }
+{
+    match pass.plane {
+        Plane::Luma => {
+            let pass = Pass {
+                plane: Plane::Luma,
+                ..*pass
+            };
+            filter_plane(view, &pass, samples, out);
+        }
+        Plane::Chroma { qp_pic_offset } => {
+            let pass = Pass {
+                plane: Plane::Chroma { qp_pic_offset },
+                ..*pass
+            };
+            filter_plane(view, &pass, samples, out);
+        }
+    }
+}
+
+/// Filters the edges of a row of luma or chroma.
+#[inline(always)]
+fn filter_plane<V: Places>(view: &V, pass: &Pass, samples: &[u16], out: &mut [u16])
     requires pass { IsPass pass.now }
     requires samples { length samples.now ≡ size pass.now.before }
     requires bounded { IsBounded (2 ^ pass.now.bit_depth - 1) samples.now }

@@ -9,7 +9,7 @@ use Rattle.spec_sample_adaptive_offset.specs.Plane.{OffsetPlane, edge_sample, ma
 use Rattle.sao_filter.specs.declared.row.OffsetRow.{OffsetRow}
 use Rattle.sao_filter.specs.declared.block.Block.{Block}
 use Rattle.sao_filter.specs.Row.{HasLines, IsRow, at, plane_of, samples_of, top}
-use Rattle.sao_filter.specs.Units.{IsBlock, ReadsLine, reads_unit, shift}
+use Rattle.sao_filter.specs.Units.{IsBetween, IsBlock, ReadsLine, reads_unit, shift}
 use Rattle.sao_filter.specs.Laying.{LaysLine, between}
 use Rattle.sao_filter.proofs.Laid.{line_of_run}
 use Rattle.sao_filter.proofs.Beside.{block_is, first_of, may_is, second_of, stands}
@@ -278,6 +278,28 @@ pub line_reads : (row : OffsetRow) (block : Block) (line c l : ℕ) → IsRow ro
 line_reads row block line c l of_row of_block inside few low head middle tail i at below =
     sample_may row block line c l i of_row of_block inside few low head middle tail at below
     (stands_by block.from block.to i _ _ refl refl)
+
+-- lines between the first and the last ask the same
+between_alike : (row : OffsetRow) (block : Block) (line n from to c l : ℕ) → IsBetween block line → IsBetween block n →
+    part_reads_both row block n from to c l ≡ part_reads_both row block line from to c l
+between_alike row block line n from to c l here there =
+    let a : (line == 0) ≡ false = let low = here.first in grind (arith, nat_tests) in
+    let b : (n == 0) ≡ false = let low = there.first in grind (arith, nat_tests) in
+    let p : (line + 1 == block.lines) ≡ false = let high = here.last in grind (arith, nat_tests) in
+    let q : (n + 1 == block.lines) ≡ false = let high = there.last in grind (arith, nat_tests) in
+    rw (a, b, p, q) refl
+
+-- and read where one of them does
+pub between_reads : (row : OffsetRow) (block : Block) (line c l : ℕ) → IsRow row → IsBlock row block →
+    c ≤ 2 → l ≤ 2 → part_reads_both row block line block.from (block.from + 1) c l ≡ true →
+    part_reads_both row block line (block.from + 1) (block.to - 1) c l ≡ true →
+    part_reads_both row block line (block.to - 1) block.to c l ≡ true → IsBetween block line → (n : ℕ) →
+    IsBetween block n → ReadsLine row block c l n
+between_reads row block line c l of_row of_block few low head middle tail here n there =
+    line_reads row block n c l of_row of_block (omega (arith, there.last)) few low
+    (between_alike row block line n block.from (block.from + 1) c l here there ∙ head)
+    (between_alike row block line n (block.from + 1) (block.to - 1) c l here there ∙ middle)
+    (between_alike row block line n (block.to - 1) block.to c l here there ∙ tail)
 
 -- the neighbours of a line that reads are inside the picture
 line_inside : (row : OffsetRow) (block : Block) (line c l : ℕ) → IsBlock row block →

@@ -26,6 +26,11 @@ pub record IsBlock (row : OffsetRow) (block : Block) : Type 0 where
   pub lines : block.lines ≡ lines_of row
   pub skip : block.skip ≡ min (top row) 1
 
+-- a line of a block between its first and its last
+pub record IsBetween (block : Block) (line : ℕ) : Type 0 where
+  pub first : 0 < line
+  pub last : line + 1 < block.lines
+
 -- both neighbours of each sample of a line of a block may be read; where the first one stands is counted as in may_read
 abbrev pub ReadsLine : OffsetRow → Block → ℕ → ℕ → ℕ → Type 0
 ReadsLine row block across down line =

@@ -4,7 +4,7 @@ ghost use Rattle.std.specs.Prelude.{◌≡◌, ◌≤◌, ◌<◌, ◌+◌, ◌-
 ghost use Rattle.spec_sample_adaptive_offset.specs.Plane.{edge_sample, first_column, first_line, may_read, meets};
 ghost use Rattle.sao_filter.specs.Laying.{LaysLine, LaysLines};
 ghost use Rattle.sao_filter.specs.Row.{HasLines, IsRow, plane_of, samples_of, top, unit_in, units_of};
-ghost use Rattle.sao_filter.specs.Units.{IsBlock, IsEdgeTable, ReadsLine, reads_unit, shift};
+ghost use Rattle.sao_filter.specs.Units.{IsBetween, IsBlock, IsEdgeTable, ReadsLine, reads_unit, shift};
 
 use crate::block::Block;
 use crate::changes::edge_changes;
@@ -170,7 +170,9 @@ fn reads_line(row: &OffsetRow<'_>, block: Block, edge: &Edge, line: usize) -> bo
     requires block { IsBlock row.now block }
     requires edge { (edge.now.column ≤ 2) × (edge.now.line ≤ 1) }
     requires line { line < block.lines }
-    ensures { result ≡ true → ReadsLine row.now block edge.now.column edge.now.line line }
+    ensures value { result ≡ true → ReadsLine row.now block edge.now.column edge.now.line line }
+    ensures alike { result ≡ true → IsBetween block line → (n : ℕ) → IsBetween block n
+        → ReadsLine row.now block edge.now.column edge.now.line n }
 {
     let first = block.from + 1;
     let last = block.to - 1;
@@ -196,6 +198,37 @@ fn reads_line(row: &OffsetRow<'_>, block: Block, edge: &Edge, line: usize) -> bo
         return false;
     }
     reads_both(row, block, edge, tail)
+}
+
+/// Whether both neighbours of each sample may be read in all lines of a block but its first and its last.
+fn reads_between(row: &OffsetRow<'_>, block: Block, edge: &Edge) -> bool
+    requires row { IsRow row.now }
+    requires block { IsBlock row.now block }
+    requires edge { (edge.now.column ≤ 2) × (edge.now.line ≤ 1) }
+    ensures { result ≡ true → (n : ℕ) → IsBetween block n
+        → ReadsLine row.now block edge.now.column edge.now.line n }
+{
+    if block.lines < 3 {
+        return false;
+    }
+    reads_line(row, block, edge, 1)
+}
+
+/// Whether both neighbours of each sample of a line may be read, by what is known of the lines between the first and
+/// the last.
+fn reads_by(row: &OffsetRow<'_>, block: Block, edge: &Edge, between: bool, line: usize) -> bool
+    requires row { IsRow row.now }
+    requires block { IsBlock row.now block }
+    requires edge { (edge.now.column ≤ 2) × (edge.now.line ≤ 1) }
+    requires line { line < block.lines }
+    requires between { between ≡ true → (n : ℕ) → IsBetween block n
+        → ReadsLine row.now block edge.now.column edge.now.line n }
+    ensures { result ≡ true → ReadsLine row.now block edge.now.column edge.now.line line }
+{
+    if between && 0 < line && line + 1 < block.lines {
+        return true;
+    }
+    reads_line(row, block, edge, line)
 }
 
 /// A line of a block, both neighbours of each of whose samples may be read.
@@ -240,6 +273,7 @@ fn edge_line(
     lines: &[u16],
     block: Block,
     edge: &Edge,
+    between: bool,
     line: usize,
     out: &mut [u16],
 )
@@ -248,6 +282,8 @@ fn edge_line(
     requires lines { HasLines row.now lines.now }
     requires edge { (edge.now.column ≤ 2) × (edge.now.line ≤ 1) }
     requires line { line < block.lines }
+    requires between { between ≡ true → (n : ℕ) → IsBetween block n
+        → ReadsLine row.now block edge.now.column edge.now.line n }
     requires out { row.now.width * block.lines ≤ length out.old }
     ensures { (offsets : List ℤ) → IsEdgeTable row.now.depth offsets edge.now.table
         → LaysLine row.now.width line block.from block.to
@@ -255,7 +291,7 @@ fn edge_line(
         (top row.now + line))
         out.old out.new }
 {
-    if reads_line(row, block, edge, line) {
+    if reads_by(row, block, edge, between, line) {
         whole_line(row, lines, block, edge, line, out);
         return;
     }
@@ -327,7 +363,8 @@ pub fn edge_block(
         line: first_line(class),
         table: edge_changes(row.depth, offsets),
     };
+    let between = reads_between(row, block, &edge);
     for line in 0..block.lines {
-        edge_line(row, lines, block, &edge, line, out);
+        edge_line(row, lines, block, &edge, between, line, out);
     }
 }

@@ -5,7 +5,7 @@ use Rattle.deblock.specs.Passes.{placed}
 use Rattle.deblock.proofs.Flat.{inside_of}
 use Rattle.deblock.proofs.Edges.{part_none, part_all}
 use Rattle.deblock.proofs.Rows.{along_of}
-use Rattle.deblock.proofs.row.filter_row.Goals as goal
+use Rattle.deblock.proofs.row.filter_plane.Goals as goal
 
 pub loop-s-init : goal.loop-s-init
 loop-s-init g c = record {

@@ -2,7 +2,7 @@ use Rattle.std.proofs.Common.{◌≡◌, ℕ, ◌-◌, ◌^◌, true}
 use Rattle.deblock.specs.Samples.{IsBounded}
 use Rattle.deblock.specs.Windows.{holds, seen}
 use Rattle.deblock.specs.Passes.{placed, partly}
-use Rattle.deblock.proofs.row.filter_row.Given as goal
+use Rattle.deblock.proofs.row.filter_plane.Given as goal
 
 abbrev pub invariant-loop-s : goal.invariant-loop-s
 invariant-loop-s g l = record {
