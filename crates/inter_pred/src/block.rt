@@ -16,7 +16,7 @@ use ctu_records::Mv;
 
 /// A block of a picture, in samples of its component.
 #[derive(Clone, Copy, Debug, PartialEq, Eq)]
-pub struct Block {
+pub struct PredictionBlock {
     /// Its first column.
     pub x: u32,
     /// Its first line.
@@ -68,7 +68,7 @@ fn chroma_first(place: u32, v: i16) -> i32
 pub fn luma<V: RefWindow>(
     view: &V,
     picture: u32,
-    block: Block,
+    block: PredictionBlock,
     mv: Mv,
     depth: u32,
     scratch: &mut Scratch,
@@ -103,7 +103,7 @@ pub fn chroma<V: RefWindow>(
     view: &V,
     picture: u32,
     component: u8,
-    block: Block,
+    block: PredictionBlock,
     mv: Mv,
     depth: u32,
     scratch: &mut Scratch,

@@ -19,7 +19,7 @@ mod whole;
 mod width;
 mod window;
 
-pub use block::{Block, chroma, luma};
+pub use block::{PredictionBlock, chroma, luma};
 pub use line::{clamped, held_line};
 pub use prediction::Prediction;
 pub use reference::RefWindow;

@@ -12,7 +12,9 @@ ghost use Rattle.spec_reconstruction.specs.Sound.{IsFormat};
 use crate::inter::UnitInter;
 use crate::place::depth_of;
 use crate::scratch::InterScratch;
-use inter_pred::{Block, Prediction, RefWindow, Scratch, chroma, luma, weigh_one, weigh_two};
+use inter_pred::{
+    Prediction, PredictionBlock, RefWindow, Scratch, chroma, luma, weigh_one, weigh_two,
+};
 use motion_candidates::reference_in;
 use spec_inter_prediction::Weighting;
 use spec_motion::Vector;
@@ -22,7 +24,7 @@ use spec_reconstruction::UnitFormat;
 #[derive(Clone, Copy)]
 pub struct Part {
     /// The block.
-    pub block: Block,
+    pub block: PredictionBlock,
     /// The component: 0 for luma, 1 for Cb, 2 for Cr.
     pub c: u8,
 }

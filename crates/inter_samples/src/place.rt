@@ -8,7 +8,7 @@ ghost use Rattle.spec_reconstruction.specs.Sound.{IsFormat};
 ghost use Rattle.spec_slice_data.specs.Residual.{samples_of_place};
 
 use ctu_records::Rectangle;
-use inter_pred::Block;
+use inter_pred::PredictionBlock;
 use spec_reconstruction::UnitFormat;
 
 /// The bit depth of a component.
@@ -34,7 +34,7 @@ pub fn samples_of_place(c: u8) -> u32
 
 /// A block of places of a unit in samples of a component of the picture. `column` and `row` are those of the unit's
 /// first place.
-pub fn block_of(block: Rectangle, column: u32, row: u32, c: u8) -> Block
+pub fn block_of(block: Rectangle, column: u32, row: u32, c: u8) -> PredictionBlock
     requires block { IsBlock block }
     requires place { (column ≤ 8192) × (row ≤ 8192) }
     ensures x { result.x ≡ samples_of_place c * column + samples_of_place c * block.x }
@@ -45,7 +45,7 @@ pub fn block_of(block: Rectangle, column: u32, row: u32, c: u8) -> Block
     ensures place { (result.x ≤ 65536) × (result.y ≤ 65536) }
 {
     let side = samples_of_place(c);
-    Block {
+    PredictionBlock {
         x: side * column + side * u32::from(block.x),
         y: side * row + side * u32::from(block.y),
         width: side * u32::from(block.width),

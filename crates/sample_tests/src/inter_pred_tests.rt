@@ -3,7 +3,9 @@
 ghost use Rattle.std.specs.Prelude.{◌<◌};
 
 use ctu_records::Mv;
-use inter_pred::{Block, Prediction, RefWindow, Scratch, chroma, luma, weigh_one, weigh_two};
+use inter_pred::{
+    Prediction, PredictionBlock, RefWindow, Scratch, chroma, luma, weigh_one, weigh_two,
+};
 use spec_inter_prediction::{Weight, Weighting, Weights};
 
 /// A picture that has one sample everywhere.
@@ -24,7 +26,7 @@ impl RefWindow for Flat {
 /// The weights of a P slice whose denominator is 1, weight change -1 and offset 3: a sample of 100 becomes 53.
 fn is_weighted() -> bool {
     let view = Flat { sample: 100 };
-    let block = Block {
+    let block = PredictionBlock {
         x: 4,
         y: 8,
         width: 8,
@@ -99,7 +101,7 @@ fn predict_both(
     first: &mut Prediction,
     second: &mut Prediction,
 ) {
-    let block = Block {
+    let block = PredictionBlock {
         x: 0,
         y: 0,
         width: 4,
