@@ -183,14 +183,16 @@ inter_is : (type : SliceType) (pps : PpsFields) (total : ℕ) (temporal : Bool) 
 unfolding inter_fields
 inter_is type pps total temporal f is-pps
     (override, override-is, (l0, l0-is, (l1, l1-is, (entries_0, entries_0-is, (entries_l1, entries_1-is, (mvd, mvd-is, (init, init-is, (c, c-is, (weights, weights-is, (merge, merge-is, e)))))))))) =
-    let few : Header ℕ = ue_or override 14 pps.num_ref_idx_l1_default_active_minus1 in
+    let defaults = pps.slice_defaults in
+    let ranged = is-pps.slice_defaults in
+    let few : Header ℕ = ue_or override 14 defaults.num_ref_idx_l1_default_active_minus1 in
     let same = entries_same l1 in
     rw (← e) (record {
       fields = record {
-        few_0 = ue_or_is override 14 pps.num_ref_idx_l0_default_active_minus1 l0 is-pps.active_l0 l0-is;
+        few_0 = ue_or_is override 14 defaults.num_ref_idx_l0_default_active_minus1 l0 ranged.active_l0 l0-is;
         few_1 =
             optional_is (λ n. n ≤ 14) (is_b type) few l1
-            (λ n is. ue_or_is override 14 pps.num_ref_idx_l1_default_active_minus1 n is-pps.active_l1 is) l1-is;
+            (λ n is. ue_or_is override 14 defaults.num_ref_idx_l1_default_active_minus1 n ranged.active_l1 is) l1-is;
         list_entry_l0 = entries_are _ total (l0 + 1) entries_0 entries_0-is;
         list_entry_l1 = rw (← same) (entries_are _ total (entries_1 l1) entries_l1 entries_1-is);
         collocated =
@@ -227,10 +229,10 @@ qp_is : (pps : PpsFields) (delta : ℤ) → IsPps pps → CanBe (qp_delta pps) d
 unfolding qp_delta
 qp_is pps delta is-pps (coded, coded-is, (fact, in_range, e)) =
     let b = between 0 51 (slice_qp pps coded) in_range in
-    let low = is-pps.init_qp.least in
-    let high = is-pps.init_qp.greatest in
-    let from : pos 0 ≤ℤ (pos 26 +ℤ pps.init_qp_minus26 +ℤ coded) = b.0 in
-    let to : (pos 26 +ℤ pps.init_qp_minus26 +ℤ coded) ≤ℤ pos 51 = b.1 in
+    let low = is-pps.quantization.init_qp.least in
+    let high = is-pps.quantization.init_qp.greatest in
+    let from : pos 0 ≤ℤ (pos 26 +ℤ pps.quantization.init_qp_minus26 +ℤ coded) = b.0 in
+    let to : (pos 26 +ℤ pps.quantization.init_qp_minus26 +ℤ coded) ≤ℤ pos 51 = b.1 in
     rw (← e) (record { least = omega (arith, ints); greatest = omega (arith, ints) })
 
 offset_is : (present : Bool) (offset z : ℤ) → CanBe (chroma_offset present offset) z → IsWithin 12 12 z
@@ -286,12 +288,13 @@ filters_are : (pps : PpsFields) (has_sao : Bool) (f : Filters) → IsPps pps →
     → AreFilters f
 unfolding filter_fields
 filters_are pps has_sao f is (qp, qp-is, (cb, cb-is, (cr, cr-is, (d, d-is, (across, across-is, e))))) =
+    let quantization = pps.quantization in
+    let control = pps.filters.deblocking_control in
     rw (← e) (record {
       qp_delta = qp_is pps qp is qp-is;
-      cb = offset_is pps.pps_slice_chroma_qp_offsets_present_flag pps.pps_cb_qp_offset cb cb-is;
-      cr = offset_is pps.pps_slice_chroma_qp_offsets_present_flag pps.pps_cr_qp_offset cr cr-is;
-      deblocking =
-          deblocking_is (control_of pps.deblocking_control) d (control_is pps.deblocking_control is.deblocking) d-is;
+      cb = offset_is quantization.pps_slice_chroma_qp_offsets_present_flag quantization.pps_cb_qp_offset cb cb-is;
+      cr = offset_is quantization.pps_slice_chroma_qp_offsets_present_flag quantization.pps_cr_qp_offset cr cr-is;
+      deblocking = deblocking_is (control_of control) d (control_is control is.filters.deblocking) d-is;
     })
 
 -- ---- reference pictures
@@ -300,27 +303,28 @@ empty_is : IsStRps 79 empty_set
 empty_is = record { few = omega arith; negative = All-nil _; positive = All-nil _ }
 
 few_buffered : (sps : SpsFields) → IsSps sps
-    → (highest_ordering sps.sub_layer_ordering).max_dec_pic_buffering_minus1 ≤ 15
+    → (highest_ordering sps.order.sub_layer_ordering).max_dec_pic_buffering_minus1 ≤ 15
 unfolding highest_ordering
 few_buffered sps is =
-    (All-get_or IsSubLayerOrdering sps.sub_layer_ordering (length sps.sub_layer_ordering - 1) no_ordering
-    (let some = is.some_ordering in omega arith) is.ordering).buffering
+    (All-get_or IsSubLayerOrdering sps.order.sub_layer_ordering (length sps.order.sub_layer_ordering - 1) no_ordering
+    (let some = is.order.some_ordering in omega arith) is.order.ordering).buffering
 
 named_set : (sps : SpsFields) (s : ShortTerm) → IsSps sps → CanBe (named_short_term sps) s
     → IsStRps 79 s.short_term_ref_pic_set
 unfolding named_short_term
 named_set sps s is (index, index-is, (fact, in_range, e)) =
-    rw (← e) (IsStRps-weaker 78 79 (omega arith) (slice_index_or sps.short_term_ref_pic_sets index empty_set)
-    (All-get_or (IsStRps 78) sps.short_term_ref_pic_sets index empty_set (ltb-true _ _ in_range) is.sets))
+    let sets = sps.references.short_term_ref_pic_sets in
+    rw (← e) (IsStRps-weaker 78 79 (omega arith) (slice_index_or sets index empty_set)
+    (All-get_or (IsStRps 78) sets index empty_set (ltb-true _ _ in_range) is.references.sets))
 
 coded_set : (sps : SpsFields) (s : ShortTerm) → IsSps sps → CanBe (coded_short_term sps) s
     → IsStRps 79 s.short_term_ref_pic_set
 unfolding coded_short_term
 coded_set sps s is (set, set-is, e) =
-    let count = length sps.short_term_ref_pic_sets in
-    rw (← e) (can_be_near count count sps.short_term_ref_pic_sets
-    (highest_ordering sps.sub_layer_ordering).max_dec_pic_buffering_minus1 set 78 (few_buffered sps is)
-    (omega arith) is.sets set-is)
+    let count = length sps.references.short_term_ref_pic_sets in
+    rw (← e) (can_be_near count count sps.references.short_term_ref_pic_sets
+    (highest_ordering sps.order.sub_layer_ordering).max_dec_pic_buffering_minus1 set 78 (few_buffered sps is)
+    (omega arith) is.references.sets set-is)
 
 either_set : (sps : SpsFields) (named : Bool) (s : ShortTerm) → IsSps sps
     → CanBe (when named then named_short_term sps else coded_short_term sps) s → IsStRps 79 s.short_term_ref_pic_set
@@ -337,7 +341,7 @@ unfolding long_term_of
 entries_few sps set candidates l is (named, named-is, (coded, coded-is, (fact, few, (entries, entries-are, e)))) =
     let buffered = few_buffered sps is in
     let le : length set.negative + length set.positive + named + coded
-    ≤ (highest_ordering sps.sub_layer_ordering).max_dec_pic_buffering_minus1 = leb-true _ _ few in
+    ≤ (highest_ordering sps.order.sub_layer_ordering).max_dec_pic_buffering_minus1 = leb-true _ _ few in
     let count =
     (each_is (λ r. Unit {0}) (long_term_entry sps candidates named) (range_with_len 0 (named + coded)) entries
     (λ i r h. tt) entries-are).0
@@ -350,12 +354,12 @@ unfolding long_term
 long_is sps set None l is e = rw (← e) (omega arith)
 long_is sps set (Some candidates) l is can = entries_few sps set candidates l is can
 
-lsb_small : (sps : SpsFields) (lsb : ℕ) → IsSps sps → lsb < 2 ^ (sps.log2_max_pic_order_cnt_lsb_minus4 + 4)
+lsb_small : (sps : SpsFields) (lsb : ℕ) → IsSps sps → lsb < 2 ^ (sps.order.log2_max_pic_order_cnt_lsb_minus4 + 4)
     → lsb < 65536
 lsb_small sps lsb is small =
-    let le = is.lsb in
-    let few : sps.log2_max_pic_order_cnt_lsb_minus4 + 4 ≤ 16 = omega arith in
-    let most : 2 ^ (sps.log2_max_pic_order_cnt_lsb_minus4 + 4) ≤ 2 ^ 16 = pow-le-pow_right (omega arith) few in
+    let le = is.order.lsb in
+    let few : sps.order.log2_max_pic_order_cnt_lsb_minus4 + 4 ≤ 16 = omega arith in
+    let most : 2 ^ (sps.order.log2_max_pic_order_cnt_lsb_minus4 + 4) ≤ 2 ^ 16 = pow-le-pow_right (omega arith) few in
     omega arith
 
 coded_are : (sps : SpsFields) (r : ReferenceFields) → IsSps sps → CanBe (coded_references sps) r → IsReferenceFields r
@@ -363,7 +367,7 @@ unfolding coded_references
 coded_are sps r is (lsb, lsb-is, (short, short-is, (long, long-ok, e))) = rw (← e) (record {
   lsb = lsb_small sps lsb is lsb-is;
   set = set_is sps short is short-is;
-  long = long_is sps short.short_term_ref_pic_set sps.long_term_ref_pics long is long-ok;
+  long = long_is sps short.short_term_ref_pic_set sps.references.long_term_ref_pics long is long-ok;
 })
 
 references_either : (idr : Bool) (sps : SpsFields) (r : ReferenceFields) → IsSps sps
@@ -460,8 +464,8 @@ with_pps_is : (sets : Sets) (o : Option PpsFields) (n : Named) → AreSets sets 
     → with_pps sets o ≡ Some n → IsNamed n
 with_pps_is sets None n are is e = absurd cc
 with_pps_is sets (Some pps) n are is e =
-    with_sps_is pps (slice_index_or sets.sps pps.pps_seq_parameter_set_id None) n is
-    (index_or_is IsSps sets.sps pps.pps_seq_parameter_set_id are.sps) e
+    with_sps_is pps (slice_index_or sets.sps pps.identity.pps_seq_parameter_set_id None) n is
+    (index_or_is IsSps sets.sps pps.identity.pps_seq_parameter_set_id are.sps) e
 
 pub named_is : (sets : Sets) (id : ℕ) (n : Named) → AreSets sets → named_by sets id ≡ Some n → IsNamed n
 named_is sets id n are e =
@@ -558,7 +562,7 @@ header_is c h is have
     let sets = (are_named c f.first_slice_segment_in_pic_flag f.slice_pic_parameter_set_id n n-is).sets in
     let is' : IfSome (named_by c.sets segment.slice_pic_parameter_set_id) IsNamed = rw (← e) at is in
     let named : IsNamed n = rw (same, sets) at is' in
-    let lsb = lsb_within n.sps.log2_max_pic_order_cnt_lsb_minus4 named.sps.lsb in
+    let lsb = lsb_within n.sps.order.log2_max_pic_order_cnt_lsb_minus4 named.sps.order.lsb in
     let each = points_are n points points-is in
     let have' : segment.dependent_slice_segment_flag ≡ true
     → IfSome (slice_header c.segments) (λ s. IsSliceFields s.slice) = rw (← e) at have in
@@ -576,7 +580,7 @@ header_is c h is have
 lsb_either : (idr : Bool) (sps : SpsFields) (r : ReferenceFields)
     → CanBe (when idr then give no_references else coded_references sps) r → r.slice_pic_order_cnt_lsb < max_lsb sps
 unfolding coded_references
-lsb_either true sps r e = rw (← e) (one-le-pow (sps.log2_max_pic_order_cnt_lsb_minus4 + 4) 2 (omega arith))
+lsb_either true sps r e = rw (← e) (one-le-pow (sps.order.log2_max_pic_order_cnt_lsb_minus4 + 4) 2 (omega arith))
 lsb_either false sps r (lsb, lsb-is, (short, short-is, (long, long-ok, e))) = rw (← e) lsb-is
 
 references_lsb : (nal_type : ℕ) (sps : SpsFields) (r : ReferenceFields) → CanBe (reference_fields nal_type sps) r

@@ -13,11 +13,16 @@ use Rattle.header_types.specs.declared.sps.LongTermCandidate.{LongTermCandidate}
 use Rattle.header_types.specs.declared.sps.PcmFormat.{PcmFormat}
 use Rattle.header_types.specs.declared.sps.PictureFormat.{PictureFormat}
 use Rattle.header_types.specs.declared.sps.SpsFields.{SpsFields}
+use Rattle.header_types.specs.declared.sps.SpsIdentity.{SpsIdentity}
+use Rattle.header_types.specs.declared.sps.SpsOrder.{SpsOrder}
+use Rattle.header_types.specs.declared.sps.SpsReferences.{SpsReferences}
+use Rattle.header_types.specs.declared.sps.SpsTools.{SpsTools}
 use Rattle.header_types.specs.declared.sps.SubLayerOrdering.{SubLayerOrdering}
 use Rattle.header_types.specs.ReferencePictures.{IsStRps}
 use Rattle.header_types.specs.Scaling.{IsScalingLists}
 use Rattle.header_types.specs.SequenceParameterSets.{IsBlockSizes, IsConformanceWindow, IsLongTerm, IsPcmFormat}
-use Rattle.header_types.specs.SequenceParameterSets.{IsPictureFormat, IsSps, IsSubLayerOrdering, ctb_log2}
+use Rattle.header_types.specs.SequenceParameterSets.{IsPictureFormat, IsSps, IsSpsIdentity, IsSpsOrder}
+use Rattle.header_types.specs.SequenceParameterSets.{IsSpsReferences, IsSpsTools, IsSubLayerOrdering, ctb_log2}
 use Rattle.header_types.specs.SequenceParameterSets.{highest_ordering, max_lsb_of, min_cb_log2, no_ordering}
 use Rattle.header_types.proofs.ReferencePictures.{All-IsStRps-weaker}
 use Rattle.spec_bits.specs.Bits.{bits}
@@ -29,6 +34,7 @@ use Rattle.spec_parameter_sets.specs.SequenceParameterSet.{pcm_bit_depth, pcm_fo
 use Rattle.spec_parameter_sets.specs.SequenceParameterSet.{present_scaling_lists, scaling_lists, sequence_parameter_set}
 use Rattle.spec_parameter_sets.specs.SequenceParameterSet.{sequence_parameter_set_of, sets_behind}
 use Rattle.spec_parameter_sets.specs.SequenceParameterSet.{short_term_ref_pic_sets, side, sub_layer_ordering}
+use Rattle.spec_parameter_sets.specs.SequenceParameterSet.{sps_identity, sps_order, sps_references, sps_tools}
 use Rattle.spec_parameter_sets.specs.SequenceParameterSet.{sub_layers}
 use Rattle.spec_parameter_sets.proofs.Ranges.{data_can_be}
 use Rattle.spec_reference_pictures.proofs.Sets.{can_be_near}
@@ -192,71 +198,63 @@ candidates_are log2 cs (n, few, is) =
 
 -- ---- the set
 
-sequence_set_is : (s : SpsFields) → CanBe sequence_parameter_set s → IsSps s
-unfolding sequence_parameter_set
-sequence_set_is s (
-  vps,
-  vps-is,
-  (
-    sub,
-    sub-is,
-    (
-      nesting,
-      a,
-      (
-        profile,
-        b,
-        (
-          id,
-          id-is,
-          (
-            format,
-            format-ok,
-            (
-              lsb,
-              lsb-is,
-              (
-                present,
-                d,
-                (
-                  orderings,
-                  orderings-are,
-                  (
-                    blocks,
-                    blocks-ok,
-                    (scaling, f, (lists, lists-are, (amp, g, (sao, h, (pcm_on, i, (pcm, pcm-ok, (sets, sets-ok, (long_on, j, (long, long-is, (temporal, k, (strong, l, (vui, m, e)))))))))))),
-                  ),
-                ),
-              ),
-            ),
-          ),
-        ),
-      ),
-    ),
-  ),
-) =
+identity_is : (i : SpsIdentity) → CanBe sps_identity i → IsSpsIdentity i
+unfolding sps_identity
+identity_is i (vps, vps-is, (sub, sub-is, (nesting, a, (profile, b, (id, id-is, e))))) = rw (← e) (record {
+  video_parameter_set_id = omega (arith, vps-is);
+  sub_layers = sub_layers_are sub sub-is;
+  id = id-is;
+})
+
+order_is : (minus1 : ℕ) (o : SpsOrder) → CanBe (sps_order minus1) o → IsSpsOrder o
+unfolding sps_order
+order_is minus1 o (lsb, lsb-is, (present, a, (orderings, orderings-are, e))) =
     let ordered =
-    repeated_is IsSubLayerOrdering (ordered_sub_layers present sub) sub_layer_ordering orderings
+    repeated_is IsSubLayerOrdering (ordered_sub_layers present minus1) sub_layer_ordering orderings
     ordering_is orderings-are in
     let counted = ordered.0 in
-    let some : 1 ≤ length orderings = omega (arith, some_ordered present sub, counted) in
-    let short =
-    short_are (highest_ordering orderings).max_dec_pic_buffering_minus1 sets
-    (highest_is orderings some ordered.1) sets-ok in
     rw (← e) (record {
-      video_parameter_set_id = omega (arith, vps-is);
-      sub_layers = sub_layers_are sub sub-is;
-      id = id-is;
-      format = format_is format format-ok;
       lsb = lsb-is;
-      some_ordering = some;
+      some_ordering = omega (arith, some_ordered present minus1, counted);
       ordering = ordered.1;
-      blocks = blocks_are format.pic_width_in_luma_samples format.pic_height_in_luma_samples blocks blocks-ok;
+    })
+
+tools_are : (blocks : BlockSizes) (t : SpsTools) → CanBe (sps_tools blocks) t → IsSpsTools blocks t
+unfolding sps_tools
+tools_are blocks t
+    (scaling, a, (lists, lists-are, (amp, b, (sao, d, (pcm_on, f, (pcm, pcm-ok, e)))))) =
+    rw (← e) (record {
       scaling_lists = scaled_is scaling lists lists-are;
       pcm = optional_is (IsPcmFormat blocks) pcm_on (pcm_format blocks) pcm (pcm_is blocks) pcm-ok;
+    })
+
+references_are : (o : SpsOrder) (r : SpsReferences) → IsSpsOrder o → CanBe (sps_references o) r
+    → IsSpsReferences (max_lsb_of o.log2_max_pic_order_cnt_lsb_minus4) r
+unfolding sps_references
+references_are o r is (sets, sets-ok, (long_on, a, (long, long-is, (temporal, b, e)))) =
+    let short =
+    short_are (highest_ordering o.sub_layer_ordering).max_dec_pic_buffering_minus1 sets
+    (highest_is o.sub_layer_ordering is.some_ordering is.ordering) sets-ok in
+    let log2 = o.log2_max_pic_order_cnt_lsb_minus4 in
+    rw (← e) (record {
       few_sets = short.few;
       sets = short.each;
-      long_term = optional_is (IsLongTerm (max_lsb_of lsb)) long_on _ long (candidates_are lsb) long-is;
+      long_term = optional_is (IsLongTerm (max_lsb_of log2)) long_on _ long (candidates_are log2) long-is;
+    })
+
+sequence_set_is : (s : SpsFields) → CanBe sequence_parameter_set s → IsSps s
+unfolding sequence_parameter_set
+sequence_set_is s
+    (identity, id-ok, (format, format-ok, (order, order-ok, (blocks, blocks-ok, (tools, tools-ok,
+    (references, references-ok, (strong, a, (vui, b, e)))))))) =
+    let ordered = order_is identity.sps_max_sub_layers_minus1 order order-ok in
+    rw (← e) (record {
+      identity = identity_is identity id-ok;
+      format = format_is format format-ok;
+      order = ordered;
+      blocks = blocks_are format.pic_width_in_luma_samples format.pic_height_in_luma_samples blocks blocks-ok;
+      tools = tools_are blocks tools tools-ok;
+      references = references_are order references ordered references-ok;
     })
 
 pub sequence_set_in_range : (bytes : List ℕ) (s : SpsFields) → sequence_parameter_set_of bytes ≡ Ok s → IsSps s

@@ -20,7 +20,7 @@ pub(crate) fn inter_lines<W: Write>(
     if inter.num_ref_idx_l1_active_minus1.is_some() {
         lines.flag("mvd_l1_zero_flag", inter.mvd_l1_zero_flag);
     }
-    if pps.cabac_init_present_flag {
+    if pps.slice_defaults.cabac_init_present_flag {
         lines.flag("cabac_init_flag", inter.cabac_init_flag);
     }
     if let Some(place) = inter.collocated {

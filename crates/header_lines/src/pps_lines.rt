@@ -2,16 +2,25 @@
 
 use crate::lines::{Lines, fields};
 use crate::set_lists::coded_scaling_lists;
-use header_types::{DeblockingControl, PpsFields};
+use header_types::{
+    DeblockingControl, PpsFields, PpsFilters, PpsIdentity, PpsPrediction, PpsQuantization,
+    PpsSliceDefaults,
+};
 use std::io::{self, Write};
 
 /// Prints the fields of a picture parameter set in the order of the grammar. An error is one of the writer.
 pub fn print_pps<W: Write>(pps: &PpsFields, out: &mut W) -> io::Result<()> {
     let mut lines = Lines::new(out);
-    slice_defaults(&mut lines, pps);
-    quantization(&mut lines, pps);
-    prediction(&mut lines, pps);
-    filters(&mut lines, pps);
+    identity(&mut lines, pps.identity);
+    slice_defaults(&mut lines, pps.slice_defaults);
+    quantization(&mut lines, pps.quantization);
+    prediction(&mut lines, pps.prediction);
+    filters(&mut lines, pps.filters);
+    coded_scaling_lists(
+        &mut lines,
+        "pps_scaling_list_data_present_flag",
+        &pps.scaling_lists,
+    );
     fields!(
         lines, pps;
         lists_modification_present_flag,
@@ -21,11 +30,13 @@ pub fn print_pps<W: Write>(pps: &PpsFields, out: &mut W) -> io::Result<()> {
     lines.finish()
 }
 
-fn slice_defaults<W: Write>(lines: &mut Lines<'_, W>, pps: &PpsFields) {
+fn identity<W: Write>(lines: &mut Lines<'_, W>, set: PpsIdentity) {
+    fields!(lines, set; pps_pic_parameter_set_id, pps_seq_parameter_set_id);
+}
+
+fn slice_defaults<W: Write>(lines: &mut Lines<'_, W>, defaults: PpsSliceDefaults) {
     fields!(
-        lines, pps;
-        pps_pic_parameter_set_id,
-        pps_seq_parameter_set_id,
+        lines, defaults;
         dependent_slice_segments_enabled_flag,
         output_flag_present_flag,
         num_extra_slice_header_bits,
@@ -36,16 +47,16 @@ fn slice_defaults<W: Write>(lines: &mut Lines<'_, W>, pps: &PpsFields) {
     );
 }
 
-fn quantization<W: Write>(lines: &mut Lines<'_, W>, pps: &PpsFields) {
+fn quantization<W: Write>(lines: &mut Lines<'_, W>, quantization: PpsQuantization) {
     fields!(
-        lines, pps;
+        lines, quantization;
         init_qp_minus26,
         constrained_intra_pred_flag,
         transform_skip_enabled_flag,
     );
-    qp_delta_depth(lines, pps.diff_cu_qp_delta_depth);
+    qp_delta_depth(lines, quantization.diff_cu_qp_delta_depth);
     fields!(
-        lines, pps;
+        lines, quantization;
         pps_cb_qp_offset,
         pps_cr_qp_offset,
         pps_slice_chroma_qp_offsets_present_flag,
@@ -59,9 +70,9 @@ fn qp_delta_depth<W: Write>(lines: &mut Lines<'_, W>, depth: Option<u32>) {
     }
 }
 
-fn prediction<W: Write>(lines: &mut Lines<'_, W>, pps: &PpsFields) {
+fn prediction<W: Write>(lines: &mut Lines<'_, W>, prediction: PpsPrediction) {
     fields!(
-        lines, pps;
+        lines, prediction;
         weighted_pred_flag,
         weighted_bipred_flag,
         transquant_bypass_enabled_flag,
@@ -69,21 +80,16 @@ fn prediction<W: Write>(lines: &mut Lines<'_, W>, pps: &PpsFields) {
     lines.flag("tiles_enabled_flag", false);
     lines.flag(
         "entropy_coding_sync_enabled_flag",
-        pps.entropy_coding_sync_enabled_flag,
+        prediction.entropy_coding_sync_enabled_flag,
     );
 }
 
-fn filters<W: Write>(lines: &mut Lines<'_, W>, pps: &PpsFields) {
+fn filters<W: Write>(lines: &mut Lines<'_, W>, filters: PpsFilters) {
     lines.flag(
         "pps_loop_filter_across_slices_enabled_flag",
-        pps.pps_loop_filter_across_slices_enabled_flag,
+        filters.pps_loop_filter_across_slices_enabled_flag,
     );
-    deblocking(lines, pps.deblocking_control);
-    coded_scaling_lists(
-        lines,
-        "pps_scaling_list_data_present_flag",
-        &pps.scaling_lists,
-    );
+    deblocking(lines, filters.deblocking_control);
 }
 
 fn deblocking<W: Write>(lines: &mut Lines<'_, W>, control: Option<DeblockingControl>) {

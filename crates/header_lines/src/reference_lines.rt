@@ -14,7 +14,7 @@ pub(crate) fn reference_lines<W: Write>(
 ) {
     fields!(lines, references; slice_pic_order_cnt_lsb, short_term_ref_pic_set_sps_flag);
     short_term(lines, references, sps);
-    if let Some(candidates) = &sps.long_term_ref_pics {
+    if let Some(candidates) = &sps.references.long_term_ref_pics {
         long_term(lines, &references.long_term, candidates.as_slice());
     }
 }
@@ -23,7 +23,7 @@ fn short_term<W: Write>(lines: &mut Lines<'_, W>, references: &ReferenceFields, 
     if !references.short_term_ref_pic_set_sps_flag {
         lines.text("short_term_ref_pic_set=");
         short_term_set(lines, &references.short_term_ref_pic_set);
-    } else if sps.short_term_ref_pic_sets.len() > 1 {
+    } else if sps.references.short_term_ref_pic_sets.len() > 1 {
         lines.number(
             "short_term_ref_pic_set_idx",
             references.short_term_ref_pic_set_idx,

@@ -24,7 +24,7 @@ pub fn print_slice_segment<W: Write>(
     if !header.segment.dependent_slice_segment_flag {
         slice_lines(&mut lines, header, sps, pps);
     }
-    if pps.entropy_coding_sync_enabled_flag {
+    if pps.prediction.entropy_coding_sync_enabled_flag {
         entry_points(&mut lines, header.entry_points.as_slice());
     }
     if let Some(bytes) = &header.extension {
@@ -49,7 +49,7 @@ fn segment_start<W: Write>(lines: &mut Lines<'_, W>, segment: SegmentFields, pps
         segment.slice_pic_parameter_set_id,
     );
     if !is_first {
-        if pps.dependent_slice_segments_enabled_flag {
+        if pps.slice_defaults.dependent_slice_segments_enabled_flag {
             lines.flag(
                 "dependent_slice_segment_flag",
                 segment.dependent_slice_segment_flag,
@@ -80,14 +80,14 @@ fn slice_start<W: Write>(lines: &mut Lines<'_, W>, slice: &SliceFields, pps: &Pp
         SliceType::I => 2,
     };
     lines.number("slice_type", slice_type);
-    if pps.output_flag_present_flag {
+    if pps.slice_defaults.output_flag_present_flag {
         lines.flag("pic_output_flag", slice.pic_output_flag);
     }
 }
 
 fn references<W: Write>(lines: &mut Lines<'_, W>, slice: &SliceFields, sps: &SpsFields) {
     reference_lines(lines, &slice.references, sps);
-    if sps.sps_temporal_mvp_enabled_flag {
+    if sps.references.sps_temporal_mvp_enabled_flag {
         lines.flag(
             "slice_temporal_mvp_enabled_flag",
             slice.slice_temporal_mvp_enabled_flag,
@@ -101,7 +101,7 @@ fn slice_rest<W: Write>(
     sps: &SpsFields,
     pps: &PpsFields,
 ) {
-    if sps.sample_adaptive_offset_enabled_flag {
+    if sps.tools.sample_adaptive_offset_enabled_flag {
         fields!(lines, slice; slice_sao_luma_flag, slice_sao_chroma_flag);
     }
     if let Some(inter) = &slice.inter {
@@ -109,7 +109,7 @@ fn slice_rest<W: Write>(
     }
     quantization(lines, slice, pps);
     deblocking(lines, slice.deblocking, pps);
-    if pps.pps_loop_filter_across_slices_enabled_flag && is_filtered(slice) {
+    if pps.filters.pps_loop_filter_across_slices_enabled_flag && is_filtered(slice) {
         lines.flag(
             "slice_loop_filter_across_slices_enabled_flag",
             slice.slice_loop_filter_across_slices_enabled_flag,
@@ -126,13 +126,13 @@ fn is_filtered(slice: &SliceFields) -> bool {
 
 fn quantization<W: Write>(lines: &mut Lines<'_, W>, slice: &SliceFields, pps: &PpsFields) {
     lines.number("slice_qp_delta", slice.slice_qp_delta);
-    if pps.pps_slice_chroma_qp_offsets_present_flag {
+    if pps.quantization.pps_slice_chroma_qp_offsets_present_flag {
         fields!(lines, slice; slice_cb_qp_offset, slice_cr_qp_offset);
     }
 }
 
 fn deblocking<W: Write>(lines: &mut Lines<'_, W>, deblocking: SliceDeblocking, pps: &PpsFields) {
-    if let Some(control) = pps.deblocking_control {
+    if let Some(control) = pps.filters.deblocking_control {
         if control.deblocking_filter_override_enabled_flag {
             let is_overridden = deblocking.deblocking_filter_override_flag;
             lines.flag("deblocking_filter_override_flag", is_overridden);

@@ -4,31 +4,33 @@ use crate::lines::{Lines, fields};
 use crate::set_lists::{coded_scaling_lists, short_term_sets};
 use header_types::{
     BlockSizes, ConformanceWindow, FieldList, LongTermCandidate, PcmFormat, PictureFormat, Profile,
-    ProfileTierLevel, SpsFields, SubLayerOrdering, SubLayerProfile,
+    ProfileTierLevel, SpsFields, SpsIdentity, SpsOrder, SpsReferences, SpsTools, SubLayerOrdering,
+    SubLayerProfile,
 };
 use std::io::{self, Write};
 
 /// Prints the fields of a sequence parameter set in the order of the grammar. An error is one of the writer.
 pub fn print_sps<W: Write>(sps: &SpsFields, out: &mut W) -> io::Result<()> {
     let mut lines = Lines::new(out);
-    set_start(&mut lines, sps);
+    identity(&mut lines, &sps.identity);
     format(&mut lines, &sps.format);
-    sub_layer_orderings(&mut lines, sps);
+    order(&mut lines, &sps.order);
     blocks(&mut lines, &sps.blocks);
-    tools(&mut lines, sps);
-    references(&mut lines, sps);
+    tools(&mut lines, &sps.tools);
+    references(&mut lines, &sps.references);
+    fields!(lines, sps; strong_intra_smoothing_enabled_flag, vui_parameters_present_flag);
     lines.finish()
 }
 
-fn set_start<W: Write>(lines: &mut Lines<'_, W>, sps: &SpsFields) {
+fn identity<W: Write>(lines: &mut Lines<'_, W>, set: &SpsIdentity) {
     fields!(
-        lines, sps;
+        lines, set;
         sps_video_parameter_set_id,
         sps_max_sub_layers_minus1,
         sps_temporal_id_nesting_flag,
     );
-    profile_tier_level(lines, &sps.profile_tier_level);
-    lines.number("sps_seq_parameter_set_id", sps.sps_seq_parameter_set_id);
+    profile_tier_level(lines, &set.profile_tier_level);
+    lines.number("sps_seq_parameter_set_id", set.sps_seq_parameter_set_id);
 }
 
 fn profile_tier_level<W: Write>(lines: &mut Lines<'_, W>, levels: &ProfileTierLevel) {
@@ -92,13 +94,13 @@ fn conformance_window<W: Write>(lines: &mut Lines<'_, W>, window: Option<Conform
     }
 }
 
-fn sub_layer_orderings<W: Write>(lines: &mut Lines<'_, W>, sps: &SpsFields) {
+fn order<W: Write>(lines: &mut Lines<'_, W>, order: &SpsOrder) {
     fields!(
-        lines, sps;
+        lines, order;
         log2_max_pic_order_cnt_lsb_minus4,
         sps_sub_layer_ordering_info_present_flag,
     );
-    for (i, ordering) in sps.sub_layer_ordering.as_slice().iter().enumerate() {
+    for (i, ordering) in order.sub_layer_ordering.as_slice().iter().enumerate() {
         sub_layer_ordering(lines, i, *ordering);
     }
 }
@@ -137,17 +139,17 @@ fn blocks<W: Write>(lines: &mut Lines<'_, W>, blocks: &BlockSizes) {
     );
 }
 
-fn tools<W: Write>(lines: &mut Lines<'_, W>, sps: &SpsFields) {
-    lines.flag("scaling_list_enabled_flag", sps.scaling_list_enabled_flag);
-    if sps.scaling_list_enabled_flag {
+fn tools<W: Write>(lines: &mut Lines<'_, W>, tools: &SpsTools) {
+    lines.flag("scaling_list_enabled_flag", tools.scaling_list_enabled_flag);
+    if tools.scaling_list_enabled_flag {
         coded_scaling_lists(
             lines,
             "sps_scaling_list_data_present_flag",
-            &sps.scaling_lists,
+            &tools.scaling_lists,
         );
     }
-    fields!(lines, sps; amp_enabled_flag, sample_adaptive_offset_enabled_flag);
-    pcm(lines, sps.pcm);
+    fields!(lines, tools; amp_enabled_flag, sample_adaptive_offset_enabled_flag);
+    pcm(lines, tools.pcm);
 }
 
 fn pcm<W: Write>(lines: &mut Lines<'_, W>, format: Option<PcmFormat>) {
@@ -164,16 +166,14 @@ fn pcm<W: Write>(lines: &mut Lines<'_, W>, format: Option<PcmFormat>) {
     }
 }
 
-fn references<W: Write>(lines: &mut Lines<'_, W>, sps: &SpsFields) {
-    let sets = sps.short_term_ref_pic_sets.as_slice();
+fn references<W: Write>(lines: &mut Lines<'_, W>, references: &SpsReferences) {
+    let sets = references.short_term_ref_pic_sets.as_slice();
     lines.number("num_short_term_ref_pic_sets", sets.len());
     short_term_sets(lines, sets);
-    long_term(lines, &sps.long_term_ref_pics);
-    fields!(
-        lines, sps;
-        sps_temporal_mvp_enabled_flag,
-        strong_intra_smoothing_enabled_flag,
-        vui_parameters_present_flag,
+    long_term(lines, &references.long_term_ref_pics);
+    lines.flag(
+        "sps_temporal_mvp_enabled_flag",
+        references.sps_temporal_mvp_enabled_flag,
     );
 }
 

@@ -21,6 +21,10 @@ use Rattle.header_types.specs.contracts.short_term_set.ShortTermRefPartialEq.The
 use Rattle.header_types.specs.contracts.short_term_set.StRpsPartialEq.TheImpl as set
 use Rattle.header_types.specs.contracts.sps.LongTermCandidatePartialEq.TheImpl as candidate
 use Rattle.header_types.specs.contracts.sps.SpsFieldsPartialEq.TheImpl as sps
+use Rattle.header_types.specs.contracts.sps.SpsIdentityPartialEq.TheImpl as identity
+use Rattle.header_types.specs.contracts.sps.SpsOrderPartialEq.TheImpl as order
+use Rattle.header_types.specs.contracts.sps.SpsReferencesPartialEq.TheImpl as references
+use Rattle.header_types.specs.contracts.sps.SpsToolsPartialEq.TheImpl as tools
 use Rattle.header_types.specs.contracts.reference_pictures.LongTermRefPartialEq.TheImpl as long_term
 
 -- the test says exactly where values are equal
@@ -107,29 +111,48 @@ set_exact a b =
 candidate_exact : IsExact candidate.eq-value.it
 candidate_exact a b = search rules
 
-pub sps_exact : IsExact sps.eq-value.it
-sps_exact a b =
+identity_exact : IsExact identity.eq-value.it
+identity_exact a b =
     let parts =
     both (Decides-eqb a.sps_video_parameter_set_id b.sps_video_parameter_set_id) (
     both (Decides-eqb a.sps_max_sub_layers_minus1 b.sps_max_sub_layers_minus1) (
     both (booleans_Decides a.sps_temporal_id_nesting_flag b.sps_temporal_id_nesting_flag) (
     both (tier_exact a.profile_tier_level b.profile_tier_level) (
-    both (Decides-eqb a.sps_seq_parameter_set_id b.sps_seq_parameter_set_id) (
-    both (format_exact a.format b.format) (
-    both (Decides-eqb a.log2_max_pic_order_cnt_lsb_minus4 b.log2_max_pic_order_cnt_lsb_minus4) (
-    both (booleans_Decides a.sps_sub_layer_ordering_info_present_flag b.sps_sub_layer_ordering_info_present_flag) (
-    both (lists ordering_exact a.sub_layer_ordering b.sub_layer_ordering) (
-    both (blocks_exact a.blocks b.blocks) (
+    Decides-eqb a.sps_seq_parameter_set_id b.sps_seq_parameter_set_id)))) in
+    Decides-like _ (λ h. search rules) (λ e. search rules) parts
+
+order_exact : IsExact order.eq-value.it
+order_exact a b =
+    let orderings = lists ordering_exact a.sub_layer_ordering b.sub_layer_ordering in
+    search rules
+
+tools_exact : IsExact tools.eq-value.it
+tools_exact a b =
+    let parts =
     both (booleans_Decides a.scaling_list_enabled_flag b.scaling_list_enabled_flag) (
     both (options scaling_lists_exact a.scaling_lists b.scaling_lists) (
     both (booleans_Decides a.amp_enabled_flag b.amp_enabled_flag) (
     both (booleans_Decides a.sample_adaptive_offset_enabled_flag b.sample_adaptive_offset_enabled_flag) (
-    both (options pcm_exact a.pcm b.pcm) (
-    both (lists set_exact a.short_term_ref_pic_sets b.short_term_ref_pic_sets) (
-    both (options (lists candidate_exact) a.long_term_ref_pics b.long_term_ref_pics) (
-    both (booleans_Decides a.sps_temporal_mvp_enabled_flag b.sps_temporal_mvp_enabled_flag) (
+    options pcm_exact a.pcm b.pcm)))) in
+    Decides-like _ (λ h. search rules) (λ e. search rules) parts
+
+references_exact : IsExact references.eq-value.it
+references_exact a b =
+    let sets = lists set_exact a.short_term_ref_pic_sets b.short_term_ref_pic_sets in
+    let candidates = options (lists candidate_exact) a.long_term_ref_pics b.long_term_ref_pics in
+    search rules
+
+pub sps_exact : IsExact sps.eq-value.it
+sps_exact a b =
+    let parts =
+    both (identity_exact a.identity b.identity) (
+    both (format_exact a.format b.format) (
+    both (order_exact a.order b.order) (
+    both (blocks_exact a.blocks b.blocks) (
+    both (tools_exact a.tools b.tools) (
+    both (references_exact a.references b.references) (
     both (booleans_Decides a.strong_intra_smoothing_enabled_flag b.strong_intra_smoothing_enabled_flag) (
-    booleans_Decides a.vui_parameters_present_flag b.vui_parameters_present_flag))))))))))))))))))) in
+    booleans_Decides a.vui_parameters_present_flag b.vui_parameters_present_flag))))))) in
     Decides-like _ (λ h. search rules) (λ e. search rules) parts
 
 pub long_term_exact : IsExact long_term.eq-value.it

@@ -19,7 +19,10 @@ pub use exact_clone::ExactClone;
 pub use field_list::FieldList;
 pub use former::{Former, Sets};
 pub use laws::same_content_is_equality;
-pub use pps::{DeblockingControl, Pps, PpsFields};
+pub use pps::{
+    DeblockingControl, Pps, PpsFields, PpsFilters, PpsIdentity, PpsPrediction, PpsQuantization,
+    PpsSliceDefaults,
+};
 pub use profile::{Profile, ProfileTierLevel, SubLayerProfile};
 pub use ref_list::RefList;
 pub use reference_pictures::{
@@ -30,6 +33,6 @@ pub use shared::Shared;
 pub use short_term_set::{ShortTermRef, StRps};
 pub use sps::{
     BlockSizes, ConformanceWindow, LongTermCandidate, PcmFormat, PictureFormat, SpsFields,
-    SubLayerOrdering,
+    SpsIdentity, SpsOrder, SpsReferences, SpsTools, SubLayerOrdering,
 };
 pub use sps_ranges::Sps;

@@ -128,17 +128,17 @@ impl Sps {
         ensures value { result ≡ max_lsb self.now }
         ensures in_range { IsSps self.now }
     {
-        1 << (self.fields.log2_max_pic_order_cnt_lsb_minus4 + 4)
+        1 << (self.fields.order.log2_max_pic_order_cnt_lsb_minus4 + 4)
     }
 
     /// The buffering and reordering of the highest sub-layer.
     #[tactic(auto, unfolding(crate::specs::SequenceParameterSets::highest_ordering))]
     pub fn highest_ordering(&self) -> SubLayerOrdering
-        ensures value { result ≡ highest_ordering self.now.sub_layer_ordering }
+        ensures value { result ≡ highest_ordering self.now.order.sub_layer_ordering }
         ensures buffering { result.max_dec_pic_buffering_minus1 ≤ 15 }
         ensures reorder { result.max_num_reorder_pics ≤ result.max_dec_pic_buffering_minus1 }
     {
-        let orderings = self.fields.sub_layer_ordering.as_slice();
+        let orderings = self.fields.order.sub_layer_ordering.as_slice();
         orderings[orderings.len() - 1]
     }
 

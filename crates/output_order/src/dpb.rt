@@ -71,10 +71,11 @@ impl Dpb {
         ensures left { IfOk result (λ o. self.new
             ≡ record {
               pictures = o.dpb;
-              started = Some (highest_ordering sps.now.sub_layer_ordering).max_num_reorder_pics;
+              started = Some (highest_ordering sps.now.order.sub_layer_ordering).max_num_reorder_pics;
             }) }
         ensures room { OnOk result
-            (length self.new.pictures ≤ (highest_ordering sps.now.sub_layer_ordering).max_dec_pic_buffering_minus1) }
+            (length self.new.pictures
+            ≤ (highest_ordering sps.now.order.sub_layer_ordering).max_dec_pic_buffering_minus1) }
         ensures err { OnErr result (self.new ≡ self.old) }
     {
         let current = current_picture(header.fields(), sps, 0);

@@ -49,10 +49,10 @@ pub fn picture_scaling_lists(
 ) -> Result<Option<ScalingLists>, AllocError>
     ensures { IfOk result (λ s. s ≡ picture_scaling_lists sps.now pps.now) }
 {
-    if !sps.scaling_list_enabled_flag {
+    if !sps.tools.scaling_list_enabled_flag {
         return Ok(None);
     }
-    let lists = match (&pps.scaling_lists, &sps.scaling_lists) {
+    let lists = match (&pps.scaling_lists, &sps.tools.scaling_lists) {
         (Some(lists), _) => lists.clone()?,
         (None, Some(lists)) => lists.clone()?,
         (None, None) => default_scaling_lists(alloc)?,

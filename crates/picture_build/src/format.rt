@@ -41,7 +41,7 @@ fn format_by(sps: &Sps, pps: &Pps, intra: ScalingFactors, inter: ScalingFactors)
         cb_qp_offset: 0,
         cr_qp_offset: 0,
         strong_intra_smoothing: fields.strong_intra_smoothing_enabled_flag,
-        constrained_intra: pps.fields().constrained_intra_pred_flag,
+        constrained_intra: pps.fields().quantization.constrained_intra_pred_flag,
         intra_factors: intra,
         inter_factors: inter,
     }
@@ -56,12 +56,12 @@ struct PcmBits {
 
 /// Those of a picture, 0 where no block is by pulse code modulation.
 fn pcm_bits(sps: &Sps) -> PcmBits
-    ensures luma { result.luma ≡ (pcm_syntax sps.now.pcm).luma_bits }
-    ensures chroma { result.chroma ≡ (pcm_syntax sps.now.pcm).chroma_bits }
+    ensures luma { result.luma ≡ (pcm_syntax sps.now.tools.pcm).luma_bits }
+    ensures chroma { result.chroma ≡ (pcm_syntax sps.now.tools.pcm).chroma_bits }
     ensures few_luma { result.luma ≤ 8 }
     ensures few_chroma { result.chroma ≤ 8 }
 {
-    match sps.fields().pcm {
+    match sps.fields().tools.pcm {
         None => PcmBits { luma: 0, chroma: 0 },
         Some(pcm) => PcmBits {
             luma: (pcm.pcm_sample_bit_depth_luma_minus1 + 1) as u8,
@@ -77,8 +77,8 @@ pub(crate) fn set_slice(format: &mut UnitFormat, pps: &Pps, slice: &SliceFields)
     ensures format { IsFormat format.new }
 {
     let pps = pps.fields();
-    format.cb_qp_offset = sum_of(pps.pps_cb_qp_offset, slice.slice_cb_qp_offset);
-    format.cr_qp_offset = sum_of(pps.pps_cr_qp_offset, slice.slice_cr_qp_offset);
+    format.cb_qp_offset = sum_of(pps.quantization.pps_cb_qp_offset, slice.slice_cb_qp_offset);
+    format.cr_qp_offset = sum_of(pps.quantization.pps_cr_qp_offset, slice.slice_cr_qp_offset);
 }
 
 /// The offset of a picture and that of a slice.

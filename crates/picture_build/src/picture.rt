@@ -11,10 +11,10 @@ use picture_buffer::{Bases, Picture};
 use picture_trees::{ReadError, read_picture};
 use plan_types::PicturePlan;
 use sample_laws::built_samples_are_in_range;
-use unit_laws::units_that_are_read_are_sound;
 use std::alloc::Global;
 use std::marker::Brand;
 use std::mem;
+use unit_laws::units_that_are_read_are_sound;
 
 /// Reads and builds a picture over the pictures of the decoded picture buffer before it, and filters it: its samples
 /// and its motion. The error is the first rule that its data break, or want of memory, which is taken before the first

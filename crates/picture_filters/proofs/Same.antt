@@ -75,7 +75,7 @@ pub read_is : (p : PicturePlan) (s : SegmentPlan) (unit : Unit) (items : List It
     → IsUnit p s unit
     → sides.filter_left ≡ is_left_filtered p s unit.address → sides.filter_top ≡ is_top_filtered p s unit.address
     → sides.deblocking_disabled ≡ s.header.slice.deblocking.slice_deblocking_filter_disabled_flag
-    → sides.pcm_loop_filter_disabled ≡ pcm_disabled p.sps.pcm → sides.qp_bd_offset ≡ qp_bd_offset p.sps
+    → sides.pcm_loop_filter_disabled ≡ pcm_disabled p.sps.tools.pcm → sides.qp_bd_offset ≡ qp_bd_offset p.sps
     → IsCodedLeft unit coded sides.coded_left → IsCodedAbove unit coded sides.coded_above → x < 16 → y < 16
     → unit_place (beside_of sides (motion_near unit.layout unit.address motions)) sides.pcm_loop_filter_disabled
     sides.qp_bd_offset items x y
@@ -86,10 +86,10 @@ read_is p s unit items motions coded sides x y is left top disabled pcm offset b
     sides.qp_bd_offset items x y)
     pcm
     ∙ (ap (λ (n : ℕ). unit_place (beside_of sides (motion_near unit.layout unit.address motions))
-    (pcm_disabled p.sps.pcm) n items x y)
+    (pcm_disabled p.sps.tools.pcm) n items x y)
     offset
     ∙ place_same (beside_of sides (motion_near unit.layout unit.address motions))
-    (beside_unit p s unit.address motions coded) (pcm_disabled p.sps.pcm) (qp_bd_offset p.sps) items x y
+    (beside_unit p s unit.address motions coded) (pcm_disabled p.sps.tools.pcm) (qp_bd_offset p.sps) items x y
     (record {
       motion = ap (λ (q : PictureShape). motion_near q unit.address motions) is.layout;
       left = left;

@@ -24,7 +24,7 @@ pub(crate) fn unit_sides(
     ensures top { result.filter_top ≡ is_top_filtered plan.now segment.now unit.now.address }
     ensures disabled { result.deblocking_disabled
         ≡ segment.now.header.slice.deblocking.slice_deblocking_filter_disabled_flag }
-    ensures pcm { result.pcm_loop_filter_disabled ≡ pcm_disabled plan.now.sps.pcm }
+    ensures pcm { result.pcm_loop_filter_disabled ≡ pcm_disabled plan.now.sps.tools.pcm }
     ensures offset { result.qp_bd_offset ≡ qp_bd_offset plan.now.sps }
     ensures small { result.qp_bd_offset ≤ 48 }
     ensures coded_left { IsCodedLeft unit.now (coded_part (places_of places.now)) result.coded_left }
@@ -80,9 +80,9 @@ fn is_reached(segment: &SegmentPlan, unit: &Unit, before: u32) -> bool
 
 /// pcm_loop_filter_disabled_flag; 0 where it isn't coded.
 fn pcm_disabled(plan: &PicturePlan) -> bool
-    ensures { result ≡ pcm_disabled plan.now.sps.pcm }
+    ensures { result ≡ pcm_disabled plan.now.sps.tools.pcm }
 {
-    match plan.sps.fields().pcm {
+    match plan.sps.fields().tools.pcm {
         Some(pcm) => pcm.pcm_loop_filter_disabled_flag,
         None => false,
     }

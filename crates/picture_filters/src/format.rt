@@ -22,8 +22,8 @@ pub(crate) fn filter_format(plan: &PicturePlan) -> FilterFormat
         ctb_size: plan.sps.ctb_size() as usize,
         luma_depth: picture.bit_depth_luma_minus8 + 8,
         chroma_depth: picture.bit_depth_chroma_minus8 + 8,
-        pps_cb_qp_offset: qp_offset(sets.pps_cb_qp_offset),
-        pps_cr_qp_offset: qp_offset(sets.pps_cr_qp_offset),
+        pps_cb_qp_offset: qp_offset(sets.quantization.pps_cb_qp_offset),
+        pps_cr_qp_offset: qp_offset(sets.quantization.pps_cr_qp_offset),
     }
 }
 

@@ -44,7 +44,7 @@ pub fn broken_at_closing(picture: &PicturePlan) -> Option<Fault>
 /// Whether the decoded picture buffer has no room for a picture.
 fn is_buffer_full(picture: &PicturePlan) -> bool
     ensures value { result ≡ is_buffer_full picture.now }
-    ensures few { size_of (highest_ordering picture.now.sps.sub_layer_ordering) ≤ 16 }
+    ensures few { size_of (highest_ordering picture.now.sps.order.sub_layer_ordering) ≤ 16 }
 {
     let ordering = picture.sps.highest_ordering();
     is_full_of_references(
@@ -61,7 +61,12 @@ fn is_buffer_full(picture: &PicturePlan) -> bool
 fn broken_in(picture: &PicturePlan) -> Option<Fault>
     ensures { result ≡ broken_in picture.now }
 {
-    if !picture.pps.fields().entropy_coding_sync_enabled_flag {
+    if !picture
+        .pps
+        .fields()
+        .prediction
+        .entropy_coding_sync_enabled_flag
+    {
         return None;
     }
     let width = picture.sps.width_in_ctbs();

@@ -163,7 +163,7 @@ fn parts_of(
     let Some(pps) = sets.pps(header.fields().segment.slice_pic_parameter_set_id) else {
         return Err(Refusal::Fault(FaultKind::MissingSet));
     };
-    let Some(sps) = sets.sps(pps.fields().pps_seq_parameter_set_id) else {
+    let Some(sps) = sets.sps(pps.fields().identity.pps_seq_parameter_set_id) else {
         return Err(Refusal::Fault(FaultKind::MissingSet));
     };
     parts_under(alloc, former, Named { sps, pps }, header)

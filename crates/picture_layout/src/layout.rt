@@ -53,7 +53,11 @@ impl Layout {
             across: format.pic_width_in_luma_samples / 4,
             down: format.pic_height_in_luma_samples / 4,
             size: (sps.ctb_log2() - 2) as u8,
-            sync: plan.pps.fields().entropy_coding_sync_enabled_flag,
+            sync: plan
+                .pps
+                .fields()
+                .prediction
+                .entropy_coding_sync_enabled_flag,
         }
     }
 

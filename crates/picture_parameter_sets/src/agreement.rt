@@ -30,7 +30,7 @@ fn ctb_log2_size(blocks: &BlockSizes) -> u64
 pub fn fits(sps: &SpsFields, pps: &PpsFields) -> bool
     ensures { result ≡ fits sps.now pps.now }
 {
-    let depth = qp_delta_depth(pps.diff_cu_qp_delta_depth);
+    let depth = qp_delta_depth(pps.quantization.diff_cu_qp_delta_depth);
     let log2_par_mrg_level = u64::from(pps.log2_parallel_merge_level_minus2) + 2;
     depth <= sps.blocks.log2_diff_max_min_luma_coding_block_size
         && log2_par_mrg_level <= ctb_log2_size(&sps.blocks)

@@ -2,16 +2,58 @@
 
 ghost use Rattle.std.specs.Prelude.{◌≡◌, ℕ, pos, neg_ℤ, ◌≤ℤ◌, List, IfOk, IfSome};
 ghost use Rattle.header_fields.specs.Takes.{Takes};
-ghost use Rattle.header_types.specs.PictureParameterSet.{IsWithin, IsDeblockingControl, IsPps};
+ghost use Rattle.header_types.specs.PictureParameterSet.{IsWithin, IsDeblockingControl, IsPps, IsPpsIdentity};
+ghost use Rattle.header_types.specs.PictureParameterSet.{IsPpsSliceDefaults, IsPpsQuantization, IsPpsFilters};
 ghost use Rattle.spec_formats.specs.Fields.{Parses, optional, ue};
 ghost use Rattle.spec_parameter_sets.specs.PictureParameterSet.{deblocking_offset, deblocking_control};
-ghost use Rattle.spec_parameter_sets.specs.PictureParameterSet.{picture_parameter_set, picture_parameter_set_of};
+ghost use Rattle.spec_parameter_sets.specs.PictureParameterSet.{pps_identity, pps_slice_defaults, pps_quantization};
+ghost use Rattle.spec_parameter_sets.specs.PictureParameterSet.{pps_prediction, pps_filters, picture_parameter_set};
+ghost use Rattle.spec_parameter_sets.specs.PictureParameterSet.{picture_parameter_set_of};
 
 use header_fields::FieldReader;
-use header_types::{DeblockingControl, Pps, PpsFields};
+use header_types::{
+    DeblockingControl, Pps, PpsFields, PpsFilters, PpsIdentity, PpsPrediction, PpsQuantization,
+    PpsSliceDefaults,
+};
 use hv_base::{LimitKind, PARAMETER_SET_RULES, Refusal};
 use param_sets::read_scaling_lists;
 use std::alloc::Global;
+
+#[tactic(auto, unfolding(spec_parameter_sets::specs::PictureParameterSet::pps_identity))]
+fn read_identity<'a>(reader: &mut FieldReader<'a>) -> Result<PpsIdentity, Refusal>
+    ensures in_range { IfOk result IsPpsIdentity }
+    ensures value { Takes (λ x. x) result reader.old reader.new pps_identity }
+{
+    let pps_pic_parameter_set_id = reader.ue_to(63)?;
+    let pps_seq_parameter_set_id = reader.ue_to(15)?;
+    Ok(PpsIdentity {
+        pps_pic_parameter_set_id,
+        pps_seq_parameter_set_id,
+    })
+}
+
+#[tactic(auto, unfolding(spec_parameter_sets::specs::PictureParameterSet::pps_slice_defaults))]
+fn read_slice_defaults<'a>(reader: &mut FieldReader<'a>) -> Result<PpsSliceDefaults, Refusal>
+    ensures in_range { IfOk result IsPpsSliceDefaults }
+    ensures value { Takes (λ x. x) result reader.old reader.new pps_slice_defaults }
+{
+    let dependent_slice_segments_enabled_flag = reader.flag()?;
+    let output_flag_present_flag = reader.flag()?;
+    let num_extra_slice_header_bits = reader.u(3)?;
+    let sign_data_hiding_enabled_flag = reader.flag()?;
+    let cabac_init_present_flag = reader.flag()?;
+    let num_ref_idx_l0_default_active_minus1 = reader.ue_to(14)?;
+    let num_ref_idx_l1_default_active_minus1 = reader.ue_to(14)?;
+    Ok(PpsSliceDefaults {
+        dependent_slice_segments_enabled_flag,
+        output_flag_present_flag,
+        num_extra_slice_header_bits,
+        sign_data_hiding_enabled_flag,
+        cabac_init_present_flag,
+        num_ref_idx_l0_default_active_minus1,
+        num_ref_idx_l1_default_active_minus1,
+    })
+}
 
 fn read_diff_cu_qp_delta_depth<'a>(
     reader: &mut FieldReader<'a>,
@@ -23,6 +65,50 @@ fn read_diff_cu_qp_delta_depth<'a>(
         return Ok(None);
     }
     Ok(Some(reader.ue()?))
+}
+
+#[tactic(auto, unfolding(spec_parameter_sets::specs::PictureParameterSet::pps_quantization))]
+fn read_quantization<'a>(reader: &mut FieldReader<'a>) -> Result<PpsQuantization, Refusal>
+    ensures in_range { IfOk result IsPpsQuantization }
+    ensures value { Takes (λ x. x) result reader.old reader.new pps_quantization }
+{
+    let init_qp_minus26 = reader.se_within(26, 25)?;
+    let constrained_intra_pred_flag = reader.flag()?;
+    let transform_skip_enabled_flag = reader.flag()?;
+    let cu_qp_delta_enabled_flag = reader.flag()?;
+    let diff_cu_qp_delta_depth = read_diff_cu_qp_delta_depth(reader, cu_qp_delta_enabled_flag)?;
+    let pps_cb_qp_offset = reader.se_within(12, 12)?;
+    let pps_cr_qp_offset = reader.se_within(12, 12)?;
+    let pps_slice_chroma_qp_offsets_present_flag = reader.flag()?;
+    Ok(PpsQuantization {
+        init_qp_minus26,
+        constrained_intra_pred_flag,
+        transform_skip_enabled_flag,
+        diff_cu_qp_delta_depth,
+        pps_cb_qp_offset,
+        pps_cr_qp_offset,
+        pps_slice_chroma_qp_offsets_present_flag,
+    })
+}
+
+#[tactic(auto, unfolding(spec_parameter_sets::specs::PictureParameterSet::pps_prediction))]
+fn read_prediction<'a>(reader: &mut FieldReader<'a>) -> Result<PpsPrediction, Refusal>
+    ensures value { Takes (λ x. x) result reader.old reader.new pps_prediction }
+{
+    let weighted_pred_flag = reader.flag()?;
+    let weighted_bipred_flag = reader.flag()?;
+    let transquant_bypass_enabled_flag = reader.flag()?;
+    let tiles_enabled_flag = reader.flag()?;
+    if tiles_enabled_flag {
+        return Err(Refusal::Limit(LimitKind::Tiles));
+    }
+    let entropy_coding_sync_enabled_flag = reader.flag()?;
+    Ok(PpsPrediction {
+        weighted_pred_flag,
+        weighted_bipred_flag,
+        transquant_bypass_enabled_flag,
+        entropy_coding_sync_enabled_flag,
+    })
 }
 
 #[tactic(auto, unfolding(spec_parameter_sets::specs::PictureParameterSet::deblocking_offset))]
@@ -59,70 +145,44 @@ fn read_deblocking_control<'a>(
     }))
 }
 
-#[tactic(auto, unfolding(spec_parameter_sets::specs::PictureParameterSet::picture_parameter_set))]
-fn read_fields<'a>(alloc: Global, reader: &mut FieldReader<'a>) -> Result<PpsFields, Refusal>
-    ensures in_range { IfOk result (λ p. IsPps p) }
-    ensures value { Takes (λ x. x) result reader.old reader.new picture_parameter_set }
+#[tactic(auto, unfolding(spec_parameter_sets::specs::PictureParameterSet::pps_filters))]
+fn read_filters<'a>(reader: &mut FieldReader<'a>) -> Result<PpsFilters, Refusal>
+    ensures in_range { IfOk result IsPpsFilters }
+    ensures value { Takes (λ x. x) result reader.old reader.new pps_filters }
 {
-    let pps_pic_parameter_set_id = reader.ue_to(63)?;
-    let pps_seq_parameter_set_id = reader.ue_to(15)?;
-    let dependent_slice_segments_enabled_flag = reader.flag()?;
-    let output_flag_present_flag = reader.flag()?;
-    let num_extra_slice_header_bits = reader.u(3)?;
-    let sign_data_hiding_enabled_flag = reader.flag()?;
-    let cabac_init_present_flag = reader.flag()?;
-    let num_ref_idx_l0_default_active_minus1 = reader.ue_to(14)?;
-    let num_ref_idx_l1_default_active_minus1 = reader.ue_to(14)?;
-    let init_qp_minus26 = reader.se_within(26, 25)?;
-    let constrained_intra_pred_flag = reader.flag()?;
-    let transform_skip_enabled_flag = reader.flag()?;
-    let cu_qp_delta_enabled_flag = reader.flag()?;
-    let diff_cu_qp_delta_depth = read_diff_cu_qp_delta_depth(reader, cu_qp_delta_enabled_flag)?;
-    let pps_cb_qp_offset = reader.se_within(12, 12)?;
-    let pps_cr_qp_offset = reader.se_within(12, 12)?;
-    let pps_slice_chroma_qp_offsets_present_flag = reader.flag()?;
-    let weighted_pred_flag = reader.flag()?;
-    let weighted_bipred_flag = reader.flag()?;
-    let transquant_bypass_enabled_flag = reader.flag()?;
-    let tiles_enabled_flag = reader.flag()?;
-    if tiles_enabled_flag {
-        return Err(Refusal::Limit(LimitKind::Tiles));
-    }
-    let entropy_coding_sync_enabled_flag = reader.flag()?;
     let pps_loop_filter_across_slices_enabled_flag = reader.flag()?;
     let deblocking_filter_control_present_flag = reader.flag()?;
     let deblocking_control = read_deblocking_control(
         reader,
         deblocking_filter_control_present_flag,
     )?;
+    Ok(PpsFilters {
+        pps_loop_filter_across_slices_enabled_flag,
+        deblocking_control,
+    })
+}
+
+#[tactic(auto, unfolding(spec_parameter_sets::specs::PictureParameterSet::picture_parameter_set))]
+fn read_fields<'a>(alloc: Global, reader: &mut FieldReader<'a>) -> Result<PpsFields, Refusal>
+    ensures in_range { IfOk result IsPps }
+    ensures value { Takes (λ x. x) result reader.old reader.new picture_parameter_set }
+{
+    let identity = read_identity(reader)?;
+    let slice_defaults = read_slice_defaults(reader)?;
+    let quantization = read_quantization(reader)?;
+    let prediction = read_prediction(reader)?;
+    let filters = read_filters(reader)?;
     let pps_scaling_list_data_present_flag = reader.flag()?;
     let scaling_lists = read_scaling_lists(alloc, reader, pps_scaling_list_data_present_flag)?;
     let lists_modification_present_flag = reader.flag()?;
     let log2_parallel_merge_level_minus2 = reader.ue()?;
     let slice_segment_header_extension_present_flag = reader.flag()?;
     Ok(PpsFields {
-        pps_pic_parameter_set_id,
-        pps_seq_parameter_set_id,
-        dependent_slice_segments_enabled_flag,
-        output_flag_present_flag,
-        num_extra_slice_header_bits,
-        sign_data_hiding_enabled_flag,
-        cabac_init_present_flag,
-        num_ref_idx_l0_default_active_minus1,
-        num_ref_idx_l1_default_active_minus1,
-        init_qp_minus26,
-        constrained_intra_pred_flag,
-        transform_skip_enabled_flag,
-        diff_cu_qp_delta_depth,
-        pps_cb_qp_offset,
-        pps_cr_qp_offset,
-        pps_slice_chroma_qp_offsets_present_flag,
-        weighted_pred_flag,
-        weighted_bipred_flag,
-        transquant_bypass_enabled_flag,
-        entropy_coding_sync_enabled_flag,
-        pps_loop_filter_across_slices_enabled_flag,
-        deblocking_control,
+        identity,
+        slice_defaults,
+        quantization,
+        prediction,
+        filters,
         scaling_lists,
         lists_modification_present_flag,
         log2_parallel_merge_level_minus2,

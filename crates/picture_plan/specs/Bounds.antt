@@ -10,7 +10,7 @@ use Rattle.picture_plan.specs.declared.change.Change.TheVariants as change
 
 -- the buffer between two pictures holds no more than the sequence parameter set of the last one says, and 16 at most
 pub record IsWithin (f : Former) : Type 0 where
-  pub size : IfSome f.active (λ sps. length f.dpb ≤ size_of (highest_ordering sps.sub_layer_ordering))
+  pub size : IfSome f.active (λ sps. length f.dpb ≤ size_of (highest_ordering sps.order.sub_layer_ordering))
   pub few : length f.dpb ≤ 16
 
 -- what is known between two units of a stream that a planner read

@@ -99,7 +99,7 @@ impl<'a> Segment<'a> {
 fn slice_qp(pps: &Pps, slice_qp_delta: i32) -> i64
     ensures { result ≡ slice_qp pps.now slice_qp_delta }
 {
-    26 + i64::from(pps.fields().init_qp_minus26) + i64::from(slice_qp_delta)
+    26 + i64::from(pps.fields().quantization.init_qp_minus26) + i64::from(slice_qp_delta)
 }
 
 /// Qp'Y of a slice, by QpBdOffsetY and SliceQpY.

@@ -27,12 +27,12 @@ pub(crate) fn segment_syntax(picture: &PicturePlan, segment: &SegmentPlan) -> Ct
         log2_min_transform: (sps.min_tb_log2() - 2) as u8,
         log2_max_transform: (sps.max_tb_log2() - 2) as u8,
         max_depth_intra: fields.blocks.max_transform_hierarchy_depth_intra as u8,
-        log2_group: log2_group(sps.ctb_log2(), pps.diff_cu_qp_delta_depth),
+        log2_group: log2_group(sps.ctb_log2(), pps.quantization.diff_cu_qp_delta_depth),
         qp_offset: (6 * fields.format.bit_depth_luma_minus8) as u8,
-        cu_qp_delta_enabled: pps.diff_cu_qp_delta_depth.is_some(),
-        transquant_bypass_enabled: pps.transquant_bypass_enabled_flag,
-        transform_skip_enabled: pps.transform_skip_enabled_flag,
-        sign_data_hiding_enabled: pps.sign_data_hiding_enabled_flag,
+        cu_qp_delta_enabled: pps.quantization.diff_cu_qp_delta_depth.is_some(),
+        transquant_bypass_enabled: pps.prediction.transquant_bypass_enabled_flag,
+        transform_skip_enabled: pps.quantization.transform_skip_enabled_flag,
+        sign_data_hiding_enabled: pps.slice_defaults.sign_data_hiding_enabled_flag,
         pcm: pcm_syntax(sps),
         inter: inter_syntax(sps, slice),
         sao_luma: slice.slice_sao_luma_flag,
@@ -75,7 +75,7 @@ fn inter_syntax(sps: &Sps, slice: &SliceFields) -> InterSyntax
         active_0: 1,
         active_1: 1,
         mvd_l1_zero: false,
-        amp_enabled: sets.amp_enabled_flag,
+        amp_enabled: sets.tools.amp_enabled_flag,
         max_depth_inter: sets.blocks.max_transform_hierarchy_depth_inter as u8,
     };
     match &slice.inter {
@@ -124,11 +124,11 @@ fn log2_group(ctb_log2: u32, depth: Option<u32>) -> u8
 
 /// The blocks that pulse code modulation takes.
 fn pcm_syntax(sps: &Sps) -> PcmSyntax
-    ensures value { result ≡ pcm_syntax sps.now.pcm }
+    ensures value { result ≡ pcm_syntax sps.now.tools.pcm }
     ensures luma { result.luma_bits ≤ 16 }
     ensures chroma { result.chroma_bits ≤ 16 }
 {
-    match sps.fields().pcm {
+    match sps.fields().tools.pcm {
         None => PcmSyntax {
             enabled: false,
             log2_least: 0,

@@ -132,7 +132,7 @@ plan_is sets p is e = let rises = rise_inside (size_in_ctbs p.sps) p.segments is
   order = record { first = rises.0; rise = rises.1 };
   slices = is.slices;
   references = is.references;
-  rows = rows_if p.pps.entropy_coding_sync_enabled_flag p is.cut e;
+  rows = rows_if p.pps.prediction.entropy_coding_sync_enabled_flag p is.cut e;
 }
 
 -- ---- a picture that is opened

@@ -121,7 +121,8 @@ closing_is s f is keeps = let c = close_is s is in then_is (close s).closed (clo
 put_sps_is : (s : Between) (sps : SpsFields) → IsBetween s → s.picture ≡ None → IsSps sps → IsBetween (put_sps s sps)
 put_sps_is s sps is none ok = none_open (put_sps s sps)
     (record {
-      sps = All-set (λ set. IfSome set IsSps) s.sets.sps sps.sps_seq_parameter_set_id (Some sps) ok is.sets.sps;
+      sps =
+          All-set (λ set. IfSome set IsSps) s.sets.sps sps.identity.sps_seq_parameter_set_id (Some sps) ok is.sets.sps;
       pps = is.sets.pps;
     })
     none
@@ -130,7 +131,8 @@ put_pps_is : (s : Between) (pps : PpsFields) → IsBetween s → s.picture ≡ N
 put_pps_is s pps is none ok = none_open (put_pps s pps)
     (record {
       sps = is.sets.sps;
-      pps = All-set (λ set. IfSome set IsPps) s.sets.pps pps.pps_pic_parameter_set_id (Some pps) ok is.sets.pps;
+      pps =
+          All-set (λ set. IfSome set IsPps) s.sets.pps pps.identity.pps_pic_parameter_set_id (Some pps) ok is.sets.pps;
     })
     none
 

@@ -36,5 +36,5 @@ pub record IsPlan (p : PicturePlan) : Type 0 where
   pub order : AreInOrder p
   pub slices : BeginSlicesFrom 0 p.segments
   pub references : All (λ (s : SegmentPlan). IfSome s.lists (AreReferences (length p.rps.marks))) p.segments
-  pub rows : p.pps.entropy_coding_sync_enabled_flag ≡ true
+  pub rows : p.pps.prediction.entropy_coding_sync_enabled_flag ≡ true
       → HaveRows (width_in_ctbs p.sps) (size_in_ctbs p.sps) p.segments

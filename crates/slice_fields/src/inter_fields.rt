@@ -135,11 +135,11 @@ fn read_collocated<'a>(
 fn has_weights(slice_type: SliceType, pps: &Pps) -> bool
     ensures { result ≡ has_weights slice_type pps.now }
 {
-    let fields = pps.fields();
+    let prediction = &pps.fields().prediction;
     if is_b(slice_type) {
-        fields.weighted_bipred_flag
+        prediction.weighted_bipred_flag
     } else {
-        fields.weighted_pred_flag
+        prediction.weighted_pred_flag
     }
 }
 
@@ -162,9 +162,9 @@ pub fn read_inter_fields<'a>(
     let fields = pps.fields();
     let is_b = is_b(slice_type);
     let is_overridden = reader.flag()?;
-    let l0_default = fields.num_ref_idx_l0_default_active_minus1;
+    let l0_default = fields.slice_defaults.num_ref_idx_l0_default_active_minus1;
     let l0_minus1 = ue_or(reader, is_overridden, 14, l0_default)?;
-    let l1_default = fields.num_ref_idx_l1_default_active_minus1;
+    let l1_default = fields.slice_defaults.num_ref_idx_l1_default_active_minus1;
     let l1_minus1 = read_l1_minus1(reader, is_b, is_overridden, l1_default)?;
     let active_1 = entries_1(l1_minus1);
     let is_weighted = has_weights(slice_type, pps);
@@ -176,7 +176,7 @@ pub fn read_inter_fields<'a>(
         list_entry_l0: read_modification(alloc, reader, is_modified, total, l0_minus1 + 1)?,
         list_entry_l1: read_modification(alloc, reader, is_b && is_modified, total, active_1)?,
         mvd_l1_zero_flag: flag_or(reader, is_b, false)?,
-        cabac_init_flag: flag_or(reader, fields.cabac_init_present_flag, false)?,
+        cabac_init_flag: flag_or(reader, fields.slice_defaults.cabac_init_present_flag, false)?,
         collocated: read_collocated(reader, is_temporal, slice_type, l0_minus1, l1_minus1)?,
         weights: read_weights(alloc, reader, is_weighted, l0_minus1 + 1, active_1)?,
         five_minus_max_num_merge_cand: reader.ue_to(4)?,

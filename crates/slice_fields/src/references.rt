@@ -41,7 +41,7 @@ fn read_coded_short_term<'a>(
     ensures value { Takes short_term_of result reader.old reader.new (coded_short_term sps.now) }
     ensures near { IfOk result (λ s. IsStRps 79 s.short_term_ref_pic_set) }
 {
-    let sets = sps.fields().short_term_ref_pic_sets.as_slice();
+    let sets = sps.fields().references.short_term_ref_pic_sets.as_slice();
     let count = sets.len() as u32;
     let max = sps.highest_ordering().max_dec_pic_buffering_minus1;
     Ok(ShortTermFields {
@@ -60,7 +60,7 @@ fn read_named_short_term<'a>(
     ensures value { Takes short_term_of result reader.old reader.new (named_short_term sps.now) }
     ensures near { IfOk result (λ s. IsStRps 79 s.short_term_ref_pic_set) }
 {
-    let sets = sps.fields().short_term_ref_pic_sets.as_slice();
+    let sets = sps.fields().references.short_term_ref_pic_sets.as_slice();
     let count = sets.len() as u32;
     let short_term_ref_pic_set_idx = reader.u(ceil_log2(count))?;
     reader.ranged(short_term_ref_pic_set_idx < count)?;
@@ -128,7 +128,7 @@ fn read_coded_long_term<'a>(reader: &mut FieldReader<'a>, sps: &Sps) -> Result<L
 {
     Ok(LongTermRef {
         lt_idx_sps: None,
-        poc_lsb_lt: reader.u(sps.fields().log2_max_pic_order_cnt_lsb_minus4 + 4)?,
+        poc_lsb_lt: reader.u(sps.fields().order.log2_max_pic_order_cnt_lsb_minus4 + 4)?,
         used_by_curr_pic_lt_flag: reader.flag()?,
         delta_poc_msb_cycle_lt: read_msb_cycle(reader)?,
     })
@@ -184,10 +184,11 @@ fn read_long_term<'a>(
     set: &StRps,
 ) -> Result<LongTermRefs, Refusal>
     requires set { IsStRps 79 set.now }
-    ensures value { Takes (λ x. x) result reader.old reader.new (long_term sps.now set.now sps.now.long_term_ref_pics) }
+    ensures value { Takes (λ x. x) result reader.old reader.new
+        (long_term sps.now set.now sps.now.references.long_term_ref_pics) }
     ensures few { IfOk result (λ long. length long.entries ≤ 33) }
 {
-    let Some(candidates) = &sps.fields().long_term_ref_pics else {
+    let Some(candidates) = &sps.fields().references.long_term_ref_pics else {
         return Ok(LongTermRefs {
             num_long_term_sps: 0,
             entries: FieldList::new(alloc),
@@ -217,7 +218,8 @@ fn read_coded_references<'a>(
     ensures value { Takes (λ x. x) result reader.old reader.new (coded_references sps.now) }
     ensures in_range { IfOk result (λ references. AreReferences (max_lsb sps.now) references) }
 {
-    let slice_pic_order_cnt_lsb = reader.u(sps.fields().log2_max_pic_order_cnt_lsb_minus4 + 4)?;
+    let lsb_bits = sps.fields().order.log2_max_pic_order_cnt_lsb_minus4 + 4;
+    let slice_pic_order_cnt_lsb = reader.u(lsb_bits)?;
     let short = read_short_term(alloc, reader, sps)?;
     let long_term = read_long_term(alloc, reader, sps, &short.short_term_ref_pic_set)?;
     Ok(ReferenceFields {

@@ -66,7 +66,7 @@ fn read_slice_type<'a, 'b>(
 fn slice_qp(pps: &Pps, slice_qp_delta: i32) -> i64
     ensures { result ≡ slice_qp pps.now slice_qp_delta }
 {
-    26 + i64::from(pps.fields().init_qp_minus26) + i64::from(slice_qp_delta)
+    26 + i64::from(pps.fields().quantization.init_qp_minus26) + i64::from(slice_qp_delta)
 }
 
 /// slice_qp_delta, with which SliceQpY is from 0 to 51.
@@ -179,7 +179,8 @@ fn read_across_slices<'a>(
 ) -> Result<bool, Refusal>
     ensures { Takes (λ x. x) result reader.old reader.new (across_slices pps.now has_sao deblocking) }
 {
-    let inherited = pps.fields().pps_loop_filter_across_slices_enabled_flag;
+    let filters = &pps.fields().filters;
+    let inherited = filters.pps_loop_filter_across_slices_enabled_flag;
     let has_filter = has_sao || !deblocking.slice_deblocking_filter_disabled_flag;
     flag_or(reader, inherited && has_filter, inherited)
 }
@@ -208,12 +209,13 @@ fn read_filter_fields<'a>(
 ) -> Result<FilterFields, Refusal>
     ensures { Takes filters_of result reader.old reader.new (filter_fields pps.now has_sao) }
 {
-    let fields = pps.fields();
-    let is_coded = fields.pps_slice_chroma_qp_offsets_present_flag;
+    let quantization = &pps.fields().quantization;
+    let is_coded = quantization.pps_slice_chroma_qp_offsets_present_flag;
     let slice_qp_delta = read_qp_delta(reader, pps)?;
-    let slice_cb_qp_offset = read_chroma_offset(reader, is_coded, fields.pps_cb_qp_offset)?;
-    let slice_cr_qp_offset = read_chroma_offset(reader, is_coded, fields.pps_cr_qp_offset)?;
-    let deblocking = read_deblocking(reader, control_of(fields.deblocking_control))?;
+    let slice_cb_qp_offset = read_chroma_offset(reader, is_coded, quantization.pps_cb_qp_offset)?;
+    let slice_cr_qp_offset = read_chroma_offset(reader, is_coded, quantization.pps_cr_qp_offset)?;
+    let control = control_of(pps.fields().filters.deblocking_control);
+    let deblocking = read_deblocking(reader, control)?;
     let is_across = read_across_slices(reader, pps, has_sao, deblocking)?;
     Ok(FilterFields {
         slice_qp_delta,
@@ -235,7 +237,8 @@ fn read_temporal<'a, 'b>(
     ensures { Takes (λ x. x) result reader.old reader.new
         (temporal_flag (context_of context.entry) (option_copied former.entry) sps.now) }
 {
-    let is_coded = !is_idr(context.nal_type) && sps.fields().sps_temporal_mvp_enabled_flag;
+    let is_coded = !is_idr(context.nal_type)
+        && sps.fields().references.sps_temporal_mvp_enabled_flag;
     let slice_temporal_mvp_enabled_flag = flag_or(reader, is_coded, false)?;
     if !former.is_none_or(|h| {
         h.slice.slice_temporal_mvp_enabled_flag == slice_temporal_mvp_enabled_flag
@@ -270,7 +273,7 @@ fn read_later_fields<'a, 'b, 'c>(
         (later_fields (context_of context.entry) (option_copied former.entry) (named_of named.entry)
         front.now.slice_type front.now.pic_output_flag front.now.references) }
 {
-    let has_sao = named.sps.fields().sample_adaptive_offset_enabled_flag;
+    let has_sao = named.sps.fields().tools.sample_adaptive_offset_enabled_flag;
     let total = num_pic_total_curr(&front.references);
     let is_temporal = read_temporal(reader, context, former, named.sps)?;
     let is_luma = flag_or(reader, has_sao, false)?;
@@ -332,9 +335,10 @@ pub fn read_slice_fields<'a, 'b, 'c>(
     ensures { Takes (λ x. x) result reader.old reader.new
         (slice_fields (context_of context.entry) (option_copied former.entry) (named_of named.entry)) }
 {
-    reader.u(named.pps.fields().num_extra_slice_header_bits)?;
+    let defaults = &named.pps.fields().slice_defaults;
+    reader.u(defaults.num_extra_slice_header_bits)?;
     let slice_type = read_slice_type(reader, context)?;
-    let pic_output_flag = flag_or(reader, named.pps.fields().output_flag_present_flag, true)?;
+    let pic_output_flag = flag_or(reader, defaults.output_flag_present_flag, true)?;
     let references = read_references(alloc, reader, context.nal_type, named.sps)?;
     let front = FrontFields {
         slice_type,

@@ -17,7 +17,7 @@ fn named_by(sets: &Sets, id: u32) -> Option<SliceSets<'_>>
     ensures { option_map named_of result ≡ named_by sets.now id }
 {
     let pps = sets.pps(id)?;
-    let sps = sets.sps(pps.fields().pps_seq_parameter_set_id)?;
+    let sps = sets.sps(pps.fields().identity.pps_seq_parameter_set_id)?;
     Some(SliceSets {
         pps: &**pps,
         sps: &**sps,

@@ -100,7 +100,11 @@ fn read_entry_points<'a, 'b>(
 ) -> Result<FieldList<u64>, Refusal>
     ensures { Takes (λ x. x) result reader.old reader.new (entry_points (named_of named.entry)) }
 {
-    let is_coded = named.pps.fields().entropy_coding_sync_enabled_flag;
+    let is_coded = named
+        .pps
+        .fields()
+        .prediction
+        .entropy_coding_sync_enabled_flag;
     let count = ue_or(reader, is_coded, named.sps.height_in_ctbs() - 1, 0)?;
     let offset_len_minus1 = ue_or(reader, count > 0, 31, 0)?;
     read_each_entry_point(alloc, reader, count, offset_len_minus1 + 1)

@@ -71,7 +71,11 @@ pub fn read_place<'a, 'b, 'c>(
     if segment.first_slice_segment_in_pic_flag {
         return Ok(segment);
     }
-    let has_dependent = named.pps.fields().dependent_slice_segments_enabled_flag;
+    let has_dependent = named
+        .pps
+        .fields()
+        .slice_defaults
+        .dependent_slice_segments_enabled_flag;
     let dependent_slice_segment_flag = flag_or(reader, has_dependent, false)?;
     let size = named.sps.size_in_ctbs();
     let slice_segment_address = reader.u(ceil_log2(size))?;

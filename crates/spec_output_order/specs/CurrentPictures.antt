@@ -19,5 +19,5 @@ current_picture header sps poc = record {
   begins_anew = begins_anew header.kind;
   no_output_of_prior_pics_flag = no_output_of_prior_pics_flag header;
   pic_output_flag = header.slice.pic_output_flag;
-  ordering = highest_ordering sps.sub_layer_ordering;
+  ordering = highest_ordering sps.order.sub_layer_ordering;
 }

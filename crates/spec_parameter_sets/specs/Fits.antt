@@ -25,5 +25,5 @@ log2_par_mrg_level pps = pps.log2_parallel_merge_level_minus2 + 2
 -- tree block
 unfoldable pub fits : SpsFields → PpsFields → Bool
 fits sps pps =
-    nat_le (qp_delta_depth pps.diff_cu_qp_delta_depth) sps.blocks.log2_diff_max_min_luma_coding_block_size
+    nat_le (qp_delta_depth pps.quantization.diff_cu_qp_delta_depth) sps.blocks.log2_diff_max_min_luma_coding_block_size
     && nat_le (log2_par_mrg_level pps) (ctb_log2_size sps.blocks)

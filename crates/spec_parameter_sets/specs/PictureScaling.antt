@@ -10,6 +10,6 @@ use Rattle.spec_parameter_sets.specs.Scaling.{default_lists}
 -- the default lists. There are none where scaling_list_enabled_flag is 0: each factor is 16 then.
 unfoldable pub picture_scaling_lists : SpsFields → PpsFields → Option ScalingLists
 picture_scaling_lists sps pps =
-    if sps.scaling_list_enabled_flag
-    then Some (unwrap_or pps.scaling_lists (unwrap_or sps.scaling_lists default_lists))
+    if sps.tools.scaling_list_enabled_flag
+    then Some (unwrap_or pps.scaling_lists (unwrap_or sps.tools.scaling_lists default_lists))
     else None

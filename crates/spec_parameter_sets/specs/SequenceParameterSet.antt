@@ -14,6 +14,10 @@ use Rattle.header_types.specs.declared.sps.LongTermCandidate.{LongTermCandidate}
 use Rattle.header_types.specs.declared.sps.PcmFormat.{PcmFormat}
 use Rattle.header_types.specs.declared.sps.PictureFormat.{PictureFormat}
 use Rattle.header_types.specs.declared.sps.SpsFields.{SpsFields}
+use Rattle.header_types.specs.declared.sps.SpsIdentity.{SpsIdentity}
+use Rattle.header_types.specs.declared.sps.SpsOrder.{SpsOrder}
+use Rattle.header_types.specs.declared.sps.SpsReferences.{SpsReferences}
+use Rattle.header_types.specs.declared.sps.SpsTools.{SpsTools}
 use Rattle.header_types.specs.declared.sps.SubLayerOrdering.{SubLayerOrdering}
 use Rattle.header_types.specs.SequenceParameterSets.{min_cb_log2, ctb_log2, highest_ordering}
 use Rattle.spec_bits.specs.Bits.{bits}
@@ -191,53 +195,86 @@ sub_layers = do
   within ← ranged (nat_le minus1 6)
   give minus1
 
--- a sequence parameter set
-unfoldable pub sequence_parameter_set : Header SpsFields
-sequence_parameter_set = do
+-- sps_video_parameter_set_id to sps_seq_parameter_set_id
+unfoldable pub sps_identity : Header SpsIdentity
+sps_identity = do
   sps_video_parameter_set_id ← u 4
   sps_max_sub_layers_minus1 ← sub_layers
   sps_temporal_id_nesting_flag ← flag
   profile_tier_level ← profile_tier_level sps_max_sub_layers_minus1
   sps_seq_parameter_set_id ← ue_to 15
-  format ← picture_format
-  log2_max_pic_order_cnt_lsb_minus4 ← ue_to 12
-  sps_sub_layer_ordering_info_present_flag ← flag
-  orderings ←
-      repeated (ordered_sub_layers sps_sub_layer_ordering_info_present_flag sps_max_sub_layers_minus1)
-      sub_layer_ordering
-  blocks ← block_sizes format.pic_width_in_luma_samples format.pic_height_in_luma_samples
-  scaling_list_enabled_flag ← flag
-  scaling_lists ← scaling_lists scaling_list_enabled_flag
-  amp_enabled_flag ← flag
-  sample_adaptive_offset_enabled_flag ← flag
-  pcm_enabled_flag ← flag
-  pcm ← optional pcm_enabled_flag (pcm_format blocks)
-  short_term_ref_pic_sets ← short_term_ref_pic_sets (highest_ordering orderings).max_dec_pic_buffering_minus1
-  long_term_ref_pics_present_flag ← flag
-  long_term_ref_pics ←
-      optional long_term_ref_pics_present_flag (long_term_candidates (log2_max_pic_order_cnt_lsb_minus4 + 4))
-  sps_temporal_mvp_enabled_flag ← flag
-  strong_intra_smoothing_enabled_flag ← flag
-  vui_parameters_present_flag ← flag
   give (record {
     sps_video_parameter_set_id = sps_video_parameter_set_id;
     sps_max_sub_layers_minus1 = sps_max_sub_layers_minus1;
     sps_temporal_id_nesting_flag = sps_temporal_id_nesting_flag;
     profile_tier_level = profile_tier_level;
     sps_seq_parameter_set_id = sps_seq_parameter_set_id;
-    format = format;
+  })
+
+-- log2_max_pic_order_cnt_lsb_minus4 to sps_max_latency_increase_plus1
+unfoldable pub sps_order : ℕ → Header SpsOrder
+sps_order sps_max_sub_layers_minus1 = do
+  log2_max_pic_order_cnt_lsb_minus4 ← ue_to 12
+  sps_sub_layer_ordering_info_present_flag ← flag
+  orderings ←
+      repeated (ordered_sub_layers sps_sub_layer_ordering_info_present_flag sps_max_sub_layers_minus1)
+      sub_layer_ordering
+  give (record {
     log2_max_pic_order_cnt_lsb_minus4 = log2_max_pic_order_cnt_lsb_minus4;
     sps_sub_layer_ordering_info_present_flag = sps_sub_layer_ordering_info_present_flag;
     sub_layer_ordering = orderings;
-    blocks = blocks;
+  })
+
+-- scaling_list_enabled_flag to pcm_loop_filter_disabled_flag
+unfoldable pub sps_tools : BlockSizes → Header SpsTools
+sps_tools blocks = do
+  scaling_list_enabled_flag ← flag
+  scaling_lists ← scaling_lists scaling_list_enabled_flag
+  amp_enabled_flag ← flag
+  sample_adaptive_offset_enabled_flag ← flag
+  pcm_enabled_flag ← flag
+  pcm ← optional pcm_enabled_flag (pcm_format blocks)
+  give (record {
     scaling_list_enabled_flag = scaling_list_enabled_flag;
     scaling_lists = scaling_lists;
     amp_enabled_flag = amp_enabled_flag;
     sample_adaptive_offset_enabled_flag = sample_adaptive_offset_enabled_flag;
     pcm = pcm;
+  })
+
+-- num_short_term_ref_pic_sets to sps_temporal_mvp_enabled_flag
+unfoldable pub sps_references : SpsOrder → Header SpsReferences
+sps_references order = do
+  short_term_ref_pic_sets ←
+      short_term_ref_pic_sets (highest_ordering order.sub_layer_ordering).max_dec_pic_buffering_minus1
+  long_term_ref_pics_present_flag ← flag
+  long_term_ref_pics ←
+      optional long_term_ref_pics_present_flag (long_term_candidates (order.log2_max_pic_order_cnt_lsb_minus4 + 4))
+  sps_temporal_mvp_enabled_flag ← flag
+  give (record {
     short_term_ref_pic_sets = short_term_ref_pic_sets;
     long_term_ref_pics = long_term_ref_pics;
     sps_temporal_mvp_enabled_flag = sps_temporal_mvp_enabled_flag;
+  })
+
+-- a sequence parameter set
+unfoldable pub sequence_parameter_set : Header SpsFields
+sequence_parameter_set = do
+  identity ← sps_identity
+  format ← picture_format
+  order ← sps_order identity.sps_max_sub_layers_minus1
+  blocks ← block_sizes format.pic_width_in_luma_samples format.pic_height_in_luma_samples
+  tools ← sps_tools blocks
+  references ← sps_references order
+  strong_intra_smoothing_enabled_flag ← flag
+  vui_parameters_present_flag ← flag
+  give (record {
+    identity = identity;
+    format = format;
+    order = order;
+    blocks = blocks;
+    tools = tools;
+    references = references;
     strong_intra_smoothing_enabled_flag = strong_intra_smoothing_enabled_flag;
     vui_parameters_present_flag = vui_parameters_present_flag;
   })

@@ -12,12 +12,12 @@ unfoldable pub unit_format : SpsFields → PpsFields → SliceFields → UnitFor
 unit_format sps pps slice = record {
   luma_depth = 8 + sps.format.bit_depth_luma_minus8;
   chroma_depth = 8 + sps.format.bit_depth_chroma_minus8;
-  pcm_luma_bits = (pcm_syntax sps.pcm).luma_bits;
-  pcm_chroma_bits = (pcm_syntax sps.pcm).chroma_bits;
-  cb_qp_offset = pps.pps_cb_qp_offset +ℤ slice.slice_cb_qp_offset;
-  cr_qp_offset = pps.pps_cr_qp_offset +ℤ slice.slice_cr_qp_offset;
+  pcm_luma_bits = (pcm_syntax sps.tools.pcm).luma_bits;
+  pcm_chroma_bits = (pcm_syntax sps.tools.pcm).chroma_bits;
+  cb_qp_offset = pps.quantization.pps_cb_qp_offset +ℤ slice.slice_cb_qp_offset;
+  cr_qp_offset = pps.quantization.pps_cr_qp_offset +ℤ slice.slice_cr_qp_offset;
   strong_intra_smoothing = sps.strong_intra_smoothing_enabled_flag;
-  constrained_intra = pps.constrained_intra_pred_flag;
+  constrained_intra = pps.quantization.constrained_intra_pred_flag;
   intra_factors = scaling_factors (picture_scaling_lists sps pps) true;
   inter_factors = scaling_factors (picture_scaling_lists sps pps) false;
 }

@@ -47,8 +47,8 @@ filter_format p = record {
   ctb_size = ctb_size p.sps;
   luma_depth = p.sps.format.bit_depth_luma_minus8 + 8;
   chroma_depth = p.sps.format.bit_depth_chroma_minus8 + 8;
-  pps_cb_qp_offset = p.pps.pps_cb_qp_offset;
-  pps_cr_qp_offset = p.pps.pps_cr_qp_offset;
+  pps_cb_qp_offset = p.pps.quantization.pps_cb_qp_offset;
+  pps_cr_qp_offset = p.pps.quantization.pps_cr_qp_offset;
 }
 
 -- the loop filters of a picture

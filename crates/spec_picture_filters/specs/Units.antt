@@ -99,7 +99,7 @@ place_of slice place = record {
 -- the places of a unit, counted from 0 at its first one
 unfoldable pub places_read : PicturePlan → SegmentPlan → ℕ → List Item → Motions → (ℕ → ℕ → Bool) → ℕ → ℕ → UnitPlace
 places_read p s address items motions coded x y =
-    unit_place (beside_unit p s address motions coded) (pcm_disabled p.sps.pcm) (qp_bd_offset p.sps) items x y
+    unit_place (beside_unit p s address motions coded) (pcm_disabled p.sps.tools.pcm) (qp_bd_offset p.sps) items x y
 
 -- the places of the unit at an address over those of the picture
 unfoldable pub places_laid : PictureShape → ℕ → SliceDeblocking → (ℕ → ℕ → UnitPlace) → (ℕ → ℕ → Place) → ℕ → ℕ → Place

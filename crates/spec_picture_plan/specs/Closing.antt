@@ -56,14 +56,15 @@ broken_from width size before (s ∷ later) =
 -- the first rule that the slice segments of a picture break together
 unfoldable pub broken_in : PicturePlan → Option Fault
 broken_in p =
-    if p.pps.entropy_coding_sync_enabled_flag
+    if p.pps.prediction.entropy_coding_sync_enabled_flag
     then broken_from (width_in_ctbs p.sps) (size_in_ctbs p.sps) 0 p.segments
     else None
 
 -- whether the decoded picture buffer has no room for a picture: as many pictures are marked as reference as it holds
 -- (C.5.2.2)
 abbrev pub is_buffer_full : PicturePlan → Bool
-is_buffer_full p = is_full_of_references (begins_anew p.kind) (highest_ordering p.sps.sub_layer_ordering) p.rps.marks
+is_buffer_full p =
+    is_full_of_references (begins_anew p.kind) (highest_ordering p.sps.order.sub_layer_ordering) p.rps.marks
 
 abbrev pub full_at : PicturePlan → Option Fault
 full_at p = if is_buffer_full p then Some (record { kind = rule.DpbFull; nal = p.nal; ctu = None }) else None

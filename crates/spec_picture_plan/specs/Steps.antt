@@ -81,10 +81,14 @@ closing s f = then_next (close s).closed (close s).next f
 
 -- a parameter set is accepted: it replaces the one of its id
 abbrev pub put_sps : Between → SpsFields → Between
-put_sps s sps = record s { sets = record s.sets { sps = slice_set s.sets.sps sps.sps_seq_parameter_set_id (Some sps) } }
+put_sps s sps = record s {
+  sets = record s.sets { sps = slice_set s.sets.sps sps.identity.sps_seq_parameter_set_id (Some sps) };
+}
 
 abbrev pub put_pps : Between → PpsFields → Between
-put_pps s pps = record s { sets = record s.sets { pps = slice_set s.sets.pps pps.pps_pic_parameter_set_id (Some pps) } }
+put_pps s pps = record s {
+  sets = record s.sets { pps = slice_set s.sets.pps pps.identity.pps_pic_parameter_set_id (Some pps) };
+}
 
 -- a sequence ends: the next picture begins one
 abbrev pub sequence_end : Between → Between

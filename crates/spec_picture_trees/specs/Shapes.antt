@@ -33,7 +33,7 @@ picture_shape sps pps = record {
   across = sps.format.pic_width_in_luma_samples / 4;
   down = sps.format.pic_height_in_luma_samples / 4;
   size = in_places (ctb_log2 sps.blocks);
-  sync = pps.entropy_coding_sync_enabled_flag;
+  sync = pps.prediction.entropy_coding_sync_enabled_flag;
 }
 
 -- QpBdOffsetY
@@ -64,7 +64,7 @@ inter_syntax sps kind None = record {
   active_0 = 1;
   active_1 = 1;
   mvd_l1_zero = false;
-  amp_enabled = sps.amp_enabled_flag;
+  amp_enabled = sps.tools.amp_enabled_flag;
   max_depth_inter = sps.blocks.max_transform_hierarchy_depth_inter;
 }
 inter_syntax sps kind (Some fields) = record {
@@ -74,7 +74,7 @@ inter_syntax sps kind (Some fields) = record {
   active_0 = active fields.num_ref_idx_l0_active_minus1;
   active_1 = active (unwrap_or fields.num_ref_idx_l1_active_minus1 0);
   mvd_l1_zero = fields.mvd_l1_zero_flag;
-  amp_enabled = sps.amp_enabled_flag;
+  amp_enabled = sps.tools.amp_enabled_flag;
   max_depth_inter = sps.blocks.max_transform_hierarchy_depth_inter;
 }
 
@@ -93,13 +93,13 @@ slice_syntax sps pps fields = record {
   log2_min_transform = in_places (min_tb_log2 sps.blocks);
   log2_max_transform = in_places (max_tb_log2 sps.blocks);
   max_depth_intra = sps.blocks.max_transform_hierarchy_depth_intra;
-  log2_group = in_places (ctb_log2 sps.blocks - unwrap_or pps.diff_cu_qp_delta_depth 0);
+  log2_group = in_places (ctb_log2 sps.blocks - unwrap_or pps.quantization.diff_cu_qp_delta_depth 0);
   qp_offset = qp_bd_offset sps;
-  cu_qp_delta_enabled = is_some pps.diff_cu_qp_delta_depth;
-  transquant_bypass_enabled = pps.transquant_bypass_enabled_flag;
-  transform_skip_enabled = pps.transform_skip_enabled_flag;
-  sign_data_hiding_enabled = pps.sign_data_hiding_enabled_flag;
-  pcm = pcm_syntax sps.pcm;
+  cu_qp_delta_enabled = is_some pps.quantization.diff_cu_qp_delta_depth;
+  transquant_bypass_enabled = pps.prediction.transquant_bypass_enabled_flag;
+  transform_skip_enabled = pps.quantization.transform_skip_enabled_flag;
+  sign_data_hiding_enabled = pps.slice_defaults.sign_data_hiding_enabled_flag;
+  pcm = pcm_syntax sps.tools.pcm;
   inter = inter_syntax sps fields.slice_type fields.inter;
   sao_luma = fields.slice_sao_luma_flag;
   sao_chroma = fields.slice_sao_chroma_flag;

@@ -50,19 +50,21 @@ collocated type l0_minus1 l1_minus1 = do
 
 -- whether a slice of this type has explicit weights
 abbrev pub has_weights : SliceType → PpsFields → Bool
-has_weights type pps = if is_b type then pps.weighted_bipred_flag else pps.weighted_pred_flag
+has_weights type pps = if is_b type then pps.prediction.weighted_bipred_flag else pps.prediction.weighted_pred_flag
 
 -- the fields of a P or B slice, where total is NumPicTotalCurr and temporal is slice_temporal_mvp_enabled_flag
 unfoldable pub inter_fields : SliceType → PpsFields → ℕ → Bool → Header InterFields
 inter_fields type pps total temporal = do
   num_ref_idx_active_override_flag ← flag
-  l0_minus1 ← ue_or num_ref_idx_active_override_flag 14 pps.num_ref_idx_l0_default_active_minus1
-  l1_minus1 ← optional (is_b type) (ue_or num_ref_idx_active_override_flag 14 pps.num_ref_idx_l1_default_active_minus1)
+  l0_minus1 ← ue_or num_ref_idx_active_override_flag 14 pps.slice_defaults.num_ref_idx_l0_default_active_minus1
+  l1_minus1 ←
+      optional (is_b type)
+      (ue_or num_ref_idx_active_override_flag 14 pps.slice_defaults.num_ref_idx_l1_default_active_minus1)
   list_entry_l0 ← modification (pps.lists_modification_present_flag && nat_lt 1 total) total (l0_minus1 + 1)
   list_entry_l1 ←
       modification (is_b type && (pps.lists_modification_present_flag && nat_lt 1 total)) total (entries_1 l1_minus1)
   mvd_l1_zero_flag ← flag_or (is_b type) false
-  cabac_init_flag ← flag_or pps.cabac_init_present_flag false
+  cabac_init_flag ← flag_or pps.slice_defaults.cabac_init_present_flag false
   collocated ← optional temporal (collocated type l0_minus1 l1_minus1)
   weights ← optional (has_weights type pps) (pred_weight_table (l0_minus1 + 1) (entries_1 l1_minus1))
   five_minus_max_num_merge_cand ← ue_to 4

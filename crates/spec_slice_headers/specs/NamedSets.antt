@@ -20,7 +20,7 @@ with_sps pps (Some sps) = Some (record { pps = pps; sps = sps })
 
 abbrev pub with_pps : Sets → Option PpsFields → Option Named
 with_pps sets None = None
-with_pps sets (Some pps) = with_sps pps (slice_index_or sets.sps pps.pps_seq_parameter_set_id None)
+with_pps sets (Some pps) = with_sps pps (slice_index_or sets.sps pps.identity.pps_seq_parameter_set_id None)
 
 -- the accepted picture parameter set of an id and the accepted sequence parameter set that it names
 abbrev pub named_by : Sets → ℕ → Option Named

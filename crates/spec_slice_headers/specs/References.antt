@@ -28,8 +28,9 @@ pub record ShortTerm : Type 0 where
 unfoldable pub coded_short_term : SpsFields → Header ShortTerm
 coded_short_term sps = do
   set ←
-      st_ref_pic_set (length sps.short_term_ref_pic_sets) (length sps.short_term_ref_pic_sets)
-      sps.short_term_ref_pic_sets ((highest_ordering sps.sub_layer_ordering).max_dec_pic_buffering_minus1)
+      st_ref_pic_set (length sps.references.short_term_ref_pic_sets) (length sps.references.short_term_ref_pic_sets)
+      sps.references.short_term_ref_pic_sets
+      ((highest_ordering sps.order.sub_layer_ordering).max_dec_pic_buffering_minus1)
   give (record {
     short_term_ref_pic_set_sps_flag = false;
     short_term_ref_pic_set_idx = 0;
@@ -39,12 +40,12 @@ coded_short_term sps = do
 -- a set of the sequence parameter set, by its number there
 unfoldable pub named_short_term : SpsFields → Header ShortTerm
 named_short_term sps = do
-  short_term_ref_pic_set_idx ← u (ceil_log2 (length sps.short_term_ref_pic_sets))
-  in_range ← ranged (nat_lt short_term_ref_pic_set_idx (length sps.short_term_ref_pic_sets))
+  short_term_ref_pic_set_idx ← u (ceil_log2 (length sps.references.short_term_ref_pic_sets))
+  in_range ← ranged (nat_lt short_term_ref_pic_set_idx (length sps.references.short_term_ref_pic_sets))
   give (record {
     short_term_ref_pic_set_sps_flag = true;
     short_term_ref_pic_set_idx = short_term_ref_pic_set_idx;
-    short_term_ref_pic_set = slice_index_or sps.short_term_ref_pic_sets short_term_ref_pic_set_idx empty_set;
+    short_term_ref_pic_set = slice_index_or sps.references.short_term_ref_pic_sets short_term_ref_pic_set_idx empty_set;
   })
 
 unfoldable pub short_term : SpsFields → Header ShortTerm
@@ -77,7 +78,7 @@ named_long_term candidates = do
 -- a long-term entry that stands in the header itself
 unfoldable pub coded_long_term : SpsFields → Header LongTermRef
 coded_long_term sps = do
-  poc_lsb_lt ← u (sps.log2_max_pic_order_cnt_lsb_minus4 + 4)
+  poc_lsb_lt ← u (sps.order.log2_max_pic_order_cnt_lsb_minus4 + 4)
   used_by_curr_pic_lt_flag ← flag
   cycle ← msb_cycle
   give (record {
@@ -103,7 +104,7 @@ long_term_of sps set candidates = do
   num_long_term_pics ← ue
   few ←
       ranged (nat_le (length set.negative + length set.positive + num_long_term_sps + num_long_term_pics)
-      ((highest_ordering sps.sub_layer_ordering).max_dec_pic_buffering_minus1))
+      ((highest_ordering sps.order.sub_layer_ordering).max_dec_pic_buffering_minus1))
   entries ←
       each (long_term_entry sps candidates num_long_term_sps)
       (range_with_len 0 (num_long_term_sps + num_long_term_pics))
@@ -125,9 +126,9 @@ no_references = record {
 
 unfoldable pub coded_references : SpsFields → Header ReferenceFields
 coded_references sps = do
-  slice_pic_order_cnt_lsb ← u (sps.log2_max_pic_order_cnt_lsb_minus4 + 4)
+  slice_pic_order_cnt_lsb ← u (sps.order.log2_max_pic_order_cnt_lsb_minus4 + 4)
   short ← short_term sps
-  long ← long_term sps short.short_term_ref_pic_set sps.long_term_ref_pics
+  long ← long_term sps short.short_term_ref_pic_set sps.references.long_term_ref_pics
   give (record {
     slice_pic_order_cnt_lsb = slice_pic_order_cnt_lsb;
     short_term_ref_pic_set_sps_flag = short.short_term_ref_pic_set_sps_flag;

@@ -42,7 +42,7 @@ entry_point len = do
 -- num_entry_point_offsets and the entry points: with entropy coding sync one may stand at each row but the first
 unfoldable pub entry_points : Named → Header (List ℕ)
 entry_points n = do
-  num_entry_point_offsets ← ue_or n.pps.entropy_coding_sync_enabled_flag (height_in_ctbs n.sps - 1) 0
+  num_entry_point_offsets ← ue_or n.pps.prediction.entropy_coding_sync_enabled_flag (height_in_ctbs n.sps - 1) 0
   offset_len_minus1 ← ue_or (nat_lt 0 num_entry_point_offsets) 31 0
   repeated num_entry_point_offsets (entry_point (offset_len_minus1 + 1))
 

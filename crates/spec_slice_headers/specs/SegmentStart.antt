@@ -42,7 +42,7 @@ is_above (Some before) address = is_decoded_before before address
 -- dependent_slice_segment_flag and slice_segment_address of a segment that isn't the picture's first
 unfoldable pub later_place : Context → Named → SegmentFields → Header SegmentFields
 later_place c n segment = do
-  dependent_slice_segment_flag ← flag_or n.pps.dependent_slice_segments_enabled_flag false
+  dependent_slice_segment_flag ← flag_or n.pps.slice_defaults.dependent_slice_segments_enabled_flag false
   slice_segment_address ← u (ceil_log2 (size_in_ctbs n.sps))
   in_range ← ranged (nat_lt 0 slice_segment_address && nat_lt slice_segment_address (size_in_ctbs n.sps))
   in_order ← wanted (is_above (last_address c.segments) slice_segment_address) (fault rule.SliceOrder)

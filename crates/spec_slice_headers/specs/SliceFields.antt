@@ -47,7 +47,8 @@ slice_type c = do
 -- slice_temporal_mvp_enabled_flag, which all segments of a picture have alike
 unfoldable pub temporal_flag : Context → Option SliceHeaderFields → SpsFields → Header Bool
 temporal_flag c former sps = do
-  slice_temporal_mvp_enabled_flag ← flag_or (not (is_idr c.nal_type) && sps.sps_temporal_mvp_enabled_flag) false
+  slice_temporal_mvp_enabled_flag ←
+      flag_or (not (is_idr c.nal_type) && sps.references.sps_temporal_mvp_enabled_flag) false
   same_temporal ←
       wanted (agrees former (λ h. beq h.slice.slice_temporal_mvp_enabled_flag slice_temporal_mvp_enabled_flag))
       (fault rule.SliceMismatch)
@@ -59,7 +60,7 @@ inter_of type pps total temporal = optional (not (is_i type)) (inter_fields type
 
 -- SliceQpY (7-40)
 abbrev pub slice_qp : PpsFields → ℤ → ℤ
-slice_qp pps slice_qp_delta = pos 26 +ℤ pps.init_qp_minus26 +ℤ slice_qp_delta
+slice_qp pps slice_qp_delta = pos 26 +ℤ pps.quantization.init_qp_minus26 +ℤ slice_qp_delta
 
 -- slice_qp_delta: SliceQpY is from 0 to 51
 unfoldable pub qp_delta : PpsFields → Header ℤ
@@ -119,8 +120,10 @@ deblocking control = do
 -- slice_loop_filter_across_slices_enabled_flag, which is coded where some filter may pass the slice's edges
 abbrev pub across_slices : PpsFields → Bool → SliceDeblocking → Header Bool
 across_slices pps has_sao d =
-    flag_or (pps.pps_loop_filter_across_slices_enabled_flag && (has_sao || not d.slice_deblocking_filter_disabled_flag))
-    pps.pps_loop_filter_across_slices_enabled_flag
+    flag_or
+    (pps.filters.pps_loop_filter_across_slices_enabled_flag
+    && (has_sao || not d.slice_deblocking_filter_disabled_flag))
+    pps.filters.pps_loop_filter_across_slices_enabled_flag
 
 -- the fields of a slice's quantization and of its filters
 pub record Filters : Type 0 where
@@ -133,9 +136,11 @@ pub record Filters : Type 0 where
 unfoldable pub filter_fields : PpsFields → Bool → Header Filters
 filter_fields pps has_sao = do
   slice_qp_delta ← qp_delta pps
-  slice_cb_qp_offset ← chroma_offset pps.pps_slice_chroma_qp_offsets_present_flag pps.pps_cb_qp_offset
-  slice_cr_qp_offset ← chroma_offset pps.pps_slice_chroma_qp_offsets_present_flag pps.pps_cr_qp_offset
-  deblocking ← deblocking (control_of pps.deblocking_control)
+  slice_cb_qp_offset ←
+      chroma_offset pps.quantization.pps_slice_chroma_qp_offsets_present_flag pps.quantization.pps_cb_qp_offset
+  slice_cr_qp_offset ←
+      chroma_offset pps.quantization.pps_slice_chroma_qp_offsets_present_flag pps.quantization.pps_cr_qp_offset
+  deblocking ← deblocking (control_of pps.filters.deblocking_control)
   slice_loop_filter_across_slices_enabled_flag ← across_slices pps has_sao deblocking
   give (record {
     slice_qp_delta = slice_qp_delta;
@@ -150,8 +155,8 @@ unfoldable pub later_fields : Context → Option SliceHeaderFields → Named →
     → Header SliceFields
 later_fields c former n type output references = do
   slice_temporal_mvp_enabled_flag ← temporal_flag c former n.sps
-  slice_sao_luma_flag ← flag_or n.sps.sample_adaptive_offset_enabled_flag false
-  slice_sao_chroma_flag ← flag_or n.sps.sample_adaptive_offset_enabled_flag false
+  slice_sao_luma_flag ← flag_or n.sps.tools.sample_adaptive_offset_enabled_flag false
+  slice_sao_chroma_flag ← flag_or n.sps.tools.sample_adaptive_offset_enabled_flag false
   inter ← inter_of type n.pps (num_pic_total_curr references) slice_temporal_mvp_enabled_flag
   filters ← filter_fields n.pps (slice_sao_luma_flag || slice_sao_chroma_flag)
   give (record {
@@ -172,9 +177,9 @@ later_fields c former n type output references = do
 -- the fields of a slice, where former is the first header of its picture, if that is another one
 unfoldable pub slice_fields : Context → Option SliceHeaderFields → Named → Header SliceFields
 slice_fields c former n = do
-  slice_reserved_flags ← u n.pps.num_extra_slice_header_bits
+  slice_reserved_flags ← u n.pps.slice_defaults.num_extra_slice_header_bits
   type ← slice_type c
-  output ← flag_or n.pps.output_flag_present_flag true
+  output ← flag_or n.pps.slice_defaults.output_flag_present_flag true
   references ← reference_fields c.nal_type n.sps
   kept_rules ← judged (judged_references c former (kind_of c n.sps) type output references)
   later_fields c former n type output references

@@ -100,7 +100,7 @@ module _ (p : PicturePlan) (sps : IsSps p.sps) (t : SegmentPlan) where
   pub format-fits : IsFormat (unit_format p.sps p.pps t.header.slice)
   unfolding unit_format
   format-fits =
-      let pcm = pcm-fits p.sps.blocks p.sps.pcm sps.pcm in
+      let pcm = pcm-fits p.sps.blocks p.sps.tools.pcm sps.tools.pcm in
       record {
         luma = (omega arith, omega (arith, sps.format.luma_depth));
         chroma = (omega arith, omega (arith, sps.format.chroma_depth));
@@ -111,7 +111,7 @@ module _ (p : PicturePlan) (sps : IsSps p.sps) (t : SegmentPlan) where
   syntax-fits : (s : SegmentPlan) → Fits Format (segment_syntax p s)
   unfolding unit_format slice_syntax
   syntax-fits s =
-      let pcm = pcm-fits p.sps.blocks p.sps.pcm sps.pcm in
+      let pcm = pcm-fits p.sps.blocks p.sps.tools.pcm sps.tools.pcm in
       let most = below_both (max_tb_log2 p.sps.blocks) (ctb_log2 p.sps.blocks) 5 sps.blocks.max_tb in
       record {
         luma = omega (arith, sps.format.luma_depth);

@@ -18,11 +18,11 @@ invariant_of-result c =
       across = f.format.pic_width_in_luma_samples / 4;
       down = f.format.pic_height_in_luma_samples / 4;
       size = n - 2;
-      sync = c.fields-2.result.now.entropy_coding_sync_enabled_flag;
+      sync = c.fields-2.result.now.prediction.entropy_coding_sync_enabled_flag;
     }) in
     subst (λ f. shape f c.ctb_log2.result) (sym fields)
     (subst (shape sps) (sym size)
-    (shape_is sps c.width_in_ctbs.result c.fields-2.result.now.entropy_coding_sync_enabled_flag
+    (shape_is sps c.width_in_ctbs.result c.fields-2.result.now.prediction.entropy_coding_sync_enabled_flag
     (subst IsSps c.deref.ensures c.fields.ensures.in_range) width c.width_in_ctbs.ensures.some
     c.width_in_ctbs.ensures.few))
 
