@@ -7,7 +7,7 @@ use Rattle.std.proofs.lemmas.Bool.Decides.{nat_tests}
 use Rattle.spec_sample_adaptive_offset.specs.Offsets.{edge_moved}
 use Rattle.spec_sample_adaptive_offset.specs.Plane.{OffsetPlane, edge_sample, may_read}
 use Rattle.sao_filter.specs.declared.row.OffsetRow.{OffsetRow}
-use Rattle.sao_filter.specs.declared.block.Block.{Block}
+use Rattle.sao_filter.specs.declared.block.CodingTreeBlock.{CodingTreeBlock}
 use Rattle.sao_filter.specs.Row.{HasLines, IsRow, at, plane_of, samples_of, top}
 use Rattle.sao_filter.specs.Units.{IsBetween, IsBlock, ReadsLine, reads_unit, shift}
 use Rattle.sao_filter.specs.Laying.{LaysLine, between}
@@ -16,7 +16,7 @@ use Rattle.sao_filter.proofs.Beside.{block_is, first_of, may_is, second_of, stan
 use Rattle.sao_filter.proofs.Rows.{room, sample_is}
 
 -- a part of a line of a block whose samples have their neighbours in the same units
-pub record IsPart (row : OffsetRow) (block : Block) (line from to : ℕ) : Type 0 where
+pub record IsPart (row : OffsetRow) (block : CodingTreeBlock) (line from to : ℕ) : Type 0 where
   pub of_row : IsRow row
   pub of_block : IsBlock row block
   pub inside : line < block.lines
@@ -26,7 +26,7 @@ pub record IsPart (row : OffsetRow) (block : Block) (line from to : ℕ) : Type 
   pub alike : from + 1 < to → (block.from < from) × (to < block.to)
 
 -- what is asked of the units of a neighbour
-abbrev pub part_reads : OffsetRow → Block → ℕ → ℕ → ℕ → ℕ → ℕ → Bool
+abbrev pub part_reads : OffsetRow → CodingTreeBlock → ℕ → ℕ → ℕ → ℕ → ℕ → Bool
 part_reads row block line from to c l =
     reads_unit (plane_of row) block.k row.row (shift c (from == block.from) (to == block.to))
     (shift l (line == 0) (line + 1 == block.lines))
@@ -49,7 +49,8 @@ lower_is line lines t s h is under =
     grind (arith, nat_tests)
 
 -- each of its samples reads the units that the part reads
-pub part_may : (row : OffsetRow) (block : Block) (line from to c l i : ℕ) → IsPart row block line from to → c ≤ 2 →
+pub part_may : (row : OffsetRow) (block : CodingTreeBlock) (line from to c l i : ℕ) → IsPart row block line from to
+    → c ≤ 2 →
     l ≤ 2 → from ≤ i → i < to →
     may_read (plane_of row) i (top row + line) c l ≡ part_reads row block line from to c l
 part_may row block line from to c l i is few low at below =
@@ -102,7 +103,8 @@ pub record PartInside (row : OffsetRow) (line from to c l : ℕ) : Type 0 where
   pub above : 0 < row.size * row.row + line + l
   pub below : row.size * row.row + line + l ≤ row.height
 
-pub part_inside : (row : OffsetRow) (block : Block) (line from to c l : ℕ) → IsPart row block line from to → c ≤ 2
+pub part_inside : (row : OffsetRow) (block : CodingTreeBlock) (line from to c l : ℕ)
+    → IsPart row block line from to → c ≤ 2
     → l ≤ 2 → part_reads row block line from to c l ≡ true → PartInside row line from to c l
 part_inside row block line from to c l is few low t =
     let some = is.some in
@@ -115,7 +117,7 @@ part_inside row block line from to c l is few low t =
     record { left = a.left; right = omega (arith, b.right, some); above = a.above; below = a.below }
 
 -- they are among the lines that the row has
-pub line_room : (row : OffsetRow) (block : Block) (samples : List ℕ) (line from to c l : ℕ) →
+pub line_room : (row : OffsetRow) (block : CodingTreeBlock) (samples : List ℕ) (line from to c l : ℕ) →
     IsRow row → IsBlock row block → line < block.lines → HasLines row samples → l ≤ 2 →
     PartInside row line from to c l →
     row.width * (line + block.skip + l - 1) + (to + c - 1) ≤ length samples
@@ -125,7 +127,7 @@ line_room row block samples line from to c l of_row of_block inside has low in_p
     (omega (arith, of_row.begins, inside, of_block.lines, of_block.skip, in_picture.above, in_picture.below))
     has (omega (arith, in_picture.right))
 
-pub part_room : (row : OffsetRow) (block : Block) (samples : List ℕ) (line from to c l : ℕ) →
+pub part_room : (row : OffsetRow) (block : CodingTreeBlock) (samples : List ℕ) (line from to c l : ℕ) →
     IsPart row block line from to → HasLines row samples → l ≤ 2 → PartInside row line from to c l →
     row.width * (line + block.skip + l - 1) + (to + c - 1) ≤ length samples
 part_room row block samples line from to c l is has low in_picture =
@@ -172,7 +174,8 @@ edge_stays row samples offsets c l i y t =
     kept_of (may_read (plane_of row) i y c l && may_read (plane_of row) i y (2 - c) (2 - l)) _
     (samples_of row samples i y) t
 
-both_may : (row : OffsetRow) (block : Block) (line from to c l i : ℕ) → IsPart row block line from to → c ≤ 2 → l ≤ 2 →
+both_may : (row : OffsetRow) (block : CodingTreeBlock) (line from to c l i : ℕ) → IsPart row block line from to
+    → c ≤ 2 → l ≤ 2 →
     from ≤ i → i < to →
     (may_read (plane_of row) i (top row + line) c l && may_read (plane_of row) i (top row + line) (2 - c) (2 - l))
     ≡ (part_reads row block line from to c l && part_reads row block line from to (2 - c) (2 - l))
@@ -183,7 +186,7 @@ both_may row block line from to c l i is few low at below =
     (part_may row block line from to (2 - c) (2 - l) i is (omega arith) (omega arith) at below)
 
 -- a part whose neighbours may be read
-pub part_laid : (row : OffsetRow) (block : Block) (samples : List ℕ) (offsets : List ℤ)
+pub part_laid : (row : OffsetRow) (block : CodingTreeBlock) (samples : List ℕ) (offsets : List ℤ)
     (line from to c l start first count a b : ℕ) (new old : List ℕ) →
     IsPart row block line from to → c ≤ 2 → l ≤ 2 →
     (part_reads row block line from to c l && part_reads row block line from to (2 - c) (2 - l)) ≡ true →
@@ -220,17 +223,19 @@ data Stands (from to i : ℕ) : Type 0 where
   Between : from + 1 ≤ i → i < to - 1 → Stands from to i
   Last : to - 1 ≤ i → Stands from to i
 
-stands_by : (from to i : ℕ) (first last : Bool) → first ≡ nat_lt i (from + 1) → last ≡ nat_le (to - 1) i → Stands from to i
+stands_by : (from to i : ℕ) (first last : Bool) → first ≡ nat_lt i (from + 1) → last ≡ nat_le (to - 1) i
+    → Stands from to i
 stands_by from to i true last f l = First (grind (arith, nat_tests))
 stands_by from to i false true f l = Last (grind (arith, nat_tests))
 stands_by from to i false false f l = Between (grind (arith, nat_tests)) (grind (arith, nat_tests))
 
 -- what both neighbours of a part ask
-abbrev pub part_reads_both : OffsetRow → Block → ℕ → ℕ → ℕ → ℕ → ℕ → Bool
+abbrev pub part_reads_both : OffsetRow → CodingTreeBlock → ℕ → ℕ → ℕ → ℕ → ℕ → Bool
 part_reads_both row block line from to c l =
     part_reads row block line from to c l && part_reads row block line from to (2 - c) (2 - l)
 
-sample_may : (row : OffsetRow) (block : Block) (line c l i : ℕ) → IsRow row → IsBlock row block → line < block.lines →
+sample_may : (row : OffsetRow) (block : CodingTreeBlock) (line c l i : ℕ) → IsRow row → IsBlock row block
+    → line < block.lines →
     c ≤ 2 → l ≤ 2 → part_reads_both row block line block.from (block.from + 1) c l ≡ true →
     part_reads_both row block line (block.from + 1) (block.to - 1) c l ≡ true →
     part_reads_both row block line (block.to - 1) block.to c l ≡ true → block.from ≤ i → i < block.to →
@@ -271,7 +276,7 @@ sample_may row block line c l i of_row of_block inside few low head middle tail 
     both_may row block line (block.to - 1) block.to c l i is few low le below ∙ tail
 
 -- a line reads where its first sample, those between and its last do
-pub line_reads : (row : OffsetRow) (block : Block) (line c l : ℕ) → IsRow row → IsBlock row block →
+pub line_reads : (row : OffsetRow) (block : CodingTreeBlock) (line c l : ℕ) → IsRow row → IsBlock row block →
     line < block.lines → c ≤ 2 → l ≤ 2 → part_reads_both row block line block.from (block.from + 1) c l ≡ true →
     part_reads_both row block line (block.from + 1) (block.to - 1) c l ≡ true →
     part_reads_both row block line (block.to - 1) block.to c l ≡ true → ReadsLine row block c l line
@@ -280,7 +285,8 @@ line_reads row block line c l of_row of_block inside few low head middle tail i 
     (stands_by block.from block.to i _ _ refl refl)
 
 -- lines between the first and the last ask the same
-between_alike : (row : OffsetRow) (block : Block) (line n from to c l : ℕ) → IsBetween block line → IsBetween block n →
+between_alike : (row : OffsetRow) (block : CodingTreeBlock) (line n from to c l : ℕ) → IsBetween block line
+    → IsBetween block n →
     part_reads_both row block n from to c l ≡ part_reads_both row block line from to c l
 between_alike row block line n from to c l here there =
     let a : (line == 0) ≡ false = let low = here.first in grind (arith, nat_tests) in
@@ -290,7 +296,7 @@ between_alike row block line n from to c l here there =
     rw (a, b, p, q) refl
 
 -- and read where one of them does
-pub between_reads : (row : OffsetRow) (block : Block) (line c l : ℕ) → IsRow row → IsBlock row block →
+pub between_reads : (row : OffsetRow) (block : CodingTreeBlock) (line c l : ℕ) → IsRow row → IsBlock row block →
     c ≤ 2 → l ≤ 2 → part_reads_both row block line block.from (block.from + 1) c l ≡ true →
     part_reads_both row block line (block.from + 1) (block.to - 1) c l ≡ true →
     part_reads_both row block line (block.to - 1) block.to c l ≡ true → IsBetween block line → (n : ℕ) →
@@ -302,7 +308,7 @@ between_reads row block line c l of_row of_block few low head middle tail here n
     (between_alike row block line n (block.to - 1) block.to c l here there ∙ tail)
 
 -- the neighbours of a line that reads are inside the picture
-line_inside : (row : OffsetRow) (block : Block) (line c l : ℕ) → IsBlock row block →
+line_inside : (row : OffsetRow) (block : CodingTreeBlock) (line c l : ℕ) → IsBlock row block →
     ((i : ℕ) → block.from ≤ i → i < block.to → may_read (plane_of row) i (top row + line) c l ≡ true) →
     PartInside row line block.from block.to c l
 line_inside row block line c l is reads =
@@ -312,20 +318,22 @@ line_inside row block line c l is reads =
     inside (plane_of row) (block.to - 1) (top row + line) c l (reads (block.to - 1) (omega arith) (omega arith)) in
     record { left = a.left; right = omega (arith, b.right, some); above = a.above; below = a.below }
 
-pub first_inside : (row : OffsetRow) (block : Block) (line c l : ℕ) → IsBlock row block → ReadsLine row block c l line →
+pub first_inside : (row : OffsetRow) (block : CodingTreeBlock) (line c l : ℕ) → IsBlock row block
+    → ReadsLine row block c l line →
     PartInside row line block.from block.to c l
 first_inside row block line c l is reads =
     line_inside row block line c l is
     (λ i at below. first_of (may_read (plane_of row) i (top row + line) c l) _ (reads i at below))
 
-pub second_inside : (row : OffsetRow) (block : Block) (line c l : ℕ) → IsBlock row block → ReadsLine row block c l line →
+pub second_inside : (row : OffsetRow) (block : CodingTreeBlock) (line c l : ℕ) → IsBlock row block
+    → ReadsLine row block c l line →
     PartInside row line block.from block.to (2 - c) (2 - l)
 second_inside row block line c l is reads =
     line_inside row block line (2 - c) (2 - l) is
     (λ i at below. second_of (may_read (plane_of row) i (top row + line) c l) _ (reads i at below))
 
 -- a line whose neighbours may be read
-pub line_laid : (row : OffsetRow) (block : Block) (samples : List ℕ) (offsets : List ℤ)
+pub line_laid : (row : OffsetRow) (block : CodingTreeBlock) (samples : List ℕ) (offsets : List ℤ)
     (line c l start first count a b : ℕ) (new old : List ℕ) →
     IsBlock row block → ReadsLine row block c l line →
     start ≡ row.width * (line + block.skip) + block.from → first ≡ row.width * line + block.from →
@@ -354,7 +362,7 @@ line_laid row block samples offsets line c l start first count a b new old is re
     (neighbour_is row samples line block.skip block.from i (2 - c) (2 - l) b b_is is.skip at two.left))
 
 -- a part whose neighbours may not be read
-pub part_stays : (row : OffsetRow) (block : Block) (samples : List ℕ) (offsets : List ℤ)
+pub part_stays : (row : OffsetRow) (block : CodingTreeBlock) (samples : List ℕ) (offsets : List ℤ)
     (line from to c l start first count : ℕ) (new old : List ℕ) →
     IsPart row block line from to → c ≤ 2 → l ≤ 2 →
     (part_reads row block line from to c l && part_reads row block line from to (2 - c) (2 - l)) ≡ false →

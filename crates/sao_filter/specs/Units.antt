@@ -4,7 +4,7 @@ use Rattle.std.specs.Prelude.{slice_index_or, if◌then◌else◌}
 use Rattle.spec_sample_adaptive_offset.specs.Plane.{OffsetPlane, may_read, meets}
 use Rattle.spec_sample_adaptive_offset.specs.Offsets.{offset_value, band_index, edge_idx}
 use Rattle.sao_filter.specs.declared.row.OffsetRow.{OffsetRow}
-use Rattle.sao_filter.specs.declared.block.Block.{Block}
+use Rattle.sao_filter.specs.declared.block.CodingTreeBlock.{CodingTreeBlock}
 use Rattle.sao_filter.specs.Row.{top, lines_of, plane_of}
 
 -- the unit that a neighbour stands in, counted as the neighbour is: 0, 1, 2 are before, at and behind
@@ -19,7 +19,7 @@ reads_unit p k r h v =
     && meets (p.unit k r) (p.unit (k + h - 1) (r + v - 1))
 
 -- a block of the row
-pub record IsBlock (row : OffsetRow) (block : Block) : Type 0 where
+pub record IsBlock (row : OffsetRow) (block : CodingTreeBlock) : Type 0 where
   pub from : block.from ≡ row.size * block.k
   pub to : block.to ≡ min (row.size * block.k + row.size) row.width
   pub some : block.from < block.to
@@ -27,12 +27,12 @@ pub record IsBlock (row : OffsetRow) (block : Block) : Type 0 where
   pub skip : block.skip ≡ min (top row) 1
 
 -- a line of a block between its first and its last
-pub record IsBetween (block : Block) (line : ℕ) : Type 0 where
+pub record IsBetween (block : CodingTreeBlock) (line : ℕ) : Type 0 where
   pub first : 0 < line
   pub last : line + 1 < block.lines
 
 -- both neighbours of each sample of a line of a block may be read; where the first one stands is counted as in may_read
-abbrev pub ReadsLine : OffsetRow → Block → ℕ → ℕ → ℕ → Type 0
+abbrev pub ReadsLine : OffsetRow → CodingTreeBlock → ℕ → ℕ → ℕ → Type 0
 ReadsLine row block across down line =
     (i : ℕ) → block.from ≤ i → i < block.to
     → (may_read (plane_of row) i (top row + line) across down

@@ -6,14 +6,14 @@ ghost use Rattle.sao_filter.specs.Laying.{LaysLines};
 ghost use Rattle.sao_filter.specs.Row.{HasLines, IsRow, samples_of, top};
 ghost use Rattle.sao_filter.specs.Units.{IsBlock};
 
-use crate::block::Block;
+use crate::block::CodingTreeBlock;
 use crate::changes::band_changes;
 use crate::row::OffsetRow;
 use crate::runs::{Run, band_run, copy_run};
 
 /// Where the samples of a line of a block stand.
 #[inline(always)]
-pub fn run_of(width: usize, block: Block, line: usize) -> Run
+pub fn run_of(width: usize, block: CodingTreeBlock, line: usize) -> Run
     requires width { width ≤ 65536 }
     requires columns { (block.from ≤ block.to) × (block.to ≤ width) }
     requires line { line ≤ 64 }
@@ -30,7 +30,7 @@ pub fn run_of(width: usize, block: Block, line: usize) -> Run
 }
 
 /// Copies the samples of a block.
-pub fn copy_block(row: &OffsetRow<'_>, lines: &[u16], block: Block, out: &mut [u16])
+pub fn copy_block(row: &OffsetRow<'_>, lines: &[u16], block: CodingTreeBlock, out: &mut [u16])
     requires row { IsRow row.now }
     requires block { IsBlock row.now block }
     requires lines { HasLines row.now lines.now }
@@ -47,7 +47,7 @@ pub fn copy_block(row: &OffsetRow<'_>, lines: &[u16], block: Block, out: &mut [u
 pub fn band_block(
     row: &OffsetRow<'_>,
     lines: &[u16],
-    block: Block,
+    block: CodingTreeBlock,
     position: u8,
     offsets: &[i8; 4],
     out: &mut [u16],

@@ -2,7 +2,7 @@
 
 /// A coding tree block of a row.
 #[derive(Clone, Copy)]
-pub struct Block {
+pub struct CodingTreeBlock {
     /// The column of its coding tree unit.
     pub k: usize,
     /// Its first column.

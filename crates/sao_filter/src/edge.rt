@@ -6,7 +6,7 @@ ghost use Rattle.sao_filter.specs.Laying.{LaysLine, LaysLines};
 ghost use Rattle.sao_filter.specs.Row.{HasLines, IsRow, plane_of, samples_of, top, unit_in, units_of};
 ghost use Rattle.sao_filter.specs.Units.{IsBetween, IsBlock, IsEdgeTable, ReadsLine, reads_unit, shift};
 
-use crate::block::Block;
+use crate::block::CodingTreeBlock;
 use crate::changes::edge_changes;
 use crate::row::OffsetRow;
 use crate::runs::{Neighbours, Run, copy_run, edge_run};
@@ -90,7 +90,7 @@ fn reads_unit(row: &OffsetRow<'_>, k: usize, h: usize, v: usize) -> bool
 }
 
 /// Whether both neighbours of the samples of a part of a line may be read.
-fn reads_both(row: &OffsetRow<'_>, block: Block, edge: &Edge, part: Part) -> bool
+fn reads_both(row: &OffsetRow<'_>, block: CodingTreeBlock, edge: &Edge, part: Part) -> bool
     requires row { IsRow row.now }
     requires block { IsBlock row.now block }
     requires edge { (edge.now.column ≤ 2) × (edge.now.line ≤ 1) }
@@ -124,7 +124,7 @@ fn reads_both(row: &OffsetRow<'_>, block: Block, edge: &Edge, part: Part) -> boo
 fn edge_part(
     row: &OffsetRow<'_>,
     lines: &[u16],
-    block: Block,
+    block: CodingTreeBlock,
     edge: &Edge,
     part: Part,
     out: &mut [u16],
@@ -165,7 +165,7 @@ fn edge_part(
 }
 
 /// Whether both neighbours of each sample of a line of a block may be read.
-fn reads_line(row: &OffsetRow<'_>, block: Block, edge: &Edge, line: usize) -> bool
+fn reads_line(row: &OffsetRow<'_>, block: CodingTreeBlock, edge: &Edge, line: usize) -> bool
     requires row { IsRow row.now }
     requires block { IsBlock row.now block }
     requires edge { (edge.now.column ≤ 2) × (edge.now.line ≤ 1) }
@@ -201,7 +201,7 @@ fn reads_line(row: &OffsetRow<'_>, block: Block, edge: &Edge, line: usize) -> bo
 }
 
 /// Whether both neighbours of each sample may be read in all lines of a block but its first and its last.
-fn reads_between(row: &OffsetRow<'_>, block: Block, edge: &Edge) -> bool
+fn reads_between(row: &OffsetRow<'_>, block: CodingTreeBlock, edge: &Edge) -> bool
     requires row { IsRow row.now }
     requires block { IsBlock row.now block }
     requires edge { (edge.now.column ≤ 2) × (edge.now.line ≤ 1) }
@@ -216,7 +216,13 @@ fn reads_between(row: &OffsetRow<'_>, block: Block, edge: &Edge) -> bool
 
 /// Whether both neighbours of each sample of a line may be read, by what is known of the lines between the first and
 /// the last.
-fn reads_by(row: &OffsetRow<'_>, block: Block, edge: &Edge, between: bool, line: usize) -> bool
+fn reads_by(
+    row: &OffsetRow<'_>,
+    block: CodingTreeBlock,
+    edge: &Edge,
+    between: bool,
+    line: usize,
+) -> bool
     requires row { IsRow row.now }
     requires block { IsBlock row.now block }
     requires edge { (edge.now.column ≤ 2) × (edge.now.line ≤ 1) }
@@ -235,7 +241,7 @@ fn reads_by(row: &OffsetRow<'_>, block: Block, edge: &Edge, between: bool, line:
 fn whole_line(
     row: &OffsetRow<'_>,
     lines: &[u16],
-    block: Block,
+    block: CodingTreeBlock,
     edge: &Edge,
     line: usize,
     out: &mut [u16],
@@ -271,7 +277,7 @@ fn whole_line(
 fn edge_line(
     row: &OffsetRow<'_>,
     lines: &[u16],
-    block: Block,
+    block: CodingTreeBlock,
     edge: &Edge,
     between: bool,
     line: usize,
@@ -344,7 +350,7 @@ fn first_line(class: u8) -> usize
 pub fn edge_block(
     row: &OffsetRow<'_>,
     lines: &[u16],
-    block: Block,
+    block: CodingTreeBlock,
     class: u8,
     offsets: &[i8; 4],
     out: &mut [u16],

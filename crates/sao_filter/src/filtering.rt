@@ -9,20 +9,20 @@ ghost use Rattle.sao_filter.specs.Row.{unit_in};
 ghost use Rattle.sao_filter.specs.Units.{IsBlock};
 
 use crate::band::{band_block, copy_block};
-use crate::block::Block;
+use crate::block::CodingTreeBlock;
 use crate::edge::edge_block;
 use crate::row::OffsetRow;
 use ctu_records::ComponentOffset;
 
 /// A block of the row.
-fn block_of(row: &OffsetRow<'_>, k: usize) -> Block
+fn block_of(row: &OffsetRow<'_>, k: usize) -> CodingTreeBlock
     requires row { IsRow row.now }
     requires k { k < length row.now.here.now }
     ensures block { IsBlock row.now result }
     ensures k { result.k ≡ k }
 {
     let from = row.size * k;
-    Block {
+    CodingTreeBlock {
         k,
         from,
         to: (from + row.size).min(row.width),
