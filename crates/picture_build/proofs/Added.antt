@@ -23,10 +23,11 @@ use Rattle.plan_types.specs.Segments.{address_of}
 use Rattle.spec_picture_trees.specs.Shapes.{picture_shape, slice_start}
 use Rattle.spec_picture_motion.specs.Derived.{known_of_unit}
 use Rattle.spec_picture_motion.specs.Derived as derived
-use Rattle.spec_picture_motion.specs.Field.{Motions, first_column, first_row}
+use Rattle.spec_picture_trees.specs.Places.{first_column, first_row, unit_at}
+use Rattle.spec_picture_motion.specs.Field.{Motions}
 use Rattle.spec_picture_motion.specs.Slices.{slice_motion}
 use Rattle.spec_picture_build.specs.Border.{Samples, has_sample, height_of, known_beside, unit_column, unit_line}
-use Rattle.spec_picture_build.specs.Border.{unit_of_sample, unit_side, width_of}
+use Rattle.spec_picture_build.specs.Border.{unit_side, width_of}
 use Rattle.spec_picture_build.specs.Built.{BuiltPicture, is_of_unit, samples_added, unit_added, unit_inter, unit_laid}
 use Rattle.spec_picture_build.specs.Format.{unit_format}
 use Rattle.spec_picture_build.specs.References.{DecodedPicture, motions_of, pictures_of}
@@ -88,7 +89,7 @@ some_side (suc size) =
 -- a unit below the picture has none of its samples
 none_below : (picture : PictureShape) (a c x y : ℕ) → IsShape picture → picture.down ≤ first_row picture a
     → (t : Bool) → is_of_unit picture a c x y ≡ t → is_of_unit picture a c x y ≡ false
-unfolding has_sample unit_of_sample
+unfolding has_sample unit_at
 none_below picture a c x y shape past false e = e
 none_below picture a c x y shape past true e =
     let n : ℕ = unit_side picture c in

@@ -6,7 +6,8 @@ use Rattle.std.proofs.lemmas.Bool.Decides.{nat_tests}
 use Rattle.spec_slice_data.specs.Segment.{PictureShape}
 use Rattle.spec_reconstruction.specs.Known.{Known}
 use Rattle.spec_picture_build.specs.Border.{Samples, has_sample, height_of, is_available, known_beside, sample_beside}
-use Rattle.spec_picture_build.specs.Border.{unit_of_sample, unit_side, width_of}
+use Rattle.spec_picture_build.specs.Border.{unit_side, width_of}
+use Rattle.spec_picture_trees.specs.Places.{unit_at}
 use Rattle.picture_build.specs.declared.part.Part.{Part}
 use Rattle.picture_build.specs.Beside.{beside_part, first_above, has_left, is_above, is_left, sample_at}
 use Rattle.picture_build.specs.Parts.{IsPart, IsRoom}
@@ -63,7 +64,7 @@ known_by : (picture : PictureShape) (slice a c : ℕ) (samples : Samples) → c 
     → known_beside picture slice a samples c j k
     ≡ beside_part (part_of c (unit_side picture c) picture.width (width_of picture c) (height_of picture c) a)
     (first_above picture slice a (unit_side picture c)) (has_left picture slice a) samples c j k
-unfolding known_beside sample_beside is_available has_sample unit_of_sample beside_part first_above
+unfolding known_beside sample_beside is_available has_sample unit_at beside_part first_above
 known_by picture slice a c samples lt some wide covered needed j k =
     let n : ℕ = unit_side picture c in
     let w : ℕ = picture.width in

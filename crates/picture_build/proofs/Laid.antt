@@ -6,8 +6,9 @@ use Rattle.std.proofs.Math.Path.{fun_ext}
 use Rattle.std.proofs.lemmas.Bool.Decides.{nat_tests}
 use Rattle.spec_slice_data.specs.Segment.{PictureShape}
 use Rattle.spec_reconstruction.specs.Known.{Known}
-use Rattle.spec_picture_build.specs.Border.{Samples, has_sample, height_of, unit_column, unit_line, unit_of_sample}
-use Rattle.spec_picture_build.specs.Border.{unit_side, width_of}
+use Rattle.spec_picture_build.specs.Border.{Samples, has_sample, height_of, unit_column, unit_line, unit_side}
+use Rattle.spec_picture_build.specs.Border.{width_of}
+use Rattle.spec_picture_trees.specs.Places.{unit_at}
 use Rattle.spec_picture_build.specs.Built.{is_of_unit, unit_laid}
 use Rattle.picture_build.specs.declared.part.Part.{Part}
 use Rattle.picture_build.specs.Parts.{IsPart, IsRoom, is_in_part}
@@ -27,11 +28,11 @@ with_component c false = grind (arith, nat_tests)
 part_is : (picture : PictureShape) (a : ℕ) (part : Part) → IsPart picture a part → IsRoom part
     → width_of picture part.c ≤ unit_side picture part.c * picture.width → (x y : ℕ)
     → is_of_unit picture a part.c x y ≡ is_in_part part part.c x y
-unfolding has_sample unit_of_sample
+unfolding has_sample unit_at
 part_is picture a part e room covered x y =
     let some : 1 ≤ unit_side picture part.c = subst (λ n. 1 ≤ n) e.side room.some in
     without (nat_lt part.c 3) (nat_lt x (width_of picture part.c) && nat_lt y (height_of picture part.c))
-    (unit_of_sample picture part.c x y == a) (let lt = room.component in grind (arith, nat_tests))
+    (unit_at picture (unit_side picture part.c) x y == a) (let lt = room.component in grind (arith, nat_tests))
     ∙ of_unit (unit_side picture part.c) picture.width (width_of picture part.c)
     (height_of picture part.c) a x y some covered
     ∙ sym (with_component part.c _)

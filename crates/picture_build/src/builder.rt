@@ -21,13 +21,12 @@ use crate::lines::lay_unit;
 use crate::motion::{Source, derive};
 use crate::samples::{Depends, build_unit};
 use crate::spare::empty_parts;
-use crate::unit::Unit;
 use ctu_build::{Scratch, UnitSamples};
 use ctu_records::Records;
 use loop_filters::FilterScratch;
 use picture_buffer::{Bases, Picture, Planes};
 use picture_filters::PictureFilters;
-use picture_layout::{Layout, slice_address};
+use picture_layout::{CodingTreeUnit, Layout, slice_address};
 use picture_motion::PictureMotion;
 use picture_trees::Trees;
 use plan_types::{PicturePlan, SegmentPlan};
@@ -165,12 +164,12 @@ impl<'a, B: Buffer> PictureBuilder<'a, B> {
         derive(&source, address, records, &mut self.motion);
         self.filters
             .add(segment, address, records, self.motion.field());
-        let unit = Unit {
+        let unit = CodingTreeUnit {
             layout: self.layout,
             slice: slice_address(self.plan, segment),
             address,
         };
-        if let Some(row) = unit.first_row() {
+        if let Some(row) = unit.first_row_there() {
             set_slice(
                 &mut self.format,
                 &self.plan.pps,

@@ -14,7 +14,6 @@ mod picture;
 mod references;
 mod samples;
 mod spare;
-mod unit;
 mod weights;
 
 pub use picture::build_picture;

@@ -8,12 +8,12 @@ ghost use Rattle.picture_build.specs.Parts.{IsPart, IsRoom, is_in_part};
 ghost use Rattle.spec_picture_build.specs.Built.{unit_laid};
 
 use crate::part::Part;
-use crate::unit::Unit;
 use ctu_build::UnitSamples;
 use picture_buffer::Planes;
+use picture_layout::CodingTreeUnit;
 
 /// Lays the samples of a unit into the picture.
-pub(crate) fn lay_unit(unit: &Unit, samples: &UnitSamples, planes: &mut Planes)
+pub(crate) fn lay_unit(unit: &CodingTreeUnit, samples: &UnitSamples, planes: &mut Planes)
     requires { HasSides planes.old (4 * unit.now.layout.across) (4 * unit.now.layout.down) }
     ensures value { samples_of planes.new
         ≡ unit_laid unit.now.layout unit.now.address (held samples.now) (samples_of planes.old) }
@@ -25,7 +25,7 @@ pub(crate) fn lay_unit(unit: &Unit, samples: &UnitSamples, planes: &mut Planes)
 }
 
 /// Lays those of a component.
-fn lay_component(unit: &Unit, c: usize, samples: &UnitSamples, planes: &mut Planes)
+fn lay_component(unit: &CodingTreeUnit, c: usize, samples: &UnitSamples, planes: &mut Planes)
     requires component { c < 3 }
     requires sides { HasSides planes.old (4 * unit.now.layout.across) (4 * unit.now.layout.down) }
     ensures value { (i j k : ℕ) → samples_of planes.new i j k
@@ -33,11 +33,11 @@ fn lay_component(unit: &Unit, c: usize, samples: &UnitSamples, planes: &mut Plan
         else samples_of planes.old i j k) }
     ensures sides { HasSides planes.new (4 * unit.now.layout.across) (4 * unit.now.layout.down) }
 {
-    lay_part(unit, unit.part(c), samples, planes);
+    lay_part(unit, Part::of_unit(unit, c), samples, planes);
 }
 
 /// Lays the lines of a part of a unit, as far as the picture goes.
-fn lay_part(unit: &Unit, part: Part, samples: &UnitSamples, planes: &mut Planes)
+fn lay_part(unit: &CodingTreeUnit, part: Part, samples: &UnitSamples, planes: &mut Planes)
     requires part { IsPart unit.now.layout unit.now.address part }
     requires room { IsRoom part }
     requires sides { HasSides planes.old (4 * unit.now.layout.across) (4 * unit.now.layout.down) }

@@ -7,7 +7,8 @@ ghost use Rattle.picture_build.specs.Pictures.{buffer_of};
 ghost use Rattle.picture_trees.specs.Given.{tree_unit};
 ghost use Rattle.spec_picture_trees.specs.Shapes.{picture_shape};
 ghost use Rattle.spec_picture_motion.specs.Derived.{known_of_unit};
-ghost use Rattle.spec_picture_motion.specs.Field.{Motions, first_row};
+ghost use Rattle.spec_picture_trees.specs.Places.{first_row};
+ghost use Rattle.spec_picture_motion.specs.Field.{Motions};
 ghost use Rattle.spec_picture_build.specs.Built.{unit_inter};
 ghost use Rattle.spec_picture_build.specs.References.{motions_of as motions_at};
 ghost use Rattle.spec_reconstruction.specs.Sound.{AreSound, IsFormat};
@@ -15,11 +16,11 @@ ghost use Rattle.spec_reconstruction.specs.Unit.{unit_built};
 
 use crate::motion::Source;
 use crate::references::References;
-use crate::unit::Unit;
 use crate::weights::slice_weighting;
 use ctu_build::{Scratch, UnitSamples, build_ctu};
 use ctu_records::Records;
 use inter_samples::UnitInter;
+use picture_layout::CodingTreeUnit;
 use picture_motion::{PictureMotion, slice_motion};
 use spec_reconstruction::UnitFormat;
 
@@ -29,7 +30,7 @@ pub(crate) struct Depends<'a> {
     /// The slice segment, the picture and the pictures before it.
     pub(crate) source: Source<'a>,
     /// The unit's place.
-    pub(crate) unit: Unit,
+    pub(crate) unit: CodingTreeUnit,
     /// The row of its first place.
     pub(crate) row: u32,
     /// What all samples of the slice's units depend on.
@@ -59,13 +60,13 @@ pub(crate) fn build_unit(
         records.now.items (held samples.old) }
 {
     let segment = on.source.segment;
-    let slice = slice_motion(&on.unit.of_motion(), on.source.plan, segment);
+    let slice = slice_motion(&on.unit, on.source.plan, segment);
     let weighting = slice_weighting(&segment.header.fields().slice.inter);
     let inter = UnitInter {
         motion: on.motion.unit_motion(),
         slice: &slice,
         weighting: &weighting,
-        column: on.unit.first_column(),
+        column: on.unit.first_column() as u32,
         row: on.row,
     };
     let view = References::new(on.source.bases);

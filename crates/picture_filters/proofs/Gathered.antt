@@ -2,9 +2,9 @@
 use Rattle.std.proofs.Common.{◌≡◌, ℕ, ◌-◌, ◌<◌, ◌≤◌, ◌∙◌, ap, Bool, arith}
 use Rattle.std.proofs.Math.Path.{fun_ext}
 use Rattle.std.proofs.lemmas.Bool.Decides.{nat_tests}
-use Rattle.filter_field.specs.declared.filter_place.FilterPlace.{FilterPlace}
-use Rattle.filter_field.specs.Places.{first_place}
-use Rattle.filter_field.specs.Units.{first_unit}
+use Rattle.picture_filters.specs.declared.filter_place.FilterPlace.{FilterPlace}
+use Rattle.picture_filters.specs.Places.{first_place}
+use Rattle.picture_filters.specs.Units.{first_unit}
 use Rattle.ctu_records.specs.Tree.{Ctu}
 use Rattle.slice_types.specs.declared.slice.SliceDeblocking.{SliceDeblocking}
 use Rattle.plan_types.specs.declared.segment_plan.SegmentPlan.{SegmentPlan}
@@ -12,12 +12,13 @@ use Rattle.plan_types.specs.declared.picture_plan.PicturePlan.{PicturePlan}
 use Rattle.spec_boundary_strengths.specs.declared.place.UnitPlace.{UnitPlace}
 use Rattle.spec_deblocking.specs.declared.place.Place.{Place}
 use Rattle.spec_picture_trees.specs.Shapes.{picture_shape}
-use Rattle.spec_picture_motion.specs.Field.{Motions, first_column, first_row, unit_places}
+use Rattle.spec_picture_trees.specs.Places.{first_column, first_row, unit_places}
+use Rattle.spec_picture_motion.specs.Field.{Motions}
 use Rattle.spec_sample_adaptive_offset.specs.declared.unit.OffsetUnit.{OffsetUnit}
 use Rattle.spec_slice_data.specs.Segment.{PictureShape}
 use Rattle.spec_picture_filters.specs.Data.{FilterData, no_data}
 use Rattle.spec_picture_filters.specs.Units.{coded_laid, places_laid, places_read, read_added, units_laid}
-use Rattle.picture_filters.specs.declared.unit.Unit.{Unit}
+use Rattle.picture_layout.specs.declared.coding_tree_unit.CodingTreeUnit.{CodingTreeUnit}
 use Rattle.picture_filters.specs.Filtering.{IsUnit, coded_part, filter_places_laid, gathered}
 
 gathered_same : (a b : ℕ → ℕ → FilterPlace) (u v : ℕ → ℕ → ℕ → OffsetUnit) → a ≡ b → u ≡ v → gathered a u ≡ gathered b v
@@ -67,7 +68,7 @@ made_same a b c d u v e f g =
     ∙ (ap (λ (k : ℕ → ℕ → Bool). made b k u) f ∙ ap (λ (k : ℕ → ℕ → ℕ → OffsetUnit). made b d k) g)
 
 -- behind a unit whose places were read
-pub data_added : (p : PicturePlan) (s : SegmentPlan) (unit : Unit) (ctu : Ctu) (motions : Motions)
+pub data_added : (p : PicturePlan) (s : SegmentPlan) (unit : CodingTreeUnit) (ctu : Ctu) (motions : Motions)
     (read : ℕ → ℕ → UnitPlace) (old new : ℕ → ℕ → FilterPlace) (before units : ℕ → ℕ → ℕ → OffsetUnit)
     → IsUnit p s unit → unit_places unit.layout ≤ 16
     → ((x y : ℕ) → x < 16 → y < 16 → read x y ≡ places_read p s unit.address ctu.items motions (coded_part old) x y)

@@ -1,3 +1,7 @@
+pub mod Grids
+pub mod Kept
+pub mod Places
+pub mod Units
 pub mod Lines
 pub mod Same
 pub mod Gathered

@@ -1,20 +1,16 @@
 -- The places of a unit, laid row after row.
-use Rattle.std.proofs.Common.{◌≡◌, ℕ, ◌+◌, ◌-◌, ◌&&◌, cond, min, nat_le, nat_lt, arith}
+use Rattle.std.proofs.Common.{◌≡◌, ℕ, ◌+◌, ◌-◌, ◌&&◌, cond, nat_le, nat_lt, arith}
 use Rattle.std.proofs.lemmas.Bool.Decides.{nat_tests}
-use Rattle.filter_field.specs.declared.filter_place.FilterPlace.{FilterPlace}
+use Rattle.picture_filters.specs.declared.filter_place.FilterPlace.{FilterPlace}
 use Rattle.slice_types.specs.declared.slice.SliceDeblocking.{SliceDeblocking}
 use Rattle.spec_boundary_strengths.specs.declared.place.UnitPlace.{UnitPlace}
-use Rattle.spec_picture_motion.specs.Field.{unit_places}
-use Rattle.picture_filters.specs.Filtering.{IsBlock, filter_place, filter_places_laid}
-use Rattle.picture_filters.specs.declared.layers.Block.{Block}
-use Rattle.picture_filters.specs.declared.unit.Unit.{Unit}
+use Rattle.picture_filters.specs.Filtering.{filter_place, filter_places_laid}
+use Rattle.picture_layout.proofs.Blocks.{of_block}
+use Rattle.picture_layout.specs.Blocks.{IsBlock}
+use Rattle.picture_layout.specs.declared.block.PlaceBlock.{PlaceBlock}
+use Rattle.picture_layout.specs.declared.coding_tree_unit.CodingTreeUnit.{CodingTreeUnit}
 
--- so many places from one on, as far as there are any
-within : (n whole x i count : ℕ) → count ≡ min n (whole - x)
-    → (nat_le x i && nat_lt i (x + count)) ≡ ((nat_le x i && nat_lt i (x + n)) && nat_lt i whole)
-within n whole x i count e = grind (arith, nat_tests)
-
-pub laid_rows : (unit : Unit) (block : Block) (slice : SliceDeblocking) (read : ℕ → ℕ → UnitPlace)
+pub laid_rows : (unit : CodingTreeUnit) (block : PlaceBlock) (slice : SliceDeblocking) (read : ℕ → ℕ → UnitPlace)
     (old new : ℕ → ℕ → FilterPlace) (i j : ℕ)
     → IsBlock unit block
     → new i j
@@ -24,8 +20,7 @@ pub laid_rows : (unit : Unit) (block : Block) (slice : SliceDeblocking) (read : 
     → new i j ≡ filter_places_laid unit.layout unit.address slice read old i j
 unfolding filter_places_laid
 laid_rows unit block slice read old new i j is e =
-    let columns = within (unit_places unit.layout) unit.layout.across block.x i block.columns is.columns in
-    let rows = within (unit_places unit.layout) unit.layout.down block.y j block.rows is.rows in
+    let places = of_block unit block i j is in
     let x = is.x in
     let y = is.y in
     grind (arith, nat_tests)

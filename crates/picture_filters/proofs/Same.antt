@@ -13,7 +13,7 @@ use Rattle.spec_picture_motion.specs.Field.{Motions}
 use Rattle.spec_slice_data.specs.Segment.{PictureShape}
 use Rattle.spec_picture_filters.specs.Units.{beside_unit, coded_near, is_left_filtered, is_top_filtered, motion_near}
 use Rattle.spec_picture_filters.specs.Units.{pcm_disabled, places_read}
-use Rattle.picture_filters.specs.declared.unit.Unit.{Unit}
+use Rattle.picture_layout.specs.declared.coding_tree_unit.CodingTreeUnit.{CodingTreeUnit}
 use Rattle.picture_filters.specs.Filtering.{IsCodedAbove, IsCodedLeft, IsUnit}
 
 -- both are the same beside the places of a unit
@@ -70,7 +70,7 @@ unfolding coded_beside
 above_flag sides k = let e : k + 1 - 1 ≡ k = omega arith in grind (arith, nat_tests)
 
 -- what is gathered beside a unit is what its places ask for
-pub read_is : (p : PicturePlan) (s : SegmentPlan) (unit : Unit) (items : List Item) (motions : Motions)
+pub read_is : (p : PicturePlan) (s : SegmentPlan) (unit : CodingTreeUnit) (items : List Item) (motions : Motions)
     (coded : ℕ → ℕ → Bool) (sides : UnitSides) (x y : ℕ)
     → IsUnit p s unit
     → sides.filter_left ≡ is_left_filtered p s unit.address → sides.filter_top ≡ is_top_filtered p s unit.address

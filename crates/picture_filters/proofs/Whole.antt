@@ -1,7 +1,7 @@
 -- A planned picture behind its loop filters.
 use Rattle.std.proofs.Common.{◌≡◌, ℕ, ap, ◌∙◌}
-use Rattle.filter_field.specs.Places.{FieldPlaces, places_of}
-use Rattle.filter_field.specs.Units.{FieldUnits, units_of}
+use Rattle.picture_filters.specs.Places.{FieldPlaces, places_of}
+use Rattle.picture_filters.specs.Units.{FieldUnits, units_of}
 use Rattle.loop_filters.specs.Formats.{filters_of}
 use Rattle.plan_types.specs.declared.picture_plan.PicturePlan.{PicturePlan}
 use Rattle.spec_loop_filters.specs.declared.format.FilterFormat.{FilterFormat}

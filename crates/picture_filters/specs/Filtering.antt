@@ -1,22 +1,21 @@
 -- A picture while what its loop filters need is gathered.
-use Rattle.std.specs.Prelude.{◌≡◌, ℕ, ◌+◌, ◌-◌, ◌<◌, ◌≤◌, min, pos, Bool, false, List, slice_index_or, if◌then◌else◌}
+use Rattle.std.specs.Prelude.{◌≡◌, ℕ, ◌+◌, ◌-◌, ◌<◌, pos, Bool, false, List, slice_index_or, if◌then◌else◌}
 use Rattle.ctu_records.specs.Places.{by_place}
-use Rattle.filter_field.specs.declared.filter_place.FilterPlace.{FilterPlace}
-use Rattle.filter_field.specs.Places.{FieldPlaces, places_of}
-use Rattle.filter_field.specs.Units.{FieldUnits, units_of}
+use Rattle.picture_filters.specs.declared.filter_place.FilterPlace.{FilterPlace}
+use Rattle.picture_filters.specs.Places.{FieldPlaces, places_of}
+use Rattle.picture_filters.specs.Units.{FieldUnits, units_of}
 use Rattle.slice_types.specs.declared.slice.SliceDeblocking.{SliceDeblocking}
 use Rattle.plan_types.specs.declared.segment_plan.SegmentPlan.{SegmentPlan}
 use Rattle.plan_types.specs.declared.picture_plan.PicturePlan.{PicturePlan}
 use Rattle.spec_boundary_strengths.specs.declared.place.UnitPlace.{UnitPlace}
 use Rattle.spec_loop_filters.specs.declared.format.FilterFormat.{FilterFormat}
 use Rattle.spec_picture_trees.specs.Shapes.{picture_shape}
-use Rattle.spec_picture_motion.specs.Field.{first_column, first_row, is_of_unit, unit_places}
+use Rattle.spec_picture_trees.specs.Places.{first_column, first_row, is_of_unit}
 use Rattle.spec_sample_adaptive_offset.specs.declared.unit.OffsetUnit.{OffsetUnit}
 use Rattle.spec_slice_data.specs.Segment.{PictureShape}
 use Rattle.spec_picture_filters.specs.Data.{FilterData}
 use Rattle.spec_picture_filters.specs.Units.{coded_near, place_of, slice_address}
-use Rattle.picture_filters.specs.declared.layers.Block.{Block}
-use Rattle.picture_filters.specs.declared.unit.Unit.{Unit}
+use Rattle.picture_layout.specs.declared.coding_tree_unit.CodingTreeUnit.{CodingTreeUnit}
 
 -- a planned picture, what is known of its places, and the offsets of its units
 pub record Filtering : Type 0 where
@@ -42,32 +41,18 @@ abbrev pub data_of : Filtering → FilterData
 data_of f = gathered (places_of f.places) (units_of f.units)
 
 -- a unit of a slice segment of a picture
-pub record IsUnit (p : PicturePlan) (s : SegmentPlan) (unit : Unit) : Type 0 where
+pub record IsUnit (p : PicturePlan) (s : SegmentPlan) (unit : CodingTreeUnit) : Type 0 where
   pub layout : unit.layout ≡ picture_shape p.sps p.pps
   pub slice : unit.slice ≡ slice_address p s
 
 -- flags say which places on the left of a unit are coded, and which above it
-abbrev pub IsCodedLeft : Unit → (ℕ → ℕ → Bool) → List Bool → Type 0
+abbrev pub IsCodedLeft : CodingTreeUnit → (ℕ → ℕ → Bool) → List Bool → Type 0
 IsCodedLeft unit coded flags =
     (k : ℕ) → k < 16 → slice_index_or flags k false ≡ coded_near unit.layout unit.address coded 0 (k + 1)
 
-abbrev pub IsCodedAbove : Unit → (ℕ → ℕ → Bool) → List Bool → Type 0
+abbrev pub IsCodedAbove : CodingTreeUnit → (ℕ → ℕ → Bool) → List Bool → Type 0
 IsCodedAbove unit coded flags =
     (k : ℕ) → k < 16 → slice_index_or flags k false ≡ coded_near unit.layout unit.address coded (k + 1) 0
-
--- the places of a unit that the picture has
-pub record IsBlock (unit : Unit) (block : Block) : Type 0 where
-  pub x : block.x ≡ first_column unit.layout unit.address
-  pub y : block.y ≡ first_row unit.layout unit.address
-  pub columns : block.columns ≡ min (unit_places unit.layout) (unit.layout.across - block.x)
-  pub rows : block.rows ≡ min (unit_places unit.layout) (unit.layout.down - block.y)
-
--- so that no sum of its places is too great
-pub record IsSmall (block : Block) : Type 0 where
-  pub x : block.x < 8192
-  pub y : block.y ≤ 68719476720
-  pub columns : block.columns ≤ 16
-  pub rows : block.rows ≤ 16
 
 -- a place of a unit that was read, of 16 rows of 16
 abbrev pub read_place : List UnitPlace → ℕ → ℕ → UnitPlace

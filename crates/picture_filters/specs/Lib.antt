@@ -1,1 +1,5 @@
+pub mod Grids
+pub mod Kept
+pub mod Places
+pub mod Units
 pub mod Filtering

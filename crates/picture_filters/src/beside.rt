@@ -1,22 +1,22 @@
 //! What is known beside a coding tree unit, apart from motion (8.7.2.3).
 
 ghost use Rattle.std.specs.Prelude.{◌≡◌, ◌+◌, ◌-◌, ◌≤◌, ◌&&◌, ◌||◌, nat_le, nat_lt};
-ghost use Rattle.filter_field.specs.Places.{places_of};
+ghost use Rattle.picture_filters.specs.Places.{places_of};
 ghost use Rattle.picture_filters.specs.Filtering.{IsCodedAbove, IsCodedLeft, IsUnit, coded_part};
 ghost use Rattle.spec_picture_trees.specs.Shapes.{qp_bd_offset};
 ghost use Rattle.spec_picture_filters.specs.Units.{coded_near, is_left_filtered, is_reached, is_top_filtered};
 ghost use Rattle.spec_picture_filters.specs.Units.{pcm_disabled};
 
-use crate::unit::Unit;
+use crate::place_field::PlaceField;
 use boundary_strengths::UnitSides;
-use filter_field::PlaceField;
+use picture_layout::CodingTreeUnit;
 use plan_types::{PicturePlan, SegmentPlan};
 
 /// What is known beside a unit of a segment.
 pub(crate) fn unit_sides(
     plan: &PicturePlan,
     segment: &SegmentPlan,
-    unit: &Unit,
+    unit: &CodingTreeUnit,
     places: &PlaceField,
 ) -> UnitSides
     requires { IsUnit plan.now segment.now unit.now }
@@ -44,7 +44,7 @@ pub(crate) fn unit_sides(
 
 /// Whether the left side of a unit is filtered.
 #[tactic(auto, unfolding(spec_picture_filters::specs::Units::is_left_filtered))]
-fn is_left_filtered(plan: &PicturePlan, segment: &SegmentPlan, unit: &Unit) -> bool
+fn is_left_filtered(plan: &PicturePlan, segment: &SegmentPlan, unit: &CodingTreeUnit) -> bool
     requires { IsUnit plan.now segment.now unit.now }
     ensures { result ≡ is_left_filtered plan.now segment.now unit.now.address }
 {
@@ -57,7 +57,7 @@ fn is_left_filtered(plan: &PicturePlan, segment: &SegmentPlan, unit: &Unit) -> b
 
 /// Whether its top is filtered.
 #[tactic(auto, unfolding(spec_picture_filters::specs::Units::is_top_filtered))]
-fn is_top_filtered(plan: &PicturePlan, segment: &SegmentPlan, unit: &Unit) -> bool
+fn is_top_filtered(plan: &PicturePlan, segment: &SegmentPlan, unit: &CodingTreeUnit) -> bool
     requires { IsUnit plan.now segment.now unit.now }
     ensures { result ≡ is_top_filtered plan.now segment.now unit.now.address }
 {
@@ -70,7 +70,7 @@ fn is_top_filtered(plan: &PicturePlan, segment: &SegmentPlan, unit: &Unit) -> bo
 }
 
 /// Whether the edges to a unit that was read before are filtered.
-fn is_reached(segment: &SegmentPlan, unit: &Unit, before: u32) -> bool
+fn is_reached(segment: &SegmentPlan, unit: &CodingTreeUnit, before: u32) -> bool
     ensures { result
         ≡ (nat_le unit.now.slice before || segment.now.header.slice.slice_loop_filter_across_slices_enabled_flag) }
 {
@@ -97,7 +97,7 @@ fn qp_bd_offset(plan: &PicturePlan) -> u8
 }
 
 /// Whether the places on the left of a unit are coded, from the upper one down.
-fn coded_left(unit: &Unit, places: &PlaceField) -> [bool; 16]
+fn coded_left(unit: &CodingTreeUnit, places: &PlaceField) -> [bool; 16]
     ensures { IsCodedLeft unit.now (coded_part (places_of places.now)) result }
 {
     let mut coded = [false; 16];
@@ -108,7 +108,7 @@ fn coded_left(unit: &Unit, places: &PlaceField) -> [bool; 16]
 }
 
 /// Whether the places above it are.
-fn coded_above(unit: &Unit, places: &PlaceField) -> [bool; 16]
+fn coded_above(unit: &CodingTreeUnit, places: &PlaceField) -> [bool; 16]
     ensures { IsCodedAbove unit.now (coded_part (places_of places.now)) result }
 {
     let mut coded = [false; 16];
@@ -120,7 +120,7 @@ fn coded_above(unit: &Unit, places: &PlaceField) -> [bool; 16]
 
 /// Whether a place that is counted from 1 at a unit's first place is coded; `false` outside the picture.
 #[tactic(auto, unfolding(spec_picture_filters::specs::Units::coded_near))]
-fn coded_near(unit: &Unit, places: &PlaceField, column: usize, row: usize) -> bool
+fn coded_near(unit: &CodingTreeUnit, places: &PlaceField, column: usize, row: usize) -> bool
     requires column { column ≤ 16 }
     requires row { row ≤ 16 }
     ensures { result ≡ coded_near unit.now.layout unit.now.address (coded_part (places_of places.now)) column row }

@@ -1,13 +1,15 @@
 //! The places of a coding tree unit over those of its picture.
 
 ghost use Rattle.std.specs.Prelude.{◌≡◌, ℕ, ◌+◌, ◌-◌, ◌<◌, ◌≤◌, ◌==◌, ◌&&◌, nat_le, nat_lt, pos, if◌then◌else◌};
-ghost use Rattle.filter_field.specs.Places.{HasPlaces, places_of};
-ghost use Rattle.picture_filters.specs.Filtering.{IsBlock, IsSmall, filter_place, filter_places_laid, read_place};
-ghost use Rattle.spec_picture_motion.specs.Field.{unit_places};
+ghost use Rattle.picture_filters.specs.Places.{HasPlaces, places_of};
+ghost use Rattle.picture_filters.specs.Filtering.{filter_place, filter_places_laid, read_place};
+ghost use Rattle.picture_layout.specs.Blocks.{IsSmall};
+ghost use Rattle.spec_picture_trees.specs.Places.{unit_places};
 ghost use Rattle.spec_picture_filters.specs.Units.{held_offset, place_of};
 
-use crate::unit::Unit;
-use filter_field::{FilterPlace, PlaceField};
+use crate::filter_place::FilterPlace;
+use crate::place_field::PlaceField;
+use picture_layout::{CodingTreeUnit, PlaceBlock};
 use slice_types::SliceDeblocking;
 use spec_boundary_strengths::UnitPlace;
 use spec_deblocking::Place;
@@ -23,7 +25,7 @@ pub(crate) const NO_PLACE: UnitPlace = UnitPlace {
 
 /// The places of a unit, in 16 rows of 16, over those of the picture.
 pub(crate) fn lay_places(
-    unit: &Unit,
+    unit: &CodingTreeUnit,
     slice: SliceDeblocking,
     read: &[UnitPlace; 256],
     field: &mut PlaceField,
@@ -34,45 +36,15 @@ pub(crate) fn lay_places(
     ensures sides { HasPlaces field.new unit.now.layout.across unit.now.layout.down }
     ensures few { unit_places unit.now.layout ≤ 16 }
 {
-    let block = block_of(unit);
+    let block = unit.places();
     for row in 0..block.rows {
         lay_row(block, row, slice, read, field);
     }
 }
 
-/// The places of a unit that the picture has: the first one, and how many there are across and down.
-#[derive(Clone, Copy)]
-pub(crate) struct Block {
-    /// The column of the first place in the picture.
-    pub(crate) x: usize,
-    /// The row of the first place in the picture.
-    pub(crate) y: usize,
-    /// How many places there are across, at most 16.
-    pub(crate) columns: usize,
-    /// How many there are down, at most 16.
-    pub(crate) rows: usize,
-}
-
-/// Those of a unit.
-fn block_of(unit: &Unit) -> Block
-    ensures block { IsBlock unit.now result }
-    ensures small { IsSmall result }
-    ensures few { unit_places unit.now.layout ≤ 16 }
-{
-    let side = unit.layout.side() as usize;
-    let x = unit.first_column();
-    let y = unit.first_row();
-    Block {
-        x,
-        y,
-        columns: side.min((unit.layout.across() as usize).saturating_sub(x)),
-        rows: side.min((unit.layout.down() as usize).saturating_sub(y)),
-    }
-}
-
 /// A row of places.
 fn lay_row(
-    block: Block,
+    block: PlaceBlock,
     row: usize,
     slice: SliceDeblocking,
     read: &[UnitPlace; 256],

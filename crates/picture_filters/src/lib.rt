@@ -3,13 +3,17 @@
 #![tactic(auto)]
 
 mod beside;
+mod cells;
+mod filter_place;
 mod format;
+mod kept_field;
 mod layers;
 mod motion_near;
 mod offsets;
 mod picture;
+mod place_field;
 mod planned;
-mod unit;
+mod unit_field;
 mod view;
 
 pub use picture::PictureFilters;

@@ -4,15 +4,15 @@ ghost use Rattle.std.specs.Prelude.{◌≡◌, ◌≤◌};
 ghost use Rattle.picture_buffer.specs.Motion.{motions_of};
 ghost use Rattle.spec_picture_filters.specs.Units.{motion_near};
 
-use crate::unit::Unit;
 use boundary_strengths::PlaceMotions;
 use picture_buffer::{MotionField, PlaceMotion};
+use picture_layout::CodingTreeUnit;
 
 /// The motion of a unit in that of its picture.
 #[derive(Clone, Copy)]
 pub(crate) struct MotionNear<'a> {
     /// The unit's place.
-    pub(crate) unit: &'a Unit,
+    pub(crate) unit: &'a CodingTreeUnit,
     /// The motion of its picture.
     pub(crate) field: &'a MotionField,
 }
@@ -27,7 +27,12 @@ impl<'a> PlaceMotions for MotionNear<'a> {
 
 /// The motion of a place that is counted from 1 at a unit's first place; `None` outside the picture.
 #[tactic(auto, unfolding(spec_picture_filters::specs::Units::motion_near))]
-fn motion_near(unit: &Unit, field: &MotionField, column: usize, row: usize) -> Option<PlaceMotion>
+fn motion_near(
+    unit: &CodingTreeUnit,
+    field: &MotionField,
+    column: usize,
+    row: usize,
+) -> Option<PlaceMotion>
     requires column { column ≤ 16 }
     requires row { row ≤ 16 }
     ensures { result ≡ motion_near unit.now.layout unit.now.address (motions_of field.now) column row }

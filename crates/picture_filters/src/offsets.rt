@@ -1,14 +1,14 @@
 //! The offsets of a coding tree unit over those of its picture.
 
 ghost use Rattle.std.specs.Prelude.{◌≡◌, ℕ};
-ghost use Rattle.filter_field.specs.Units.{HasUnits, units_of};
+ghost use Rattle.picture_filters.specs.Units.{HasUnits, units_of};
 ghost use Rattle.header_types.specs.SequenceParameterSets.{height_in_ctbs};
 ghost use Rattle.picture_filters.specs.Filtering.{IsUnit};
 ghost use Rattle.spec_picture_filters.specs.Units.{units_laid};
 
-use crate::unit::Unit;
+use crate::unit_field::UnitField;
 use ctu_records::{ComponentOffset, Sao};
-use filter_field::UnitField;
+use picture_layout::CodingTreeUnit;
 use plan_types::{PicturePlan, SegmentPlan};
 use spec_sample_adaptive_offset::OffsetUnit;
 
@@ -17,7 +17,7 @@ use spec_sample_adaptive_offset::OffsetUnit;
 pub(crate) fn lay_offsets(
     plan: &PicturePlan,
     segment: &SegmentPlan,
-    unit: &Unit,
+    unit: &CodingTreeUnit,
     sao: Sao,
     units: &mut UnitField,
 )
@@ -38,7 +38,7 @@ pub(crate) fn lay_offsets(
 }
 
 /// A component of a unit.
-fn unit_read(segment: &SegmentPlan, unit: &Unit, offset: ComponentOffset) -> OffsetUnit
+fn unit_read(segment: &SegmentPlan, unit: &CodingTreeUnit, offset: ComponentOffset) -> OffsetUnit
     ensures { result
         ≡ record {
           offset = offset;

@@ -3,8 +3,8 @@
 ghost use Rattle.std.specs.Prelude.{◌≡◌, ◌-◌, ◌^◌, ℕ, ◌<◌, ◌≤◌, IfOk};
 ghost use Rattle.std.specs.List.{All};
 ghost use Rattle.ctu_records.specs.Tree.{qp_at};
-ghost use Rattle.filter_field.specs.Places.{HasPlaces};
-ghost use Rattle.filter_field.specs.Units.{HasUnits};
+ghost use Rattle.picture_filters.specs.Places.{HasPlaces};
+ghost use Rattle.picture_filters.specs.Units.{HasUnits};
 ghost use Rattle.header_types.specs.SequenceParameterSets.{height_in_ctbs};
 ghost use Rattle.loop_filters.specs.Scratch.{HasRoom};
 ghost use Rattle.picture_buffer.specs.Motion.{motions_of};
@@ -20,14 +20,14 @@ use crate::beside::unit_sides;
 use crate::layers::{NO_PLACE, lay_places};
 use crate::motion_near::MotionNear;
 use crate::offsets::lay_offsets;
+use crate::place_field::PlaceField;
 use crate::planned::filter_planned;
-use crate::unit::Unit;
+use crate::unit_field::UnitField;
 use boundary_strengths::unit_places;
 use ctu_records::Records;
-use filter_field::{PlaceField, UnitField};
 use loop_filters::FilterScratch;
 use picture_buffer::{MotionField, Planes};
-use picture_layout::{Layout, slice_address};
+use picture_layout::{CodingTreeUnit, Layout, slice_address};
 use plan_types::{PicturePlan, SegmentPlan};
 use std::alloc::{AllocError, Global};
 use std::marker::Model;
@@ -45,8 +45,8 @@ pub struct PictureFilters<'a> {
 
 impl<'a> Model for PictureFilters<'a> {
     ghost use Rattle.std.specs.Prelude.{◌≡◌};
-    ghost use Rattle.filter_field.specs.Places.{HasPlaces};
-    ghost use Rattle.filter_field.specs.Units.{HasUnits};
+    ghost use Rattle.picture_filters.specs.Places.{HasPlaces};
+    ghost use Rattle.picture_filters.specs.Units.{HasUnits};
     ghost use Rattle.header_types.specs.SequenceParameterSets.{height_in_ctbs};
     ghost use Rattle.loop_filters.specs.Scratch.{HasRoom};
     ghost use Rattle.picture_filters.specs.Filtering.{Filtering};
@@ -114,13 +114,13 @@ impl<'a> PictureFilters<'a> {
     }
 
     /// A unit of a segment.
-    fn unit_of(&self, segment: &SegmentPlan, address: u32) -> Unit
+    fn unit_of(&self, segment: &SegmentPlan, address: u32) -> CodingTreeUnit
         ensures unit { IsUnit self.now.plan segment.now result }
         ensures address { result.address ≡ address }
         ensures places { HasPlaces self.now.places result.layout.across result.layout.down }
         ensures units { HasUnits self.now.units result.layout.width (height_in_ctbs self.now.plan.sps) }
     {
-        Unit {
+        CodingTreeUnit {
             layout: self.layout,
             slice: slice_address(self.plan, segment),
             address,

@@ -1,8 +1,8 @@
 //! The loop filters of a planned picture.
 
 ghost use Rattle.std.specs.Prelude.{◌≡◌, ◌-◌, ◌/◌, ◌^◌, ℕ, ◌<◌, ◌≤◌};
-ghost use Rattle.filter_field.specs.Places.{HasPlaces, places_of};
-ghost use Rattle.filter_field.specs.Units.{HasUnits, units_of};
+ghost use Rattle.picture_filters.specs.Places.{HasPlaces, places_of};
+ghost use Rattle.picture_filters.specs.Units.{HasUnits, units_of};
 ghost use Rattle.header_types.specs.SequenceParameterSets.{height_in_ctbs, width_in_ctbs};
 ghost use Rattle.loop_filters.specs.Scratch.{HasRoom};
 ghost use Rattle.picture_buffer.specs.Planes.{HasSides, plane_height, plane_width, samples_of};
@@ -11,8 +11,9 @@ ghost use Rattle.spec_loop_filters.specs.Filters.{depth_of};
 ghost use Rattle.spec_picture_filters.specs.Filtered.{filter_format, filtered};
 
 use crate::format::filter_format;
+use crate::place_field::PlaceField;
+use crate::unit_field::UnitField;
 use crate::view::PictureView;
-use filter_field::{PlaceField, UnitField};
 use loop_filters::{FilterScratch, filter_picture};
 use picture_buffer::Planes;
 use plan_types::PicturePlan;

@@ -1,12 +1,13 @@
 //! What the loop filters ask of a picture whose units are gathered.
 
 ghost use Rattle.std.specs.Prelude.{◌≡◌, ◌≤◌, ◌/◌};
-ghost use Rattle.filter_field.specs.Places.{HasPlaces, places_of};
-ghost use Rattle.filter_field.specs.Units.{HasUnits, units_of};
+ghost use Rattle.picture_filters.specs.Places.{HasPlaces, places_of};
+ghost use Rattle.picture_filters.specs.Units.{HasUnits, units_of};
 ghost use Rattle.loop_filters.specs.Formats.{columns_of, rows_of};
 
+use crate::place_field::PlaceField;
+use crate::unit_field::UnitField;
 use deblock::Places;
-use filter_field::{PlaceField, UnitField};
 use loop_filters::FilterView;
 use spec_deblocking::Place;
 use spec_loop_filters::FilterFormat;
@@ -23,8 +24,8 @@ pub(crate) struct PictureView<'a> {
 
 impl<'a> Model for PictureView<'a> {
     ghost use Rattle.std.specs.Prelude.{◌≤◌, ◌/◌};
-    ghost use Rattle.filter_field.specs.Places.{HasPlaces};
-    ghost use Rattle.filter_field.specs.Units.{HasUnits};
+    ghost use Rattle.picture_filters.specs.Places.{HasPlaces};
+    ghost use Rattle.picture_filters.specs.Units.{HasUnits};
     ghost use Rattle.loop_filters.specs.Formats.{columns_of, rows_of};
     ghost use Rattle.picture_filters.specs.Filtering.{Viewed};
 

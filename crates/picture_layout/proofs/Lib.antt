@@ -1,3 +1,4 @@
 pub mod Places
 pub mod Sizes
 pub mod Powers
+pub mod Blocks

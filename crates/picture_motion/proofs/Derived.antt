@@ -13,7 +13,7 @@ use Rattle.spec_picture_motion.specs.Field.{Motions, beneath_unit, known_beside,
 use Rattle.spec_picture_motion.specs.Slices.{slice_motion}
 use Rattle.spec_slice_data.specs.Segment.{PictureShape}
 use Rattle.picture_motion.specs.Deriving.{derived_over, known_over}
-use Rattle.picture_motion.specs.declared.unit.Unit.{Unit}
+use Rattle.picture_layout.specs.declared.coding_tree_unit.CodingTreeUnit.{CodingTreeUnit}
 
 -- beneath a unit without a collocated picture there is nothing
 none_at : (picture : PictureShape) (address : ℕ) (beneath : Beneath) (i j : ℕ) → beneath i j ≡ None
@@ -27,7 +27,7 @@ none_beneath picture address beneath none = fun_ext (λ i. fun_ext (λ j. none_a
 
 -- what is known once a unit is derived
 pub known_is : (collocated : Motions) (p q : PicturePlan) (s : SegmentPlan) (address : ℕ) (items : List Item)
-    (motions before : Motions) (unit : Unit) (beside : Known) (beneath : Beneath) (last : Known)
+    (motions before : Motions) (unit : CodingTreeUnit) (beside : Known) (beneath : Beneath) (last : Known)
     → q ≡ p → before ≡ motions
     → unit.layout ≡ picture_shape p.sps p.pps → unit.slice ≡ address_of (slice_start p s) → unit.address ≡ address
     → beside ≡ known_beside unit.layout unit.slice unit.address before
@@ -40,7 +40,7 @@ known_is collocated p q s address items motions before unit beside beneath last 
 
 -- and the picture's motion then
 pub laid_is : (collocated : Motions) (p q : PicturePlan) (s : SegmentPlan) (address : ℕ) (items : List Item)
-    (motions before after : Motions) (unit : Unit) (last : Known)
+    (motions before after : Motions) (unit : CodingTreeUnit) (last : Known)
     → q ≡ p → before ≡ motions
     → unit.layout ≡ picture_shape p.sps p.pps → unit.address ≡ address
     → last ≡ known_over collocated p s address items motions

@@ -3,11 +3,12 @@ use Rattle.std.proofs.Common.{◌≡◌, ℕ, ◌*◌, ◌==◌, ◌&&◌, cond,
 use Rattle.std.proofs.Math.Path.{fun_ext}
 use Rattle.std.proofs.lemmas.Bool.Decides.{nat_tests}
 use Rattle.ctu_motion.specs.Held.{Cells, held}
-use Rattle.spec_picture_motion.specs.Field.{Motions, known_beside, unit_places}
+use Rattle.spec_picture_trees.specs.Places.{unit_places}
+use Rattle.spec_picture_motion.specs.Field.{Motions, known_beside}
 use Rattle.picture_motion.specs.Units.{at_border}
-use Rattle.picture_motion.specs.declared.unit.Unit.{Unit}
+use Rattle.picture_layout.specs.declared.coding_tree_unit.CodingTreeUnit.{CodingTreeUnit}
 
-beside_at : (unit : Unit) (motions : Motions) (none above left : Cells) (i j : ℕ) → held none i j ≡ None
+beside_at : (unit : CodingTreeUnit) (motions : Motions) (none above left : Cells) (i j : ℕ) → held none i j ≡ None
     → held above i j
     ≡ cond (j == 0 && nat_le i (2 * unit_places unit.layout)) (at_border unit motions i 0) (held none i j)
     → held left i j
@@ -16,7 +17,8 @@ beside_at : (unit : Unit) (motions : Motions) (none above left : Cells) (i j : �
 unfolding known_beside
 beside_at unit motions none above left i j n a l = grind (arith, nat_tests)
 
-pub gathered : (unit : Unit) (motions : Motions) (none above left : Cells) → ((i j : ℕ) → held none i j ≡ None)
+pub gathered : (unit : CodingTreeUnit) (motions : Motions) (none above left : Cells)
+    → ((i j : ℕ) → held none i j ≡ None)
     → ((i j : ℕ)
     → held above i j
     ≡ cond (j == 0 && nat_le i (2 * unit_places unit.layout)) (at_border unit motions i 0) (held none i j))

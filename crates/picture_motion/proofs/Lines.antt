@@ -1,20 +1,17 @@
 -- The motion of a unit, laid row after row.
-use Rattle.std.proofs.Common.{◌≡◌, ℕ, ◌+◌, ◌-◌, ◌&&◌, cond, min, nat_le, nat_lt, arith}
+use Rattle.std.proofs.Common.{◌≡◌, ℕ, ◌+◌, ◌-◌, ◌&&◌, cond, nat_le, nat_lt, arith}
 use Rattle.std.proofs.Math.Path.{fun_ext}
 use Rattle.std.proofs.lemmas.Bool.Decides.{nat_tests}
 use Rattle.spec_motion.specs.declared.slice_motion.SliceMotion.{SliceMotion}
 use Rattle.spec_motion.specs.Vectors.{Known}
-use Rattle.spec_picture_motion.specs.Field.{Motions, pointing_motion, unit_laid, unit_places}
-use Rattle.picture_motion.specs.Units.{IsBlock}
-use Rattle.picture_motion.specs.declared.unit.Unit.{Unit}
-use Rattle.picture_motion.specs.declared.unit_lines.Block.{Block}
+use Rattle.spec_picture_motion.specs.Field.{Motions, pointing_motion, unit_laid}
+use Rattle.picture_layout.proofs.Blocks.{of_block}
+use Rattle.picture_layout.specs.Blocks.{IsBlock}
+use Rattle.picture_layout.specs.declared.coding_tree_unit.CodingTreeUnit.{CodingTreeUnit}
+use Rattle.picture_layout.specs.declared.block.PlaceBlock.{PlaceBlock}
 
--- so many places from one on, as far as there are any
-within : (n whole x i count : ℕ) → count ≡ min n (whole - x)
-    → (nat_le x i && nat_lt i (x + count)) ≡ ((nat_le x i && nat_lt i (x + n)) && nat_lt i whole)
-within n whole x i count e = grind (arith, nat_tests)
-
-laid_at : (unit : Unit) (block : Block) (slice : SliceMotion) (known : Known) (old new : Motions) (i j : ℕ)
+laid_at : (unit : CodingTreeUnit) (block : PlaceBlock) (slice : SliceMotion) (known : Known) (old new : Motions)
+    (i j : ℕ)
     → IsBlock unit block
     → new i j
     ≡ cond
@@ -23,13 +20,12 @@ laid_at : (unit : Unit) (block : Block) (slice : SliceMotion) (known : Known) (o
     → new i j ≡ unit_laid unit.layout unit.address slice known old i j
 unfolding unit_laid
 laid_at unit block slice known old new i j is e =
-    let columns = within (unit_places unit.layout) unit.layout.across block.x i block.columns is.columns in
-    let rows = within (unit_places unit.layout) unit.layout.down block.y j block.rows is.rows in
+    let places = of_block unit block i j is in
     let x = is.x in
     let y = is.y in
     grind (arith, nat_tests)
 
-pub laid_rows : (unit : Unit) (block : Block) (slice : SliceMotion) (known : Known) (old new : Motions)
+pub laid_rows : (unit : CodingTreeUnit) (block : PlaceBlock) (slice : SliceMotion) (known : Known) (old new : Motions)
     → IsBlock unit block
     → ((i j : ℕ)
     → new i j

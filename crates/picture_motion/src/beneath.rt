@@ -5,14 +5,14 @@ ghost use Rattle.ctu_motion.specs.Held.{held, held_beneath};
 ghost use Rattle.picture_buffer.specs.Motion.{motions_of};
 ghost use Rattle.spec_picture_motion.specs.Field.{beneath_unit, collocated_of, collocated_vector};
 
-use crate::unit::Unit;
 use ctu_motion::UnitMotion;
 use picture_buffer::{MotionField, PlaceMotion, PlaceVector};
+use picture_layout::CodingTreeUnit;
 use spec_motion::{Collocated, CollocatedVector};
 
 /// What the collocated picture has at the blocks of 4x4 places from a unit's first one on becomes known, where
 /// nothing of it was.
-pub fn gather_beneath(unit: &Unit, collocated: &MotionField, motion: &mut UnitMotion)
+pub fn gather_beneath(unit: &CodingTreeUnit, collocated: &MotionField, motion: &mut UnitMotion)
     ensures places { held motion.new ≡ held motion.old }
     ensures beneath { ((i j : ℕ) → held_beneath motion.old i j ≡ None)
         → held_beneath motion.new ≡ beneath_unit unit.now.layout unit.now.address (motions_of collocated.now) }
@@ -23,7 +23,7 @@ pub fn gather_beneath(unit: &Unit, collocated: &MotionField, motion: &mut UnitMo
 }
 
 /// A row of them.
-fn gather_row(unit: &Unit, collocated: &MotionField, row: usize, motion: &mut UnitMotion)
+fn gather_row(unit: &CodingTreeUnit, collocated: &MotionField, row: usize, motion: &mut UnitMotion)
     requires { row < 4 }
     ensures places { held motion.new ≡ held motion.old }
     ensures beneath { (i j : ℕ) → held_beneath motion.new i j
@@ -38,7 +38,12 @@ fn gather_row(unit: &Unit, collocated: &MotionField, row: usize, motion: &mut Un
 
 /// What the collocated picture has at a block.
 #[tactic(auto, unfolding(spec_picture_motion::specs::Field::beneath_unit))]
-fn beneath(unit: &Unit, collocated: &MotionField, column: usize, row: usize) -> Option<Collocated>
+fn beneath(
+    unit: &CodingTreeUnit,
+    collocated: &MotionField,
+    column: usize,
+    row: usize,
+) -> Option<Collocated>
     requires column { column < 5 }
     requires row { row < 4 }
     ensures { result ≡ beneath_unit unit.now.layout unit.now.address (motions_of collocated.now) column row }

@@ -5,15 +5,16 @@ ghost use Rattle.std.specs.Prelude.{if◌then◌else◌};
 ghost use Rattle.ctu_motion.specs.Held.{held, held_beneath};
 ghost use Rattle.picture_buffer.specs.Motion.{HasPlaces, motions_of};
 ghost use Rattle.picture_motion.specs.Units.{at_border};
-ghost use Rattle.spec_picture_motion.specs.Field.{known_beside, motion_beside, motion_of, unit_places, vector_of};
+ghost use Rattle.spec_picture_trees.specs.Places.{unit_places};
+ghost use Rattle.spec_picture_motion.specs.Field.{known_beside, motion_beside, motion_of, vector_of};
 
-use crate::unit::Unit;
 use ctu_motion::UnitMotion;
 use picture_buffer::{MotionField, PlaceMotion, PlaceVector};
+use picture_layout::CodingTreeUnit;
 use spec_motion::{Motion, Vector};
 
 /// What is known beside a unit becomes known, and nothing else is.
-pub fn gather_beside(unit: &Unit, field: &MotionField, motion: &mut UnitMotion)
+pub fn gather_beside(unit: &CodingTreeUnit, field: &MotionField, motion: &mut UnitMotion)
     requires { HasPlaces field.now unit.now.layout.across unit.now.layout.down }
     ensures places { held motion.new
         ≡ known_beside unit.now.layout unit.now.slice unit.now.address (motions_of field.now) }
@@ -25,7 +26,7 @@ pub fn gather_beside(unit: &Unit, field: &MotionField, motion: &mut UnitMotion)
 }
 
 /// The row above, as far as the end of the unit behind it.
-fn gather_above(unit: &Unit, field: &MotionField, motion: &mut UnitMotion)
+fn gather_above(unit: &CodingTreeUnit, field: &MotionField, motion: &mut UnitMotion)
     requires { HasPlaces field.now unit.now.layout.across unit.now.layout.down }
     ensures places { (i j : ℕ) → held motion.new i j
         ≡ (if (j == 0) && (nat_le i (2 * unit_places unit.now.layout))
@@ -39,7 +40,7 @@ fn gather_above(unit: &Unit, field: &MotionField, motion: &mut UnitMotion)
 }
 
 /// The column on the left.
-fn gather_left(unit: &Unit, field: &MotionField, motion: &mut UnitMotion)
+fn gather_left(unit: &CodingTreeUnit, field: &MotionField, motion: &mut UnitMotion)
     requires { HasPlaces field.now unit.now.layout.across unit.now.layout.down }
     ensures places { (i j : ℕ) → held motion.new i j
         ≡ (if (i == 0) && ((nat_le 1 j) && (nat_le j (unit_places unit.now.layout)))
@@ -54,7 +55,12 @@ fn gather_left(unit: &Unit, field: &MotionField, motion: &mut UnitMotion)
 
 /// The motion of a place beside a unit, counted from 1 at its first place, if the place is available.
 #[tactic(auto, unfolding(spec_picture_motion::specs::Field::motion_beside))]
-fn motion_beside(unit: &Unit, field: &MotionField, column: usize, row: usize) -> Option<Motion>
+fn motion_beside(
+    unit: &CodingTreeUnit,
+    field: &MotionField,
+    column: usize,
+    row: usize,
+) -> Option<Motion>
     requires sides { HasPlaces field.now unit.now.layout.across unit.now.layout.down }
     requires column { column ≤ 32 }
     requires row { row ≤ 16 }

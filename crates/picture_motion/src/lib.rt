@@ -7,12 +7,10 @@ mod beside;
 mod picture;
 mod pointing;
 mod slice;
-mod unit;
 mod unit_lines;
 
 pub use beneath::gather_beneath;
 pub use beside::gather_beside;
 pub use picture::PictureMotion;
 pub use slice::{collocated_entry, slice_motion};
-pub use unit::Unit;
 pub use unit_lines::lay_unit;

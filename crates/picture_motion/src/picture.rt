@@ -14,13 +14,12 @@ ghost use Rattle.spec_picture_motion.specs.Slices.{slice_motion};
 use crate::beneath::gather_beneath;
 use crate::beside::gather_beside;
 use crate::slice::slice_motion;
-use crate::unit::Unit;
 use crate::unit_lines::lay_unit;
 use ctu_motion::{UnitMotion, derive_motion};
 use ctu_records::Records;
 use motion_candidates::MotionView;
 use picture_buffer::MotionField;
-use picture_layout::{Layout, slice_address};
+use picture_layout::{CodingTreeUnit, Layout, slice_address};
 use plan_types::{PicturePlan, SegmentPlan};
 use spec_motion::Motion;
 use std::alloc::{AllocError, Global};
@@ -117,13 +116,13 @@ impl<'a> PictureMotion<'a> {
     }
 
     /// A unit of a segment.
-    fn unit_of(&self, segment: &SegmentPlan, address: u32) -> Unit
+    fn unit_of(&self, segment: &SegmentPlan, address: u32) -> CodingTreeUnit
         ensures layout { result.layout ≡ picture_shape self.now.plan.sps self.now.plan.pps }
         ensures slice { result.slice ≡ address_of (slice_start self.now.plan segment.now) }
         ensures address { result.address ≡ address }
         ensures sides { HasPlaces self.now.field result.layout.across result.layout.down }
     {
-        Unit {
+        CodingTreeUnit {
             layout: self.layout,
             slice: slice_address(self.plan, segment),
             address,
@@ -131,7 +130,7 @@ impl<'a> PictureMotion<'a> {
     }
 
     /// Derives a unit over what was gathered, and lays its motion.
-    fn derive_gathered(&mut self, unit: &Unit, segment: &SegmentPlan, records: &Records)
+    fn derive_gathered(&mut self, unit: &CodingTreeUnit, segment: &SegmentPlan, records: &Records)
         requires layout { unit.now.layout ≡ picture_shape self.old.plan.sps self.old.plan.pps }
         requires sides { HasPlaces self.old.field unit.now.layout.across unit.now.layout.down }
         ensures plan { self.new.plan ≡ self.old.plan }

@@ -7,9 +7,8 @@ ghost use Rattle.spec_picture_motion.specs.Slices.{is_bi_predictive, is_from_lis
 ghost use Rattle.spec_picture_motion.specs.Slices.{max_candidates, motion_of_slice, order_of, reference_at, references};
 ghost use Rattle.spec_picture_motion.specs.Slices.{slice_motion};
 
-use crate::unit::Unit;
 use header_types::{Lists, Pps, RefEntry};
-use picture_layout::slice_of;
+use picture_layout::{CodingTreeUnit, slice_of};
 use plan_types::{PicturePlan, SegmentPlan};
 use slice_types::{Collocated, InterFields, SliceFields, SliceType};
 use spec_motion::{Reference, SliceMotion};
@@ -23,7 +22,7 @@ const NO_REFERENCE: Reference = Reference {
 
 /// What the motion of a unit depends on, in the slice of a segment.
 #[tactic(auto, unfolding(spec_picture_motion::specs::Slices::motion_of_slice))]
-pub fn slice_motion(unit: &Unit, plan: &PicturePlan, segment: &SegmentPlan) -> SliceMotion
+pub fn slice_motion(unit: &CodingTreeUnit, plan: &PicturePlan, segment: &SegmentPlan) -> SliceMotion
     requires { unit.now.layout ≡ picture_shape plan.now.sps plan.now.pps }
     ensures { result ≡ slice_motion plan.now segment.now unit.now.address }
 {

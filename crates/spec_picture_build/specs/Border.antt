@@ -1,6 +1,6 @@
 -- The samples of a picture, and those of them that are known beside a coding tree unit (6.4.1).
-use Rattle.std.specs.Prelude.{ℕ, ◌+◌, ◌-◌, ◌*◌, ◌/◌, ◌^◌, ◌&&◌, nat_le, nat_lt, Bool, Option, Some, None, if◌then◌else◌}
-use Rattle.block_geometry.specs.CodingTreeBlocks.{is_decoded_before, is_from}
+use Rattle.std.specs.Prelude.{ℕ, ◌+◌, ◌-◌, ◌*◌, ◌^◌, ◌&&◌, nat_le, nat_lt, Bool, Option, Some, None, if◌then◌else◌}
+use Rattle.spec_picture_trees.specs.Places.{may_be_read}
 use Rattle.spec_slice_data.specs.Residual.{samples_of_place}
 use Rattle.spec_slice_data.specs.Segment.{PictureShape, column_of, row_of}
 use Rattle.spec_reconstruction.specs.Known.{Known}
@@ -31,20 +31,15 @@ unit_column picture c address = unit_side picture c * column_of picture address
 abbrev pub unit_line : PictureShape → ℕ → ℕ → ℕ
 unit_line picture c address = unit_side picture c * row_of picture address
 
--- the address of the unit that has a sample
-unfoldable pub unit_of_sample : PictureShape → ℕ → ℕ → ℕ → ℕ
-unit_of_sample picture c x y = picture.width * (y / unit_side picture c) + x / unit_side picture c
-
 -- whether the picture has a sample
 unfoldable pub has_sample : PictureShape → ℕ → ℕ → ℕ → Bool
 has_sample picture c x y = nat_lt c 3 && (nat_lt x (width_of picture c) && nat_lt y (height_of picture c))
 
 -- whether a sample beside the unit at an address, whose slice begins at another, is available for it: the picture has
--- it, and its unit is of the slice and was decoded before (6.4.1)
+-- it, and it may be read (6.4.1)
 unfoldable pub is_available : PictureShape → ℕ → ℕ → ℕ → ℕ → ℕ → Bool
 is_available picture slice address c x y =
-    has_sample picture c x y
-    && (is_from slice (unit_of_sample picture c x y) && is_decoded_before (unit_of_sample picture c x y) address)
+    has_sample picture c x y && may_be_read picture (unit_side picture c) slice address x y
 
 -- a column or a line that is counted from 1 at a unit's first one lies in the picture, as far as its first edge goes
 abbrev pub is_inside : ℕ → ℕ → Bool

@@ -12,13 +12,14 @@ use Rattle.plan_types.specs.Segments.{address_of}
 use Rattle.spec_picture_trees.specs.Shapes.{picture_shape, slice_start}
 use Rattle.spec_picture_motion.specs.Derived.{known_of_unit}
 use Rattle.spec_picture_motion.specs.Derived as motion
-use Rattle.spec_picture_motion.specs.Field.{Motions, first_column, first_row, no_motions}
+use Rattle.spec_picture_trees.specs.Places.{first_column, first_row, unit_at}
+use Rattle.spec_picture_motion.specs.Field.{Motions, no_motions}
 use Rattle.spec_picture_motion.specs.Slices.{slice_motion}
 use Rattle.spec_reconstruction.specs.Inter.{InterUnit}
 use Rattle.spec_reconstruction.specs.Known.{Known}
 use Rattle.spec_reconstruction.specs.Unit.{unit_built}
-use Rattle.spec_picture_build.specs.Border.{Samples, no_samples, has_sample, known_beside, unit_column, unit_line}
-use Rattle.spec_picture_build.specs.Border.{unit_of_sample}
+use Rattle.spec_picture_build.specs.Border.{Samples, has_sample, known_beside, no_samples, unit_column, unit_line}
+use Rattle.spec_picture_build.specs.Border.{unit_side}
 use Rattle.spec_picture_build.specs.Format.{unit_format}
 use Rattle.spec_picture_build.specs.References.{DecodedPicture, motions_of, pictures_of}
 use Rattle.spec_picture_build.specs.Weights.{slice_weighting}
@@ -45,7 +46,7 @@ unit_inter buffer p s unit motions = record {
 
 -- whether a sample is one of the unit at an address
 abbrev pub is_of_unit : PictureShape → ℕ → ℕ → ℕ → ℕ → Bool
-is_of_unit picture address c x y = has_sample picture c x y && unit_of_sample picture c x y == address
+is_of_unit picture address c x y = has_sample picture c x y && unit_at picture (unit_side picture c) x y == address
 
 -- the samples of the unit at an address, by what is known of it, over those of the picture
 unfoldable pub unit_laid : PictureShape → ℕ → Known → Samples → Samples

@@ -20,7 +20,8 @@ use Rattle.spec_deblocking.specs.declared.place.Place.{Place}
 use Rattle.spec_picture_trees.specs.Picture.{TreeUnit}
 use Rattle.plan_types.specs.Segments.{address_of}
 use Rattle.spec_picture_trees.specs.Shapes.{picture_shape, qp_bd_offset, slice_start}
-use Rattle.spec_picture_motion.specs.Field.{Motions, first_column, first_row, has_place, is_of_unit}
+use Rattle.spec_picture_trees.specs.Places.{first_column, first_row, is_of_unit, is_there}
+use Rattle.spec_picture_motion.specs.Field.{Motions}
 use Rattle.spec_sample_adaptive_offset.specs.declared.unit.OffsetUnit.{OffsetUnit}
 use Rattle.spec_slice_data.specs.Segment.{PictureShape, column_of, row_of}
 use Rattle.spec_picture_filters.specs.Data.{FilterData}
@@ -46,13 +47,7 @@ unfoldable pub is_top_filtered : PicturePlan → SegmentPlan → ℕ → Bool
 is_top_filtered p s address =
     nat_le (picture_shape p.sps p.pps).width address && is_reached p s (address - (picture_shape p.sps p.pps).width)
 
--- whether the picture has a place that is counted from 1 at a unit's first place
-abbrev pub is_there : PictureShape → ℕ → ℕ → ℕ → Bool
-is_there picture address column row =
-    (nat_le 1 (first_column picture address + column) && nat_le 1 (first_row picture address + row))
-    && has_place picture (first_column picture address + column - 1) (first_row picture address + row - 1)
-
--- the motion of such a place, and whether it is coded
+-- the motion of a place that is counted from 1 at a unit's first place, and whether it is coded
 unfoldable pub motion_near : PictureShape → ℕ → Motions → ℕ → ℕ → Option PlaceMotion
 motion_near picture address motions column row =
     if is_there picture address column row

@@ -1,8 +1,7 @@
 -- The motion of a picture by place, what of it is known beside a coding tree unit (6.4.1, 6.4.2), and what a later
 -- picture takes of it (8.5.3.2.8). A place is a block of 4x4 luma samples.
-use Rattle.std.specs.Prelude.{ℕ, ◌+◌, ◌-◌, ◌*◌, ◌/◌, ◌^◌, ◌==◌, ◌&&◌, ◌||◌, nat_le, nat_lt, Bool, Option, Some, None}
+use Rattle.std.specs.Prelude.{ℕ, ◌+◌, ◌-◌, ◌*◌, ◌==◌, ◌&&◌, ◌||◌, nat_le, nat_lt, Bool, Option, Some, None}
 use Rattle.std.specs.Prelude.{if◌then◌else◌}
-use Rattle.block_geometry.specs.CodingTreeBlocks.{is_decoded_before, is_from}
 use Rattle.spec_motion.specs.declared.collocation.Collocated.{Collocated}
 use Rattle.spec_motion.specs.declared.collocation.CollocatedVector.{CollocatedVector}
 use Rattle.spec_motion.specs.declared.slice_motion.SliceMotion.{SliceMotion}
@@ -11,7 +10,8 @@ use Rattle.spec_motion.specs.declared.vectors.Vector.{Vector}
 use Rattle.spec_motion.specs.Vectors.{Beneath, Known, reference_in}
 use Rattle.picture_buffer.specs.declared.place_motion.PlaceMotion.{PlaceMotion}
 use Rattle.picture_buffer.specs.declared.place_motion.PlaceVector.{PlaceVector}
-use Rattle.spec_slice_data.specs.Segment.{PictureShape, column_of, row_of}
+use Rattle.spec_picture_trees.specs.Places.{first_column, first_row, is_available, is_of_unit, unit_places}
+use Rattle.spec_slice_data.specs.Segment.{PictureShape}
 
 -- by column and row of places, counted from 0; None outside the picture, where nothing is derived yet, and where a
 -- place is predicted in intra mode
@@ -21,31 +21,6 @@ Motions = ℕ → ℕ → Option PlaceMotion
 -- nothing is derived
 abbrev pub no_motions : Motions
 no_motions x y = None
-
--- a unit's side in places, and the column and the row of the first place of the unit at an address
-abbrev pub unit_places : PictureShape → ℕ
-unit_places picture = 2 ^ picture.size
-
-abbrev pub first_column : PictureShape → ℕ → ℕ
-first_column picture address = unit_places picture * column_of picture address
-
-abbrev pub first_row : PictureShape → ℕ → ℕ
-first_row picture address = unit_places picture * row_of picture address
-
--- the address of the unit that has a place
-unfoldable pub unit_of_place : PictureShape → ℕ → ℕ → ℕ
-unit_of_place picture x y = picture.width * (y / unit_places picture) + x / unit_places picture
-
--- whether the picture has a place
-abbrev pub has_place : PictureShape → ℕ → ℕ → Bool
-has_place picture x y = nat_lt x picture.across && nat_lt y picture.down
-
--- whether a place beside the unit at an address, whose slice begins at another, is available for it: the picture has
--- it, and its unit is of the slice and was decoded before (6.4.1)
-unfoldable pub is_available : PictureShape → ℕ → ℕ → ℕ → ℕ → Bool
-is_available picture slice address x y =
-    has_place picture x y
-    && (is_from slice (unit_of_place picture x y) && is_decoded_before (unit_of_place picture x y) address)
 
 -- without the pictures that the vectors point to
 abbrev pub vector_of : Option PlaceVector → Option Vector
@@ -104,13 +79,6 @@ abbrev pub pointing_motion : SliceMotion → Option Motion → Option PlaceMotio
 pointing_motion slice None = None
 pointing_motion slice (Some motion) =
     Some (record { list_0 = pointing_vector slice 0 motion.list_0; list_1 = pointing_vector slice 1 motion.list_1 })
-
--- whether a place of the picture is one of the unit at an address (6.3.1)
-abbrev pub is_of_unit : PictureShape → ℕ → ℕ → ℕ → Bool
-is_of_unit picture address x y =
-    has_place picture x y
-    && ((nat_le (first_column picture address) x && nat_lt x (first_column picture address + unit_places picture))
-    && (nat_le (first_row picture address) y && nat_lt y (first_row picture address + unit_places picture)))
 
 -- the motion of the unit at an address, by what is known of it, over that of the picture
 unfoldable pub unit_laid : PictureShape → ℕ → SliceMotion → Known → Motions → Motions

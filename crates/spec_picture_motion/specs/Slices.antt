@@ -18,7 +18,7 @@ use Rattle.spec_motion.specs.Vectors.{no_reference}
 use Rattle.spec_reference_pictures.specs.ReferenceLists.{no_reference as no_entry}
 use Rattle.spec_picture_trees.specs.Shapes.{picture_shape, slice_start}
 use Rattle.spec_slice_data.specs.Segment.{PictureShape}
-use Rattle.spec_picture_motion.specs.Field.{first_column, first_row, unit_places}
+use Rattle.spec_picture_trees.specs.Places.{first_column, first_row, unit_places}
 
 -- a picture of a reference picture list
 abbrev pub reference_of : RefEntry → Reference

@@ -1,3 +1,4 @@
 pub mod Shapes
+pub mod Places
 pub mod Picture
 pub mod Units

@@ -5,14 +5,14 @@ use Rattle.picture_build.proofs.beside.gather_component.Goals as goal
 
 pub returns-then-has_left : goal.returns-then-has_left
 returns-then-has_left c = λ none.
-    gathered c.args.unit.now.layout c.args.unit.now.slice c.args.unit.now.address c.part-part.result
-    (samples_of c.args.planes.now) _ _ _ _ c.part-part.ensures.part c.part-part.ensures.room c.part-part.ensures.shape
+    gathered c.args.unit.now.layout c.args.unit.now.slice c.args.unit.now.address c.of_unit-part.result
+    (samples_of c.args.planes.now) _ _ _ _ c.of_unit-part.ensures.part c.of_unit-part.ensures.room c.of_unit-part.ensures.shape
     c.first_above.ensures.value (sym c.if-has_left.true ∙ c.has_left.ensures) c.gather_above.ensures
-    c.gather_left.ensures c.args.c c.part-part.ensures.component none
+    c.gather_left.ensures c.args.c c.of_unit-part.ensures.component none
 
 pub returns-else-has_left : goal.returns-else-has_left
 returns-else-has_left c = λ none.
-    gathered_above c.args.unit.now.layout c.args.unit.now.slice c.args.unit.now.address c.part-part.result
-    (samples_of c.args.planes.now) _ _ _ c.part-part.ensures.part c.part-part.ensures.room c.part-part.ensures.shape
+    gathered_above c.args.unit.now.layout c.args.unit.now.slice c.args.unit.now.address c.of_unit-part.result
+    (samples_of c.args.planes.now) _ _ _ c.of_unit-part.ensures.part c.of_unit-part.ensures.room c.of_unit-part.ensures.shape
     c.first_above.ensures.value (sym c.if-has_left.false ∙ c.has_left.ensures) c.gather_above.ensures c.args.c
-    c.part-part.ensures.component none
+    c.of_unit-part.ensures.component none

@@ -23,7 +23,7 @@ returns c = λ number motions sound known.
     let built : InterUnit → Known =
     λ inter. unit_built c.args.on.now.format.now inter c.args.records.now.items (held c.args.samples.now) in
     let slice : c.slice_motion-slice.result ≡ slice_motion p s c.args.on.now.unit.address =
-    c.slice_motion-slice.ensures ∙ ap (slice_motion p s) c.of_motion.ensures.address in
+    c.slice_motion-slice.ensures in
     let weighting : c.slice_weighting-weighting.result ≡ slice_weighting s.header.slice.inter = search rules in
     c.build_ctu.ensures.value sound
     ∙ ap (λ (b : List HeldPicture). built (inter_unit (motion_held c.unit_motion.result.now) c.slice_motion-slice.result

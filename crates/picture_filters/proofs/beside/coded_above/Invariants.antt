@@ -1,5 +1,5 @@
 use Rattle.std.proofs.Common.{◌≡◌, ℕ, ◌+◌, ◌<◌, false, length, slice_index_or}
-use Rattle.filter_field.specs.Places.{places_of}
+use Rattle.picture_filters.specs.Places.{places_of}
 use Rattle.picture_filters.specs.Filtering.{coded_part}
 use Rattle.spec_picture_filters.specs.Units.{coded_near}
 use Rattle.picture_filters.proofs.beside.coded_above.Given as goal

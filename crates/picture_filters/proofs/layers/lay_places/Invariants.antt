@@ -1,5 +1,5 @@
 use Rattle.std.proofs.Common.{◌≡◌, ℕ, ◌+◌, ◌-◌, ◌&&◌, cond, nat_le, nat_lt}
-use Rattle.filter_field.specs.Places.{HasPlaces, places_of}
+use Rattle.picture_filters.specs.Places.{HasPlaces, places_of}
 use Rattle.picture_filters.specs.Filtering.{filter_place, read_place}
 use Rattle.picture_filters.proofs.layers.lay_places.Given as goal
 

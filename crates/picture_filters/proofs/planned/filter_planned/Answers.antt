@@ -1,6 +1,6 @@
 use Rattle.std.proofs.Common.{◌-◌, ◌/◌, ◌^◌, ◌<◌, ◌≤◌, subst, sym, ◌∙◌}
-use Rattle.filter_field.specs.Places.{HasPlaces}
-use Rattle.filter_field.specs.Units.{HasUnits}
+use Rattle.picture_filters.specs.Places.{HasPlaces}
+use Rattle.picture_filters.specs.Units.{HasUnits}
 use Rattle.loop_filters.specs.Scratch.{HasRoom}
 use Rattle.picture_buffer.specs.Planes.{HasSides, samples_of}
 use Rattle.spec_loop_filters.specs.declared.format.FilterFormat.{FilterFormat}

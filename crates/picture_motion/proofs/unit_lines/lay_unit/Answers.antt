@@ -6,5 +6,5 @@ use Rattle.picture_motion.proofs.unit_lines.lay_unit.Goals as goal
 
 pub returns-clause-value : goal.returns-clause-value
 returns-clause-value c =
-    laid_rows c.args.unit.now c.block_of-block.result c.args.slice.now (held c.args.motion.now)
-    (motions_of c.args.field.now) (motions_of c.loop-row.field) c.block_of-block.ensures.block (search rules)
+    laid_rows c.args.unit.now c.places-block.result c.args.slice.now (held c.args.motion.now)
+    (motions_of c.args.field.now) (motions_of c.loop-row.field) c.places-block.ensures.block (search rules)

@@ -8,7 +8,7 @@ use Rattle.picture_trees.specs.Given.{tree_unit}
 use Rattle.spec_picture_trees.specs.Picture.{TreeUnit}
 use Rattle.spec_picture_trees.specs.Shapes.{picture_shape}
 use Rattle.spec_picture_filters.specs.Filtered.{added_in}
-use Rattle.spec_picture_motion.specs.Field.{first_row}
+use Rattle.spec_picture_trees.specs.Places.{first_row}
 use Rattle.spec_picture_build.specs.Built.{unit_added}
 use Rattle.spec_picture_build.specs.Format.{unit_format}
 use Rattle.spec_picture_build.specs.References.{motions_of as motions_at}

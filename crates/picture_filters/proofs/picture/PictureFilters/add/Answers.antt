@@ -1,7 +1,7 @@
 use Rattle.std.proofs.Common.{rules, ◌≡◌, ◌∙◌, subst, sym}
 use Rattle.ctu_records.specs.declared.offset.Sao.{Sao}
-use Rattle.filter_field.specs.Places.{places_of}
-use Rattle.filter_field.specs.Units.{units_of}
+use Rattle.picture_filters.specs.Places.{places_of}
+use Rattle.picture_filters.specs.Units.{units_of}
 use Rattle.slice_types.specs.declared.slice.SliceDeblocking.{SliceDeblocking}
 use Rattle.picture_buffer.specs.Motion.{motions_of}
 use Rattle.spec_picture_filters.specs.Units.{read_added, units_laid}

@@ -1,6 +1,6 @@
 use Rattle.std.proofs.Common.{subst}
-use Rattle.filter_field.specs.Places.{HasPlaces}
-use Rattle.filter_field.specs.Units.{HasUnits}
+use Rattle.picture_filters.specs.Places.{HasPlaces}
+use Rattle.picture_filters.specs.Units.{HasUnits}
 use Rattle.header_types.specs.SequenceParameterSets.{height_in_ctbs}
 use Rattle.spec_picture_trees.specs.Shapes.{picture_shape}
 use Rattle.spec_slice_data.specs.Segment.{PictureShape}

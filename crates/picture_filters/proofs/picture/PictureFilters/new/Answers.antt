@@ -1,5 +1,5 @@
-use Rattle.filter_field.specs.Places.{places_of}
-use Rattle.filter_field.specs.Units.{units_of}
+use Rattle.picture_filters.specs.Places.{places_of}
+use Rattle.picture_filters.specs.Units.{units_of}
 use Rattle.picture_filters.proofs.Gathered.{nothing}
 use Rattle.picture_filters.proofs.picture.PictureFilters.new.Goals as goal
 

@@ -1,4 +1,0 @@
-pub mod Grids
-pub mod Kept
-pub mod Places
-pub mod Units
