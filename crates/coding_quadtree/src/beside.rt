@@ -28,10 +28,8 @@ fn side_where<V: Neighbours>(view: &mut V, there: bool, x: u32, y: u32) -> Side
     ensures value { result ≡ (if there then V.side_at view.old x y else no_side) }
     ensures sides { V.side_at view.new ≡ V.side_at view.old }
     ensures offsets { V.sao_at view.new ≡ V.sao_at view.old }
-    ensures samples { V.sample_at view.new ≡ V.sample_at view.old }
     ensures covers { V.covers view.new ≡ V.covers view.old }
     ensures covers_units { V.covers_unit view.new ≡ V.covers_unit view.old }
-    ensures covers_samples { V.covers_sample view.new ≡ V.covers_sample view.old }
 {
     if there { view.side(x, y) } else { NO_SIDE }
 }
@@ -43,10 +41,8 @@ pub fn column<V: Neighbours>(view: &mut V, x: u32, y: u32, count: u32) -> [Side;
     ensures value { result ≡ side count (λ k. V.side_at view.old x (y + 4 * k)) }
     ensures sides { V.side_at view.new ≡ V.side_at view.old }
     ensures offsets { V.sao_at view.new ≡ V.sao_at view.old }
-    ensures samples { V.sample_at view.new ≡ V.sample_at view.old }
     ensures covers { V.covers view.new ≡ V.covers view.old }
     ensures covers_units { V.covers_unit view.new ≡ V.covers_unit view.old }
-    ensures covers_samples { V.covers_sample view.new ≡ V.covers_sample view.old }
 {
     let mut sides = [NO_SIDE; 16];
     for k in 0..16u32 {
@@ -62,10 +58,8 @@ pub fn row<V: Neighbours>(view: &mut V, x: u32, y: u32, count: u32) -> [Side; 16
     ensures value { result ≡ side count (λ k. V.side_at view.old (x + 4 * k) y) }
     ensures sides { V.side_at view.new ≡ V.side_at view.old }
     ensures offsets { V.sao_at view.new ≡ V.sao_at view.old }
-    ensures samples { V.sample_at view.new ≡ V.sample_at view.old }
     ensures covers { V.covers view.new ≡ V.covers view.old }
     ensures covers_units { V.covers_unit view.new ≡ V.covers_unit view.old }
-    ensures covers_samples { V.covers_sample view.new ≡ V.covers_sample view.old }
 {
     let mut sides = [NO_SIDE; 16];
     for k in 0..16u32 {
@@ -80,10 +74,8 @@ pub fn sao_where<V: Neighbours>(view: &mut V, there: bool, ctu: u32) -> Sao
     ensures value { result ≡ sao_where there (V.sao_at view.old ctu) }
     ensures sides { V.side_at view.new ≡ V.side_at view.old }
     ensures offsets { V.sao_at view.new ≡ V.sao_at view.old }
-    ensures samples { V.sample_at view.new ≡ V.sample_at view.old }
     ensures covers { V.covers view.new ≡ V.covers view.old }
     ensures covers_units { V.covers_unit view.new ≡ V.covers_unit view.old }
-    ensures covers_samples { V.covers_sample view.new ≡ V.covers_sample view.old }
 {
     if there { view.sao(ctu) } else { NO_SAO }
 }

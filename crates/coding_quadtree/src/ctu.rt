@@ -50,10 +50,8 @@ fn begin_ctu<V: Neighbours>(
     ensures empty { records.new.items ≡ [] }
     ensures sides { V.side_at view.new ≡ V.side_at view.old }
     ensures offsets { V.sao_at view.new ≡ V.sao_at view.old }
-    ensures samples { V.sample_at view.new ≡ V.sample_at view.old }
     ensures covers { V.covers view.new ≡ V.covers view.old }
     ensures covers_units { V.covers_unit view.new ≡ V.covers_unit view.old }
-    ensures covers_samples { V.covers_sample view.new ≡ V.covers_sample view.old }
 {
     let n = side(place.size);
     let on_left = available(syntax.has_left, syntax.lower, n);
@@ -119,10 +117,8 @@ pub fn read_ctu<V: Neighbours>(
     ensures live { IfOk result (λ follows. follows ≡ end.More → IsLive reader.new.interval) }
     ensures sides { V.side_at view.new ≡ V.side_at view.old }
     ensures offsets { V.sao_at view.new ≡ V.sao_at view.old }
-    ensures samples { V.sample_at view.new ≡ V.sample_at view.old }
     ensures covers { V.covers view.new ≡ V.covers view.old }
     ensures covers_units { V.covers_unit view.new ≡ V.covers_unit view.old }
-    ensures covers_samples { V.covers_sample view.new ≡ V.covers_sample view.old }
 {
     let left = sao_where(view, syntax.has_left, place.address.saturating_sub(1));
     let above = sao_where(

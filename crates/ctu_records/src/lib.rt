@@ -13,7 +13,7 @@ mod side;
 pub use item::{
     CodedBlock, CodingPlace, CodingUnit, Item, LumaMode, QpDelta, Square, TransformUnit,
 };
-pub use neighbours::{Neighbours, Picture};
+pub use neighbours::Neighbours;
 pub use offset::{ComponentOffset, Sao};
 pub use prediction::{
     MotionSyntax, Mv, PartMode, PredictionUnit, Rectangle, VectorSyntax, part_block,

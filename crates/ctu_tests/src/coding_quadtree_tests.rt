@@ -7,8 +7,8 @@ use cabac_contexts::{BinReader, Contexts};
 use cabac_engine::Interval;
 use coding_quadtree::{UnitPlace, read_ctu};
 use ctu_records::{
-    ComponentOffset, Item, MotionSyntax, Mv, Neighbours, PartMode, Picture, PredictionUnit,
-    Records, Sao, Side, Square, VectorSyntax,
+    ComponentOffset, Item, MotionSyntax, Mv, Neighbours, PartMode, PredictionUnit, Records, Sao,
+    Side, Square, VectorSyntax,
 };
 use hv_base::{Breach, FaultKind};
 use residual_syntax::Levels;
@@ -19,7 +19,7 @@ use std::alloc::Global;
 #[derive(Drop)]
 struct NoUnits;
 
-impl Picture for NoUnits {
+impl Neighbours for NoUnits {
     ghost use Rattle.std.specs.Prelude.{true};
     ghost use Rattle.ctu_records.specs.Tree.{no_side};
     ghost use Rattle.spec_slice_data.specs.Offset.{no_sao};
@@ -28,16 +28,10 @@ impl Picture for NoUnits {
 
     ghost sao_at = { λ v ctu. no_sao };
 
-    ghost sample_at = { λ v c x y. 0 };
-
     ghost covers = { λ v x y. true };
 
     ghost covers_unit = { λ v ctu. true };
 
-    ghost covers_sample = { λ v c x y. true };
-}
-
-impl Neighbours for NoUnits {
     fn side(&mut self, _x: u32, _y: u32) -> Side {
         Side {
             depth: 0,
@@ -54,10 +48,6 @@ impl Neighbours for NoUnits {
             cb: ComponentOffset::Off,
             cr: ComponentOffset::Off,
         }
-    }
-
-    fn sample(&mut self, _c: u8, _x: u32, _y: u32) -> u16 {
-        0
     }
 }
 

@@ -8,7 +8,7 @@ mod row_error;
 mod run_row;
 mod tally;
 
-use crate::plan_row::plan_tests;
+use crate::plan_row::plan_rows;
 use crate::row_error::RowError;
 use crate::run_row::run_rows;
 use crate::tally::Tally;

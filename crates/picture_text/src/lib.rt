@@ -1,6 +1,6 @@
-//! Planned pictures as text: a line each in decoding order or in output order, their slice segment headers, their coding
-//! trees and motion, the samples of those of I slices by rows, and what is planned of one (H.265 7.3.8, 8.3, 8.5.3.2,
-//! 8.7, C.5.2).
+//! Planned pictures as text: a line each in decoding order or in output order, their slice segment headers, their
+//! coding trees and motion, the samples of those of I slices by rows, and what is planned of one (H.265 7.3.8, 8.3,
+//! 8.5.3.2, 8.7, C.5.2).
 #![tactic(auto)]
 
 mod coded_picture;

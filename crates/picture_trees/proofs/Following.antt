@@ -1,12 +1,12 @@
 -- What follows a unit.
-use Rattle.std.proofs.Common.{◌≡◌, ℕ, Bool, true, false, Result, Ok, Err, ap, sym, refl, ◌∙◌, if◌then◌else◌}
+use Rattle.std.proofs.Common.{◌≡◌, Bool, true, false, Result, Ok, Err, ap, sym, refl, ◌∙◌, if◌then◌else◌}
 use Rattle.std.specs.Bool.{beq}
 use Rattle.hv_base.specs.declared.breach.Breach.{Breach}
 use Rattle.hv_base.specs.declared.breach.Breach.TheVariants as breach
 use Rattle.hv_base.specs.declared.fault.FaultKind.TheVariants as rule
 use Rattle.ctu_records.specs.declared.offset.Sao.{Sao}
 use Rattle.ctu_records.specs.Tree.{Ctu}
-use Rattle.spec_cabac.specs.Bins.{Bin, BinValue, State, Tree, bin_at, read, Terminate}
+use Rattle.spec_cabac.specs.Bins.{State, bin_at, read, Terminate}
 use Rattle.spec_formats.specs.Format.{bind, give, wanted, when◌then◌else◌, ◌>>=◌}
 use Rattle.spec_slice_data.specs.declared.syntax.CtuSyntax.{CtuSyntax}
 use Rattle.spec_slice_data.specs.declared.syntax.End.{End}

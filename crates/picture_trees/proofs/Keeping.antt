@@ -1,6 +1,6 @@
 -- What is kept of the units before one is what the next unit is read by.
 use Rattle.std.proofs.Common.{◌≡◌, ◌≢◌, ℕ, suc, ◌+◌, ◌-◌, ◌*◌, ◌/◌, ◌%◌, ◌^◌, ◌<◌, ◌≤◌, ◌&&◌, Bool, true, false, List}
-use Rattle.std.proofs.Common.{[], ◌∷◌, ◌++◌, length, get_or, slice_index_or, slice_set, refl, ap, sym, ◌∙◌}
+use Rattle.std.proofs.Common.{[], ◌∷◌, ◌++◌, length, get_or, slice_set, refl, ap, sym, ◌∙◌}
 use Rattle.std.proofs.Common.{if◌then◌else◌, nat_eq, nat_lt, nat_le, subst, zero, length-append, Result, arith}
 use Rattle.std.proofs.lemmas.Bool.Decides.{nat_tests}
 use Rattle.std.proofs.lemmas.List.{get_or-set_same, get_or-set_other, get_or_append_left, length-set}
@@ -8,13 +8,13 @@ use Rattle.std.proofs.lemmas.Nat.{le-div}
 use Rattle.std.proofs.Math.Nat.{zero-mod, one-le-pow, mod-lt, mul-le-mul_left}
 use Rattle.std.proofs.Math.Seq.{get_or-append_seam}
 use Rattle.ctu_records.specs.declared.side.Side.{Side}
-use Rattle.ctu_records.specs.Tree.{Ctu, no_side, side}
+use Rattle.ctu_records.specs.Tree.{Ctu, no_side}
 use Rattle.spec_slice_data.specs.declared.syntax.CtuSyntax.{CtuSyntax}
 use Rattle.spec_slice_data.specs.Segment.{PictureShape, SegmentShape, Between, begins_row, column_of, has_above}
 use Rattle.spec_slice_data.specs.Segment.{has_left, is_last, no_group, nothing_read, read_unit, row_of, side_of}
-use Rattle.spec_slice_data.specs.Segment.{stored_behind, syntax_at, unit_of}
+use Rattle.spec_slice_data.specs.Segment.{stored_behind, syntax_at}
 use Rattle.coding_quadtree.specs.declared.unit_place.UnitPlace.{UnitPlace}
-use Rattle.coding_quadtree.specs.Beside.{available, on_left, on_top}
+use Rattle.coding_quadtree.specs.Beside.{available}
 use Rattle.coding_quadtree.specs.Judged.{Follows, over_view}
 use Rattle.coding_quadtree.specs.Next.{IsNext, StepsTo, next_between}
 use Rattle.coding_quadtree.proofs.Steps.{next_step}
@@ -26,7 +26,7 @@ use Rattle.hv_base.specs.declared.breach.Breach.{Breach}
 use Rattle.picture_trees.specs.declared.units.Reading.{Reading}
 use Rattle.picture_trees.specs.declared.beside.Column.{Column}
 use Rattle.picture_trees.specs.Beside.{UnitsBeside, above_at, behind, bottom_of, left_at, no_column, offset_at}
-use Rattle.picture_trees.specs.Beside.{right_of, seen_at}
+use Rattle.picture_trees.specs.Beside.{seen_at}
 use Rattle.picture_trees.specs.Reading.{IsKept, between_of, unit_in}
 use Rattle.picture_layout.proofs.Powers.{few_places}
 use Rattle.picture_trees.proofs.Columns.{above_column, above_place, above_within, left_place, other_column}

@@ -1,5 +1,5 @@
 -- The units of a segment, and the segments of a picture, one after the other.
-use Rattle.std.proofs.Common.{◌≡◌, ℕ, zero, suc, ◌+◌, ◌-◌, ◌<◌, ◌≤◌, List, [], ◌∷◌, ◌++◌, length, get_or, drop, Result}
+use Rattle.std.proofs.Common.{◌≡◌, ℕ, suc, ◌+◌, ◌-◌, ◌<◌, ◌≤◌, List, [], ◌∷◌, ◌++◌, length, get_or, drop, Result}
 use Rattle.std.proofs.Common.{Ok, Err, refl, ap, sym, subst, ◌∙◌, arith}
 use Rattle.std.proofs.lemmas.List.{drop_all}
 use Rattle.std.proofs.Math.Seq.{get_or-append_seam, drop-cons}
@@ -8,16 +8,15 @@ use Rattle.ctu_records.specs.Tree.{Ctu}
 use Rattle.header_types.specs.SequenceParameterSets.{size_in_ctbs}
 use Rattle.plan_types.specs.declared.segment_plan.SegmentPlan.{SegmentPlan}
 use Rattle.plan_types.specs.declared.picture_plan.PicturePlan.{PicturePlan}
-use Rattle.block_geometry.specs.CodingTreeBlocks.{ctb_scan}
-use Rattle.spec_slice_data.specs.Segment.{PictureShape, Between, no_group, nothing_read, unit_of, unit_step}
+use Rattle.spec_slice_data.specs.Segment.{PictureShape, Between, no_group, nothing_read, unit_step}
 use Rattle.spec_picture_trees.specs.Shapes.{end_of, picture_shape}
-use Rattle.spec_picture_trees.specs.Picture.{TreeUnit, Progress, Halt, SegmentAt, and_segments, segment_at, segment_read}
+use Rattle.spec_picture_trees.specs.Picture.{TreeUnit, Progress, Halt, SegmentAt, and_segments, segment_read}
 use Rattle.spec_picture_trees.specs.Picture.{before_picture, picture_read, segments_read, then_units, units_read}
 use Rattle.picture_trees.specs.Given.{AreAll, ReadsPicture, tree_unit}
 use Rattle.picture_trees.specs.declared.trees.ReadError.{ReadError}
 use Rattle.picture_trees.specs.declared.trees.ReadError.TheVariants as errors
 use Rattle.picture_trees.specs.Reading.{IsBehind, IsKept, IsReached, IsWithin, ReadsSegment, between_of, next_segment}
-use Rattle.picture_trees.specs.Reading.{progress_of, unit_in}
+use Rattle.picture_trees.specs.Reading.{progress_of}
 use Rattle.picture_trees.specs.declared.units.Reading.{Reading}
 
 units_none : (at : SegmentAt) (n place : ℕ) (progress : Progress) → n ≡ 0 → units_read at n place progress ≡ Ok progress

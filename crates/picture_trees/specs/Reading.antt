@@ -1,10 +1,10 @@
 -- What stands between two units of a picture while it is read.
-use Rattle.std.specs.Prelude.{◌≡◌, ℕ, ◌+◌, ◌-◌, ◌*◌, ◌%◌, ◌^◌, ◌<◌, ◌≤◌, List, [], ◌∷◌, ◌++◌, length, drop}
-use Rattle.std.specs.Prelude.{slice_index_or, slice_set, Result, Ok, Err, OnOk, true, false}
+use Rattle.std.specs.Prelude.{◌≡◌, ℕ, ◌+◌, ◌-◌, ◌%◌, ◌^◌, ◌<◌, ◌≤◌, List, length, drop}
+use Rattle.std.specs.Prelude.{slice_index_or, Result, Ok, Err, false}
 use Rattle.hv_base.specs.declared.breach.Breach.{Breach}
 use Rattle.ctu_records.specs.Tree.{Ctu}
 use Rattle.spec_cabac.specs.Engine.{IsLive}
-use Rattle.spec_slice_data.specs.Segment.{PictureShape, Between, begins_row, begins_substream, no_group, nothing_read}
+use Rattle.spec_slice_data.specs.Segment.{PictureShape, Between, begins_substream, no_group, nothing_read}
 use Rattle.spec_picture_trees.specs.Picture.{TreeUnit, Progress, Halt, SegmentAt, segment_at, segments_read, units_read}
 use Rattle.spec_picture_trees.specs.Shapes.{picture_shape}
 use Rattle.plan_types.specs.declared.segment_plan.SegmentPlan.{SegmentPlan}

@@ -7,7 +7,7 @@ ghost use Rattle.ctu_records.specs.Tree.{no_side, side};
 ghost use Rattle.spec_slice_data.specs.Segment.{side_of};
 ghost use Rattle.picture_trees.specs.Beside.{above_at, behind, left_at, no_column, offset_at};
 
-use ctu_records::{ComponentOffset, Neighbours, Picture, Records, Sao, Side};
+use ctu_records::{ComponentOffset, Neighbours, Records, Sao, Side};
 use std::alloc::{AllocError, Global};
 use std::marker::Model;
 
@@ -184,7 +184,7 @@ pub(crate) struct View<'b> {
     pub(crate) top: u32,
 }
 
-impl<'b> Picture for View<'b> {
+impl<'b> Neighbours for View<'b> {
     ghost use Rattle.std.specs.Prelude.{true};
     ghost use Rattle.picture_trees.specs.Beside.{offset_at, seen_at};
 
@@ -192,17 +192,11 @@ impl<'b> Picture for View<'b> {
 
     ghost sao_at = { λ v ctu. offset_at v.beside.now ctu };
 
-    ghost sample_at = { λ v c x y. 0 };
-
     /// Each place may be asked; where nothing was read, the answer is one that isn't available.
     ghost covers = { λ v x y. true };
 
     ghost covers_unit = { λ v ctu. true };
 
-    ghost covers_sample = { λ v c x y. true };
-}
-
-impl<'b> Neighbours for View<'b> {
     fn side(&mut self, x: u32, y: u32) -> Side {
         if y < self.top {
             self.beside.above(x)
@@ -213,9 +207,5 @@ impl<'b> Neighbours for View<'b> {
 
     fn sao(&mut self, ctu: u32) -> Sao {
         self.beside.offset(ctu)
-    }
-
-    fn sample(&mut self, _c: u8, _x: u32, _y: u32) -> u16 {
-        0
     }
 }

@@ -2,5 +2,4 @@ pub mod TableRules
 pub mod Renormalization
 pub mod Times
 pub mod Prefix
-pub mod Fixed
 pub mod TablesByColumn

@@ -1,5 +1,5 @@
 -- The motion of prediction units, one after the other (8.5.3.2).
-use Rattle.std.specs.Prelude.{ℕ, ◌+◌, ◌≤◌, ◌^◌, ℤ, ◌+ℤ◌, Option, Some, None, List, fold, if◌then◌else◌}
+use Rattle.std.specs.Prelude.{ℕ, ◌+◌, ◌≤◌, ◌^◌, ℤ, ◌+ℤ◌, Option, Some, None, if◌then◌else◌}
 use Rattle.std.specs.Int.{int_wrap}
 use mir.Syntax.{w16}
 use Rattle.ctu_records.specs.declared.prediction.MotionSyntax.{MotionSyntax}
@@ -54,10 +54,6 @@ motion_over block motion known column row =
 unfoldable pub motion_laid : SliceMotion → Beneath → Known → PredictionUnit → Known
 motion_laid slice beneath known unit =
     motion_over (part_block unit.unit unit.part_mode unit.part) (prediction_motion slice beneath known unit) known
-
--- what is known once prediction units are derived one after the other
-unfoldable pub motions_laid : SliceMotion → Beneath → Known → List PredictionUnit → Known
-motions_laid slice beneath known units = fold (motion_laid slice beneath) known units
 
 -- a part of a coding unit that lies in a coding tree unit of 16 places a side, at most
 pub record IsPlaced (unit : PredictionUnit) : Type 0 where

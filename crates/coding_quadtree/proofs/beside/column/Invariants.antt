@@ -7,11 +7,9 @@ invariant-loop-k g l = record {
   count : length l.sides ≡ 16;
   told : (q : ℕ) → q < l.k
       → get_or l.sides q no_side
-      ≡ (if nat_lt q l.count then g.V.Picture.side_at l.fn.view l.x (l.y + 4 * q) else no_side);
-  sides : g.V.Picture.side_at l.view ≡ g.V.Picture.side_at l.fn.view;
-  offsets : g.V.Picture.sao_at l.view ≡ g.V.Picture.sao_at l.fn.view;
-  samples : g.V.Picture.sample_at l.view ≡ g.V.Picture.sample_at l.fn.view;
-  covers : g.V.Picture.covers l.view ≡ g.V.Picture.covers l.fn.view;
-  covers_units : g.V.Picture.covers_unit l.view ≡ g.V.Picture.covers_unit l.fn.view;
-  covers_samples : g.V.Picture.covers_sample l.view ≡ g.V.Picture.covers_sample l.fn.view;
+      ≡ (if nat_lt q l.count then g.V.Neighbours.side_at l.fn.view l.x (l.y + 4 * q) else no_side);
+  sides : g.V.Neighbours.side_at l.view ≡ g.V.Neighbours.side_at l.fn.view;
+  offsets : g.V.Neighbours.sao_at l.view ≡ g.V.Neighbours.sao_at l.fn.view;
+  covers : g.V.Neighbours.covers l.view ≡ g.V.Neighbours.covers l.fn.view;
+  covers_units : g.V.Neighbours.covers_unit l.view ≡ g.V.Neighbours.covers_unit l.fn.view;
 }

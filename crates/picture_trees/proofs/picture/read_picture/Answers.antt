@@ -1,4 +1,4 @@
-use Rattle.std.proofs.Common.{◌≡◌, ℕ, ◌+◌, ◌<◌, ◌≤◌, [], length, subst, arith}
+use Rattle.std.proofs.Common.{◌+◌, ◌<◌, [], length, subst, arith}
 use Rattle.spec_slice_data.specs.Segment.{PictureShape}
 use Rattle.picture_trees.specs.Reading.{IsKept}
 use Rattle.picture_trees.proofs.Segments.{item_of, kept_for, reached_end, reached_first, reached_last, reached_more}

@@ -1,4 +1,4 @@
-use Rattle.std.proofs.Common.{◌≡◌, ◌≤◌, List}
+use Rattle.std.proofs.Common.{◌≤◌, List}
 use Rattle.header_types.specs.SequenceParameterSets.{size_in_ctbs}
 use Rattle.spec_picture_trees.specs.Picture.{TreeUnit, picture_read}
 use Rattle.picture_trees.specs.Given.{Told}

@@ -1,4 +1,4 @@
-use Rattle.std.proofs.Common.{◌≡◌, arith, rules}
+use Rattle.std.proofs.Common.{arith, rules}
 use Rattle.picture_trees.proofs.Segments.{within_broken, within_first, within_last, within_more}
 use Rattle.picture_trees.proofs.units.Reading.read_segment.Goals as goal
 

@@ -1,4 +1,4 @@
-use Rattle.std.proofs.Common.{◌≡◌, ℕ, ◌+◌, ◌<◌, ◌≤◌, List}
+use Rattle.std.proofs.Common.{◌+◌, ◌<◌, ◌≤◌, List}
 use Rattle.ctu_records.specs.Tree.{Ctu}
 use Rattle.plan_types.specs.declared.picture_plan.PicturePlan.{PicturePlan}
 use Rattle.spec_picture_trees.specs.Picture.{TreeUnit, segment_read}

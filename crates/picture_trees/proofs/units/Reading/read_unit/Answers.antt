@@ -1,4 +1,4 @@
-use Rattle.std.proofs.Common.{◌≡◌, ◌≤◌, ◌++◌, ◌∷◌, [], Ok, Err, ap, sym, ◌∙◌, subst, arith}
+use Rattle.std.proofs.Common.{◌≤◌, Ok, Err, ap, ◌∙◌, subst}
 use Rattle.picture_trees.specs.Reading.{between_of}
 use Rattle.cabac_contexts.specs.Takes.{state_of}
 use Rattle.picture_trees.proofs.Following.{follows_more}
