@@ -8,8 +8,8 @@ use Rattle.spec_inter_prediction.specs.declared.weighting.Weights.{Weights}
 use Rattle.spec_inter_prediction.specs.declared.weighting.Weighting.{Weighting}
 use Rattle.spec_inter_prediction.specs.declared.weighting.Weighting.TheVariants.{Default, Explicit}
 
--- a number in units of 2^-shift, to the nearest whole number. A shift of 0, which shift1 and log2WD are at 14 bits
--- alone, leaves it as it is: nothing is added, since there is no half to round
+-- a number in units of 2^-shift, to the nearest whole number. A shift of 0, which shift1 is and log2WD may be at 14
+-- bits, leaves it as it is: nothing is added, since there is no half to round
 unfoldable pub rounded_if_shifted : ℕ → ℤ → ℤ
 rounded_if_shifted shift v = if shift == 0 then v else rounded shift v
 

@@ -1,5 +1,5 @@
 -- Scaling of transform coefficient levels (8.6.3).
-use Rattle.std.specs.Prelude.{ℕ, ◌+◌, ◌-◌, ◌*◌, ◌/◌, ◌%◌, ◌^◌, ◌≤◌, ℤ, pos, negsuc, ◌+ℤ◌, ◌*ℤ◌, ◌≤ℤ◌, slice_index}
+use Rattle.std.specs.Prelude.{ℕ, ◌+◌, ◌-◌, ◌*◌, ◌/◌, ◌%◌, ◌^◌, ◌≤◌, ℤ, pos, negsuc, ◌*ℤ◌, ◌≤ℤ◌, slice_index}
 use Rattle.spec_arithmetic.specs.Clipping.{clip3}
 use Rattle.spec_arithmetic.specs.Rounding.{rounded}
 use Rattle.spec_transforms.specs.declared.level_scale.TheConstants.{LEVEL_SCALE}

@@ -1,5 +1,5 @@
 -- Residuals from scaled coefficients: the transformation process, and transform skip (8.6.2, 8.6.4).
-use Rattle.std.specs.Prelude.{ℕ, zero, suc, ◌+◌, ◌-◌, ◌*◌, Bool, ℤ, pos, negsuc, ◌+ℤ◌, ◌*ℤ◌, ◌≤ℤ◌, List}
+use Rattle.std.specs.Prelude.{ℕ, ◌+◌, ◌-◌, ◌*◌, Bool, ℤ, pos, negsuc, ◌*ℤ◌, ◌≤ℤ◌, List}
 use Rattle.spec_arithmetic.specs.Rounding.{rounded}
 use Rattle.spec_arithmetic.specs.Sums.{int_sum_below}
 use Rattle.spec_transforms.specs.Matrices.{Matrix, at, entry}
