@@ -15,7 +15,7 @@ use crate::decision::edge_filter;
 use crate::filters::filtered;
 use crate::pass::Pass;
 use crate::thresholds::tc;
-use crate::view::Places;
+use crate::view::PlaceView;
 use crate::window::{read_line, write_line};
 use spec_deblocking::{Filter, Place, Plane};
 
@@ -54,7 +54,7 @@ fn greatest_sample(depth: u32) -> u32
 
 /// A place across and along edges.
 #[inline(always)]
-fn place<V: Places>(view: &V, turned: bool, a: usize, b: usize) -> Place
+fn place<V: PlaceView>(view: &V, turned: bool, a: usize, b: usize) -> Place
     ensures { result ≡ placed turned (V.place_at view.now) a b }
 {
     if turned {
@@ -147,7 +147,7 @@ fn is_off(filter: Filter) -> bool
 
 /// Filters an edge that has a strength at the lines of a place.
 #[inline(always)]
-fn filter_place<V: Places>(
+fn filter_place<V: PlaceView>(
     view: &V,
     pass: &Pass,
     samples: &[u16],
@@ -196,7 +196,7 @@ fn filter_place<V: Places>(
 
 /// Filters an edge at the lines of a place, where there is one.
 #[inline(always)]
-pub fn filter_edge<V: Places>(
+pub fn filter_edge<V: PlaceView>(
     view: &V,
     pass: &Pass,
     samples: &[u16],

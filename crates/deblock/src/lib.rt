@@ -12,4 +12,4 @@ mod view;
 mod window;
 
 pub use row::{Row, horizontal_row, vertical_row};
-pub use view::Places;
+pub use view::PlaceView;

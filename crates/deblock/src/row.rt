@@ -9,7 +9,7 @@ ghost use Rattle.deblock.specs.Rows.{IsRow, ReadsBeside};
 
 use crate::edge::{filter_edge, side};
 use crate::pass::Pass;
-use crate::view::Places;
+use crate::view::PlaceView;
 use crate::window::Window;
 use spec_deblocking::Plane;
 
@@ -35,7 +35,7 @@ pub struct Row {
 }
 
 /// Filters the vertical edges of a row.
-pub fn vertical_row<V: Places>(view: &V, row: &Row, samples: &[u16], out: &mut [u16])
+pub fn vertical_row<V: PlaceView>(view: &V, row: &Row, samples: &[u16], out: &mut [u16])
     requires row { IsRow row.now }
     requires samples { length samples.now ≡ row.now.width * (row.now.end - row.now.first) }
     requires bounded { IsBounded (2 ^ row.now.bit_depth - 1) samples.now }
@@ -58,7 +58,7 @@ pub fn vertical_row<V: Places>(view: &V, row: &Row, samples: &[u16], out: &mut [
 }
 
 /// Filters the horizontal edges of a row, over samples behind the vertical ones.
-pub fn horizontal_row<V: Places>(view: &V, row: &Row, samples: &[u16], out: &mut [u16])
+pub fn horizontal_row<V: PlaceView>(view: &V, row: &Row, samples: &[u16], out: &mut [u16])
     requires row { IsRow row.now }
     requires beside { ReadsBeside row.now }
     requires samples { length samples.now ≡ row.now.width * (row.now.end - row.now.first) }
@@ -121,7 +121,7 @@ fn copy(samples: &[u16], from: usize, out: &mut [u16])
 
 /// Filters the edges of a row in one direction, over a copy of its samples: by code of its own for luma and for chroma.
 #[inline(always)]
-fn filter_row<V: Places>(view: &V, pass: &Pass, samples: &[u16], out: &mut [u16])
+fn filter_row<V: PlaceView>(view: &V, pass: &Pass, samples: &[u16], out: &mut [u16])
     requires pass { IsPass pass.now }
     requires samples { length samples.now ≡ size pass.now.before }
     requires bounded { IsBounded (2 ^ pass.now.bit_depth - 1) samples.now }
@@ -155,7 +155,7 @@ fn filter_row<V: Places>(view: &V, pass: &Pass, samples: &[u16], out: &mut [u16]
 
 /// Filters the edges of a row of luma or chroma.
 #[inline(always)]
-fn filter_plane<V: Places>(view: &V, pass: &Pass, samples: &[u16], out: &mut [u16])
+fn filter_plane<V: PlaceView>(view: &V, pass: &Pass, samples: &[u16], out: &mut [u16])
     requires pass { IsPass pass.now }
     requires samples { length samples.now ≡ size pass.now.before }
     requires bounded { IsBounded (2 ^ pass.now.bit_depth - 1) samples.now }
@@ -177,7 +177,7 @@ fn filter_plane<V: Places>(view: &V, pass: &Pass, samples: &[u16], out: &mut [u1
 
 /// Filters all edges at the lines of a place.
 #[inline(always)]
-fn filter_places<V: Places>(view: &V, pass: &Pass, samples: &[u16], s: usize, out: &mut [u16])
+fn filter_places<V: PlaceView>(view: &V, pass: &Pass, samples: &[u16], s: usize, out: &mut [u16])
     requires pass { IsPass pass.now }
     requires samples { length samples.now ≡ size pass.now.before }
     requires bounded { IsBounded (2 ^ pass.now.bit_depth - 1) samples.now }

@@ -6,7 +6,7 @@ ghost use Rattle.spec_deblocking.specs.declared.place.Place.{Place};
 use spec_deblocking::Place;
 
 /// The places of a picture, each of four columns and four lines of luma samples.
-pub trait Places {
+pub trait PlaceView {
     /// What is known of a place, by its column and line, both in places.
     ghost place_at: { Self → ℕ → ℕ → Place };
 

@@ -7,10 +7,10 @@ ghost use Rattle.spec_deblocking.specs.Planes.{deblocked};
 ghost use Rattle.loop_filters.specs.Formats.{IsPlane};
 
 use crate::component::Component;
-use deblock::{Places, Row, horizontal_row, vertical_row};
+use deblock::{PlaceView, Row, horizontal_row, vertical_row};
 
 /// Filters the vertical edges of a plane, and then its horizontal ones.
-pub fn filter_edges<V: Places>(
+pub fn filter_edges<V: PlaceView>(
     view: &V,
     component: &Component,
     samples: &mut [u16],

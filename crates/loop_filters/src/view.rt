@@ -6,11 +6,11 @@ ghost use Rattle.spec_loop_filters.specs.declared.format.FilterFormat.{FilterFor
 ghost use Rattle.spec_sample_adaptive_offset.specs.declared.unit.OffsetUnit.{OffsetUnit};
 ghost use Rattle.loop_filters.specs.Formats.{columns_of, rows_of};
 
-use deblock::Places;
+use deblock::PlaceView;
 use spec_sample_adaptive_offset::OffsetUnit;
 
 /// The places and the coding tree units of a picture.
-pub trait FilterView: Places {
+pub trait FilterView: PlaceView {
     /// The format of the picture.
     ghost shape: { Self → FilterFormat };
     /// A component of a coding tree unit, by the component and the unit's column and row.

@@ -7,7 +7,7 @@ ghost use Rattle.loop_filters.specs.Formats.{columns_of, rows_of};
 
 use crate::place_field::PlaceField;
 use crate::unit_field::UnitField;
-use deblock::Places;
+use deblock::PlaceView;
 use loop_filters::FilterView;
 use spec_deblocking::Place;
 use spec_loop_filters::FilterFormat;
@@ -58,7 +58,7 @@ impl<'a> PictureView<'a> {
     }
 }
 
-impl<'a> Places for PictureView<'a> {
+impl<'a> PlaceView for PictureView<'a> {
     ghost place_at = { λ v x y. (places_of v.places x y).place };
 
     fn place(&self, x: usize, y: usize) -> Place {

@@ -2,13 +2,13 @@
 
 ghost use Rattle.deblock.specs.Samples.{IsBounded};
 
-use deblock::{Places, Row, vertical_row};
+use deblock::{PlaceView, Row, vertical_row};
 use spec_deblocking::{Place, Plane};
 
 /// Places of QpY 37 without offsets, the edges on whose left have strength 2.
 struct StrongEdges;
 
-impl Places for StrongEdges {
+impl PlaceView for StrongEdges {
     ghost use Rattle.std.specs.Prelude.{pos, false};
 
     ghost place_at = { λ v x y. record {

@@ -52,7 +52,7 @@ pub returns-clause-value : goal.returns-clause-value
 returns-clause-value g c = λ i j h.
     let at = inside_of c.args.pass.now.behind i j h in
     place_laid c.args.pass.now.plane c.args.pass.now.bit_depth
-    (placed c.args.pass.now.behind.turned (g.V.Places.place_at c.args.view.now))
+    (placed c.args.pass.now.behind.turned (g.V.PlaceView.place_at c.args.view.now))
     (seen c.args.pass.now.before c.args.samples.now)
     c.args.e c.args.s i j c.place-p.result c.args.q.now c.edge_filter-filter.result c.greatest_sample.result c.tc.result
     c.first_laid.result c.end_laid.result
@@ -72,7 +72,7 @@ pub returns-then-is_off-clause-value : goal.returns-then-is_off-clause-value
 returns-then-is_off-clause-value g c = λ i j h.
     let at = inside_of c.args.pass.now.behind i j h in
     off_laid c.args.pass.now.plane c.args.pass.now.bit_depth
-    (placed c.args.pass.now.behind.turned (g.V.Places.place_at c.args.view.now))
+    (placed c.args.pass.now.behind.turned (g.V.PlaceView.place_at c.args.view.now))
     (seen c.args.pass.now.before c.args.samples.now)
     c.args.e c.args.s i j c.place-p.result c.args.q.now c.edge_filter-filter.result
     c.args.pass.now.behind.across_first c.args.pass.now.behind.across_end _

@@ -8,7 +8,7 @@ abbrev pub invariant-loop-e : goal.invariant-loop-e
 invariant-loop-e g l = record {
   done : (i j : ℕ) → holds l.pass.behind i j ≡ true
       → seen l.pass.behind l.out i j
-      ≡ partly l.pass.plane l.pass.bit_depth l.pass.side (placed l.pass.behind.turned (g.V.Places.place_at l.view))
+      ≡ partly l.pass.plane l.pass.bit_depth l.pass.side (placed l.pass.behind.turned (g.V.PlaceView.place_at l.view))
       (seen l.pass.before l.samples) l.s l.e i j;
   bounded : IsBounded (2 ^ l.pass.bit_depth - 1) l.fn.out → IsBounded (2 ^ l.pass.bit_depth - 1) l.out;
 }

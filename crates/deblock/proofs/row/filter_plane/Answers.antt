@@ -10,7 +10,7 @@ use Rattle.deblock.proofs.row.filter_plane.Goals as goal
 pub loop-s-init : goal.loop-s-init
 loop-s-init g c = record {
   done = λ i j h. part_none c.args.pass.now.plane c.args.pass.now.bit_depth c.args.pass.now.side
-      (placed c.args.pass.now.behind.turned (g.V.Places.place_at c.args.view.now))
+      (placed c.args.pass.now.behind.turned (g.V.PlaceView.place_at c.args.view.now))
       (seen c.args.pass.now.before c.args.samples.now)
       (c.args.pass.now.behind.along_first / c.side-lines.result) i j c.args.pass.now.behind.along_first _
       c.requires.pass.along_first (ap (λ (n : ℕ). c.args.pass.now.behind.along_first / n) c.side-lines.ensures.value)
@@ -26,7 +26,7 @@ filter_places-requires-clause-along g c =
 pub returns : goal.returns
 returns g c = record {
   value = λ i j h. part_all c.args.pass.now.plane c.args.pass.now.bit_depth c.args.pass.now.side
-      (placed c.args.pass.now.behind.turned (g.V.Places.place_at c.args.view.now))
+      (placed c.args.pass.now.behind.turned (g.V.PlaceView.place_at c.args.view.now))
       (seen c.args.pass.now.before c.args.samples.now)
       c.loop-s.s i j c.args.pass.now.behind.along_end _
       c.requires.pass.along_end (rw c.side-lines.ensures.value at c.loop-s-test.false)

@@ -17,7 +17,7 @@ pub returns-clause-value : goal.returns-clause-value
 returns-clause-value g c = λ x y a b.
     c.lay_offsets.ensures.value x y a b
     ∙ final_is
-    (filters_of c.args.format.now (g.V.Places.place_at c.args.view.now) (g.V.FilterView.unit_at c.args.view.now))
+    (filters_of c.args.format.now (g.V.PlaceView.place_at c.args.view.now) (g.V.FilterView.unit_at c.args.view.now))
     c.args.component.now (samples_of c.args.planes.now)
     c.copy_plane.new.out c.filter_edges.new.samples c.requires.component c.copy_plane.ensures.value
     c.filter_edges.ensures.value x y a b

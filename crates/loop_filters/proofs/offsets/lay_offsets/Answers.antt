@@ -32,13 +32,13 @@ loop-row-preserved g c =
           rows_more c.args.component.now.c c.args.component.now.width c.args.component.now.height
           c.args.component.now.size c.loop-row.row c.min-lines.result c.offset_row.new.out
           (offset_sample (offset_plane
-          (filters_of c.args.format.now (g.V.Places.place_at c.args.view.now) (g.V.FilterView.unit_at c.args.view.now))
+          (filters_of c.args.format.now (g.V.PlaceView.place_at c.args.view.now) (g.V.FilterView.unit_at c.args.view.now))
           c.args.component.now.c)
           (at c.args.component.now.width c.args.deblocked.now))
           (samples_of c.loop-row.planes) (samples_of c.lay_lines.new.planes) c.min-lines.ensures
           (λ i j h l. c.offset_row.ensures i j h l
           ∙ ap (λ f. offset_sample
-          (offset_plane (filters_of f (g.V.Places.place_at c.args.view.now) (g.V.FilterView.unit_at c.args.view.now))
+          (offset_plane (filters_of f (g.V.PlaceView.place_at c.args.view.now) (g.V.FilterView.unit_at c.args.view.now))
           c.args.component.now.c)
           (at c.args.component.now.width c.args.deblocked.now) i (c.args.component.now.size * c.loop-row.row + j))
           c.requires.format)

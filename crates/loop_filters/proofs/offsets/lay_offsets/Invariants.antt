@@ -13,7 +13,7 @@ invariant-loop-row g l = record {
   told : (x y : ℕ) → x < l.component.width → y < l.component.height → y < l.component.size * l.row
       → samples_of l.planes l.component.c x y
       ≡ offset_sample
-      (offset_plane (filters_of l.format (g.V.Places.place_at l.view) (g.V.FilterView.unit_at l.view)) l.component.c)
+      (offset_plane (filters_of l.format (g.V.PlaceView.place_at l.view) (g.V.FilterView.unit_at l.view)) l.component.c)
       (at l.component.width l.deblocked) x y;
   others : (i x y : ℕ) → (i == l.component.c) ≡ false → samples_of l.planes i x y ≡ samples_of l.fn.planes i x y;
 }

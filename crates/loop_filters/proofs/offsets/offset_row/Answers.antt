@@ -100,7 +100,7 @@ returns g c =
     → u < columns_of (g.V.FilterView.shape c.args.view.now) =
     λ u lt. block_is_one c.args.component.now.size u _ c.args.component.now.width k.wide.0 lt in
     c.sao_row.ensures.picture
-    (offset_plane (filters_of (g.V.FilterView.shape c.args.view.now) (g.V.Places.place_at c.args.view.now)
+    (offset_plane (filters_of (g.V.FilterView.shape c.args.view.now) (g.V.PlaceView.place_at c.args.view.now)
     (g.V.FilterView.unit_at c.args.view.now))
     c.args.component.now.c)
     (at c.args.component.now.width c.args.deblocked.now)
@@ -122,7 +122,7 @@ returns g c =
           ∙ sym (c.units-3.ensures.units u (one u lt));
       kept = λ x j h l. kept_among c.args.component.now.plane _ c.args.component.now.place_log2
           c.args.component.now.places c.args.component.now.size c.args.row c.args.component.now.width
-          c.args.component.now.height x j _ _ _ c.kept.result.now (g.V.Places.place_at c.args.view.now) k.plane
+          c.args.component.now.height x j _ _ _ c.kept.result.now (g.V.PlaceView.place_at c.args.view.now) k.plane
           k.place_side k.places k.across k.down k.block c.kept.ensures h l;
       samples = λ x y h l above below. sample_among c.args.component.now.width c.args.component.now.height t
           c.saturating_sub-2.result x y c.args.deblocked.now c.requires.deblocked

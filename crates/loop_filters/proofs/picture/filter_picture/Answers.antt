@@ -20,7 +20,7 @@ loop-c-preserved g c = record {
       c.loop-c.invariant.room;
   told =
       components_more
-      (filters_of c.args.format.now (g.V.Places.place_at c.args.view.now) (g.V.FilterView.unit_at c.args.view.now))
+      (filters_of c.args.format.now (g.V.PlaceView.place_at c.args.view.now) (g.V.FilterView.unit_at c.args.view.now))
       c.component_of-component.result c.loop-c.c
       (samples_of c.args.planes.now) (samples_of c.loop-c.planes) (samples_of c.filter_component.new.planes)
       c.component_of-component.ensures.c c.component_of-component.ensures.component

@@ -10,7 +10,7 @@ invariant-loop-c g l = record {
   sides : HasSides l.planes l.format.width l.format.height;
   room : HasRoom l.scratch l.format.width l.format.height;
   told : (i x y : ℕ) → i < l.c → x < width_of l.format i → y < height_of l.format i → samples_of l.planes i x y
-      ≡ final_samples (filters_of l.format (g.V.Places.place_at l.view) (g.V.FilterView.unit_at l.view))
+      ≡ final_samples (filters_of l.format (g.V.PlaceView.place_at l.view) (g.V.FilterView.unit_at l.view))
       (samples_of l.fn.planes) i x y;
   others : (i x y : ℕ) → l.c ≤ i → samples_of l.planes i x y ≡ samples_of l.fn.planes i x y;
 }
