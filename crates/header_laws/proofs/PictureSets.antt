@@ -57,9 +57,23 @@ filters_are f (across, a, (present, b, (control, control-ok, e))) = rw (← e) (
 
 picture_set_is : (p : PpsFields) → CanBe picture_parameter_set p → IsPps p
 unfolding picture_parameter_set
-picture_set_is p
-    (identity, id-ok, (defaults, defaults-ok, (quantization, qp-ok, (prediction, a,
-    (filters, filters-ok, (listed, b, (lists, lists-are, (modified, d, (merge, f, (extension, g, e)))))))))) =
+picture_set_is p (
+  identity,
+  id-ok,
+  (
+    defaults,
+    defaults-ok,
+    (
+      quantization,
+      qp-ok,
+      (
+        prediction,
+        a,
+        (filters, filters-ok, (listed, b, (lists, lists-are, (modified, d, (merge, f, (extension, g, e)))))),
+      ),
+    ),
+  ),
+) =
     rw (← e) (record {
       identity = identity_is identity id-ok;
       slice_defaults = defaults_are defaults defaults-ok;

@@ -244,9 +244,27 @@ references_are o r is (sets, sets-ok, (long_on, a, (long, long-is, (temporal, b,
 
 sequence_set_is : (s : SpsFields) → CanBe sequence_parameter_set s → IsSps s
 unfolding sequence_parameter_set
-sequence_set_is s
-    (identity, id-ok, (format, format-ok, (order, order-ok, (blocks, blocks-ok, (tools, tools-ok,
-    (references, references-ok, (strong, a, (vui, b, e)))))))) =
+sequence_set_is s (
+  identity,
+  id-ok,
+  (
+    format,
+    format-ok,
+    (
+      order,
+      order-ok,
+      (
+        blocks,
+        blocks-ok,
+        (
+          tools,
+          tools-ok,
+          (references, references-ok, (strong, a, (vui, b, e))),
+        ),
+      ),
+    ),
+  ),
+) =
     let ordered = order_is identity.sps_max_sub_layers_minus1 order order-ok in
     rw (← e) (record {
       identity = identity_is identity id-ok;
