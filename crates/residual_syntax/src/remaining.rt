@@ -9,10 +9,10 @@ ghost use Rattle.spec_cabac.specs.Engine.{IsLive};
 ghost use Rattle.spec_cabac.specs.declared.init_values.TheConstants.{COEFF_ABS_LEVEL_GREATER1_FLAG};
 ghost use Rattle.spec_cabac.specs.declared.init_values.TheConstants.{COEFF_ABS_LEVEL_GREATER2_FLAG};
 ghost use Rattle.spec_residuals.specs.LastPosition.{by_component};
-ghost use Rattle.spec_residuals.specs.Levels.{greater1_flag, greater1_flags, greater2_flag, next_context, sign_hidden};
+ghost use Rattle.spec_residuals.specs.Levels.{first_behind, greater1_flag, greater1_flags, greater2_flag, is_first};
 ghost use Rattle.spec_residuals.specs.Levels.{coeff_abs_level_remaining, suffix_size, front, next_rice, base_level};
 ghost use Rattle.spec_residuals.specs.Levels.{greatest_base, is_negative, signed, level_of, sized_level, level_at};
-ghost use Rattle.spec_residuals.specs.Levels.{levels_from};
+ghost use Rattle.spec_residuals.specs.Levels.{levels_from, next_context, sign_hidden};
 ghost use Rattle.cabac_contexts.specs.Takes.{Leaves, Takes};
 ghost use Rattle.residual_syntax.specs.Judges.{Judges};
 
@@ -41,7 +41,7 @@ pub fn greater1_flags<'a>(
     let mut flags = Greater1Flags {
         flags: [false; 16],
         context: 1,
-        first: 16,
+        first: None,
     };
     let most = count.min(8);
     for j in 0..most {
@@ -68,10 +68,30 @@ fn greater1_flag<'a>(
     let flag = reader.decision(greater1_context(block, set, flags.context))?;
     flags.flags[j as usize] = flag;
     flags.context = next_context(flags.context, flag);
-    if flag && flags.first == 16 {
-        flags.first = j;
-    }
+    flags.first = first_behind(flags.first, flag, j);
     Ok(())
+}
+
+/// Which flag is the first 1, behind flag number `j`.
+#[inline(always)]
+fn first_behind(first: Option<u32>, flag: bool, j: u32) -> Option<u32>
+    ensures { result ≡ first_behind first flag j }
+{
+    match first {
+        None => flag.then_some(j),
+        Some(_) => first,
+    }
+}
+
+/// Whether flag number `j` is the first 1.
+#[inline(always)]
+fn is_first(first: Option<u32>, j: usize) -> bool
+    ensures { result ≡ is_first first j }
+{
+    match first {
+        None => false,
+        Some(first) => j == first as usize,
+    }
 }
 
 /// The context of coeff_abs_level_greater1_flag.
@@ -110,13 +130,13 @@ pub fn greater2_flag<'a>(
     reader: &mut BinReader<'a>,
     block: ResidualBlock,
     set: u32,
-    first: u32,
+    first: Option<u32>,
 ) -> Result<bool, Breach>
     requires live { IsLive reader.old.interval }
     requires set { set ≤ by_component block 3 1 }
     ensures { Takes (λ x. x) result reader.old reader.new (greater2_flag block set first) }
 {
-    if first >= 16 {
+    if first.is_none() {
         return Ok(false);
     }
     reader.decision(greater2_context(block, set))
@@ -282,7 +302,7 @@ fn base_level(signs: Signs, j: usize) -> u64
     ensures small { result ≤ 3 }
 {
     1 + u64::from(signs.greater1.flags[j])
-        + u64::from(signs.greater2 && j == signs.greater1.first as usize)
+        + u64::from(signs.greater2 && is_first(signs.greater1.first, j))
 }
 
 /// The greatest baseLevel of level `j`.
@@ -292,7 +312,7 @@ fn greatest_base(signs: Signs, j: usize) -> u64
 {
     if j >= 8 {
         1
-    } else if j == signs.greater1.first as usize {
+    } else if is_first(signs.greater1.first, j) {
         3
     } else {
         2

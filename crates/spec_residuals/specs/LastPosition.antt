@@ -17,6 +17,7 @@ is_luma block = block.c == 0
 abbrev pub by_component : ResidualBlock → ℕ → ℕ → ℕ
 by_component block luma chroma = if is_luma block then luma else chroma
 
+-- transform_skip_flag, 0 where it isn't coded
 unfoldable pub transform_skip_flag : ResidualBlock → Tree Bool
 transform_skip_flag block =
     when block.skip_enabled && not block.bypass && (block.log2 == 2)
@@ -41,6 +42,7 @@ last_suffix prefix = when nat_lt 3 prefix then fixed (prefix / 2 - 1) else give 
 abbrev pub last_of : ℕ → ℕ → ℕ
 last_of prefix suffix = if nat_lt 3 prefix then 2 ^ (prefix / 2 - 1) * (2 + prefix % 2) + suffix else prefix
 
+-- whether the scan goes down columns, which exchanges the coordinates
 abbrev pub is_vertical : Scan → Bool
 is_vertical Diagonal = false
 is_vertical Horizontal = false

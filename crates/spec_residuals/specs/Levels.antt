@@ -1,7 +1,7 @@
 -- The levels of a sub-block (7.3.8.11, 9.3.3.9, 9.3.4.2.6, 9.3.4.2.7).
 use Rattle.std.specs.Prelude.{ℕ, ◌+◌, ◌-◌, ◌*◌, ◌%◌, ◌^◌, ◌==◌, min, ℤ, pos, neg_ℤ, Bool, true, false, not, ◌&&◌}
 use Rattle.std.specs.Prelude.{nat_lt, nat_le, List, [], ◌∷◌, ◌++◌, length, replicate, slice_index, slice_index_or}
-use Rattle.std.specs.Prelude.{slice_set, if◌then◌else◌}
+use Rattle.std.specs.Prelude.{slice_set, Option, Some, None, is_some, if◌then◌else◌}
 use Rattle.hv_base.specs.declared.breach.Breach.{Breach}
 use Rattle.hv_base.specs.declared.breach.Breach.TheVariants as breach
 use Rattle.hv_base.specs.declared.fault.FaultKind.TheVariants as rule
@@ -34,6 +34,16 @@ abbrev pub next_context : ℕ → Bool → ℕ
 next_context context true = 0
 next_context context false = if context == 0 then 0 else min 3 (context + 1)
 
+-- which flag is the first 1, behind flag number j
+abbrev pub first_behind : Option ℕ → Bool → ℕ → Option ℕ
+first_behind None flag j = if flag then Some j else None
+first_behind (Some first) flag j = Some first
+
+-- whether flag number j is the first 1
+abbrev pub is_first : Option ℕ → ℕ → Bool
+is_first None j = false
+is_first (Some first) j = j == first
+
 -- coeff_abs_level_greater1_flag number j of a sub-block
 abbrev pub greater1_flag : ResidualBlock → ℕ → ℕ → Greater1Flags → Tree Greater1Flags
 greater1_flag block set j g = do
@@ -43,20 +53,21 @@ greater1_flag block set j g = do
   give (record {
     flags = slice_set g.flags j flag;
     context = next_context g.context flag;
-    first = if flag && (g.first == 16) then j else g.first;
+    first = first_behind g.first flag j;
   })
 
+-- before the first flag of a sub-block
 abbrev pub no_flags : Greater1Flags
-no_flags = record { flags = replicate 16 false; context = 1; first = 16 }
+no_flags = record { flags = replicate 16 false; context = 1; first = None }
 
 -- those of the first eight levels of a sub-block of so many
 abbrev pub greater1_flags : ResidualBlock → ℕ → ℕ → Tree Greater1Flags
 greater1_flags block set count = times 0 (min count 8) (greater1_flag block set) no_flags
 
 -- coeff_abs_level_greater2_flag of the first level above 1
-unfoldable pub greater2_flag : ResidualBlock → ℕ → ℕ → Tree Bool
+unfoldable pub greater2_flag : ResidualBlock → ℕ → Option ℕ → Tree Bool
 greater2_flag block set first =
-    when nat_lt first 16
+    when is_some first
     then decision (by_component block COEFF_ABS_LEVEL_GREATER2_FLAG (COEFF_ABS_LEVEL_GREATER2_FLAG + 4) + set)
     else give false
 
@@ -69,6 +80,7 @@ sign_hidden block indices =
 abbrev pub suffix_size : ℕ → ℕ → ℕ
 suffix_size prefix k = if nat_lt 3 prefix then prefix - 3 + k else k
 
+-- what the prefix stands for
 abbrev pub front : ℕ → ℕ
 front prefix = if nat_lt 3 prefix then 2 ^ (prefix - 3) + 2 else prefix
 
@@ -88,15 +100,17 @@ pub record Residual : Type 0 where
   pub transform_skip : Bool
   pub levels : List Level
 
+-- a level more
 abbrev pub with_level : Residual → Level → Residual
 with_level r level = record { transform_skip = r.transform_skip; levels = r.levels ++ level ∷ [] }
 
 -- baseLevel of level j, and its greatest value, at which the level goes on
 abbrev pub base_level : Signs → ℕ → ℕ
-base_level s j = 1 + digit (slice_index_or s.greater1.flags j false) + digit (s.greater2 && (j == s.greater1.first))
+base_level s j = 1 + digit (slice_index_or s.greater1.flags j false) + digit (s.greater2 && is_first s.greater1.first j)
 
+-- the greatest baseLevel of level j
 abbrev pub greatest_base : Signs → ℕ → ℕ
-greatest_base s j = if nat_lt j 8 then (if j == s.greater1.first then 3 else 2) else 1
+greatest_base s j = if nat_lt j 8 then (if is_first s.greater1.first j then 3 else 2) else 1
 
 -- whether level j of so many is negative: a hidden sign is that of an odd sum
 abbrev pub is_negative : Signs → ℕ → ℕ → ℕ → Bool
@@ -105,6 +119,7 @@ is_negative s count j sum =
     then (if j + 1 == count then sum % 2 == 1 else bit_of s.signs (count - 2 - j))
     else bit_of s.signs (count - 1 - j)
 
+-- a size with its sign
 abbrev pub signed : Bool → ℕ → ℤ
 signed true size = neg_ℤ (pos size)
 signed false size = pos size
@@ -132,6 +147,7 @@ level_at block sub indices s j before = do
   more ← when base_level s j == greatest_base s j then coeff_abs_level_remaining before.0.rice else give 0
   sized_level block sub indices s j (base_level s j + more) before
 
+-- before the first level of a sub-block
 abbrev pub first_state : LevelState
 first_state = record { rice = 0; sum = 0 }
 

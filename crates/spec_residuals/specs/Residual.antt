@@ -32,6 +32,7 @@ coded_levels block sub indices before = do
 abbrev pub marked : Progress → SubBlock → Progress
 marked before sub = record { coded = slice_set before.coded (9 * sub.y + sub.x) true; raised = before.raised }
 
+-- a sub-block that is coded: its levels, where it has any
 unfoldable pub coded_sub_block : ResidualBlock → ℕ → ℕ → SubBlock → Progress × Residual → Tree (Progress × Residual)
 coded_sub_block block last position sub before = do
   indices ← coded_indices block sub last position
@@ -44,9 +45,11 @@ sub_block block last position i before = do
   coded ← coded_sub_block_flag block last sub
   when coded then coded_sub_block block last position sub (marked before.0 sub, before.1) else give before
 
+-- before the first sub-block
 abbrev pub no_progress : Progress
 no_progress = record { coded = replicate 81 false; raised = false }
 
+-- before the first level
 abbrev pub no_levels : Bool → Residual
 no_levels transform_skip = record { transform_skip = transform_skip; levels = [] }
 
@@ -62,6 +65,7 @@ levels_behind block place transform_skip =
     sub_blocks block (scan_index (block.log2 - 2) block.scan (place.0 / 4) (place.1 / 4))
     (scan_index 2 block.scan (place.0 % 4) (place.1 % 4)) transform_skip
 
+-- the levels of a block (7.3.8.11)
 unfoldable pub residual_coding : ResidualBlock → Tree Residual
 residual_coding block = do
   transform_skip ← transform_skip_flag block

@@ -50,6 +50,7 @@ neighbour_context true false p = nearness p.1
 neighbour_context false true p = nearness p.0
 neighbour_context true true p = 2
 
+-- whether the scan goes by diagonals
 abbrev pub is_diagonal : Scan → Bool
 is_diagonal Diagonal = true
 is_diagonal Horizontal = false
@@ -71,9 +72,11 @@ sig_ctx block sub p =
     else (if ((sub.x == 0) && (sub.y == 0)) && ((p.0 == 0) && (p.1 == 0)) then 0
     else neighbour_context sub.right sub.below p + size_context block sub)
 
+-- the context of sig_coeff_flag at a place
 abbrev pub sig_context : ResidualBlock → SubBlock → Place → ℕ
 sig_context block sub p = by_component block SIG_COEFF_FLAG (SIG_COEFF_FLAG + 27) + sig_ctx block sub p
 
+-- whether a sub-block has no level
 abbrev pub is_none : List ℕ → Bool
 is_none [] = true
 is_none (x ∷ xs) = false
@@ -85,6 +88,7 @@ sig_coeff_flag block sub flagged n found =
     when flagged && (n == 0) && is_none found then give true
     else decision (sig_context block sub (scan_place 2 block.scan n))
 
+-- the places that have levels, behind one more
 abbrev pub sig_coeff : ResidualBlock → SubBlock → Bool → ℕ → List ℕ → Tree (List ℕ)
 sig_coeff block sub flagged n found = do
   flag ← sig_coeff_flag block sub flagged n found

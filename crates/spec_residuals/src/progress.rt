@@ -31,8 +31,8 @@ pub struct Greater1Flags {
     pub flags: [bool; 16],
     /// greater1Ctx of the next flag, from 0 to 3.
     pub context: u32,
-    /// Which flag is the first 1; 16 where none is.
-    pub first: u32,
+    /// Which flag is the first 1.
+    pub first: Option<u32>,
 }
 
 /// What levels of a sub-block leave to those behind them.
