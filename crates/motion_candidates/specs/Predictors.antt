@@ -9,21 +9,23 @@ use Rattle.spec_motion.specs.declared.vectors.Motion.{Motion}
 use Rattle.spec_motion.specs.declared.vectors.Reference.{Reference}
 use Rattle.spec_motion.specs.declared.vectors.Vector.{Vector}
 use Rattle.spec_motion.specs.VectorPrediction.{if_same_mark, if_same_picture, pointing, reaching}
-use Rattle.spec_motion.specs.Vectors.{in_list, in_other, or_else, reference_in, reference_in_other, zero_mv}
+use Rattle.spec_motion.specs.Vectors.{in_list, or_else, other_list, reference_in, zero_mv}
 
 -- a vector that a search takes for a reference
 abbrev pub taken : Search → SliceMotion → Reference → Reference → Mv → Option Mv
 taken SamePicture slice target reference mv = if_same_picture target reference mv
 taken SameMark slice target reference mv = if_same_mark slice target reference mv
 
--- the vector of a motion that it takes
+-- the vector of a motion in a list that it takes
+abbrev pub taken_in : Search → SliceMotion → ℕ → Reference → Motion → Option Mv
+taken_in search slice list target motion =
+    option_and_then (λ (v : Vector). taken search slice target (reference_in slice list v.ref_idx) v.mv)
+    (in_list list motion)
+
+-- that in list X, or else that in the other one
 abbrev pub of_motion : Search → SliceMotion → ℕ → Reference → Motion → Option Mv
 of_motion search slice list target motion =
-    or_else
-    (option_and_then (λ (v : Vector). taken search slice target (reference_in slice list v.ref_idx) v.mv)
-    (in_list list motion))
-    (option_and_then (λ (v : Vector). taken search slice target (reference_in_other slice list v.ref_idx) v.mv)
-    (in_other list motion))
+    or_else (taken_in search slice list target motion) (taken_in search slice (other_list list) target motion)
 
 -- that of a place
 abbrev pub sought : Search → SliceMotion → ℕ → Reference → Option Motion → Option Mv

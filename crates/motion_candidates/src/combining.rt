@@ -1,4 +1,4 @@
-//! Combined bi-predictive merging candidates (8.5.3.2.3), and zero candidates (8.5.3.2.4).
+//! Combined bi-predictive merging candidates (8.5.3.2.4), and zero candidates (8.5.3.2.5).
 
 ghost use Rattle.std.specs.Prelude.{◌≡◌, ◌≤◌, ◌<◌, ◌+◌, ◌-◌, ◌*◌, IfOk, IfErr, Ok, Err, length, take, filter_map};
 ghost use Rattle.std.specs.Prelude.{slice_index_or, min, nat_lt, if◌then◌else◌};

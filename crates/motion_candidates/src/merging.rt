@@ -1,4 +1,4 @@
-//! Merging (8.5.3.2.1).
+//! Merging (8.5.3.2.2).
 
 ghost use Rattle.std.specs.Prelude.{◌≡◌, ◌≤◌, ◌<◌, ◌+◌, ◌-◌, length, true, slice_index_or, IfOk, IfErr, if◌then◌else◌};
 ghost use Rattle.std.specs.Prelude.{None};

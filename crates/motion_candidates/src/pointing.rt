@@ -1,12 +1,11 @@
 //! Vectors of a place into the picture of a reference, or into one beside it (8.5.3.2.7).
 
-ghost use Rattle.std.specs.Prelude.{◌≡◌, option_and_then};
-ghost use Rattle.spec_motion.specs.declared.vectors.Vector.{Vector};
+ghost use Rattle.std.specs.Prelude.{◌≡◌};
 ghost use Rattle.spec_motion.specs.VectorPrediction.{if_same_mark, if_same_picture};
-ghost use Rattle.spec_motion.specs.Vectors.{in_list, in_other, reference_in, reference_in_other};
-ghost use Rattle.motion_candidates.specs.Predictors.{of_motion, sought, taken};
+ghost use Rattle.spec_motion.specs.Vectors.{in_list, other_list};
+ghost use Rattle.motion_candidates.specs.Predictors.{of_motion, sought, taken, taken_in};
 
-use crate::references::{reference_in, reference_in_other};
+use crate::references::reference_in;
 use crate::sameness::agree;
 use crate::scaling::{difference, scaled};
 use ctu_records::Mv;
@@ -48,25 +47,23 @@ fn of_motion(
 ) -> Option<Mv>
     ensures { result ≡ of_motion search slice.now list target motion }
 {
-    match own_taken(search, slice, list, target, in_list(list, motion)) {
+    match taken_in(search, slice, list, target, motion) {
         Some(mv) => Some(mv),
-        None => other_taken(search, slice, list, target, in_other(list, motion)),
+        None => taken_in(search, slice, other_list(list), target, motion),
     }
 }
 
-/// A vector in a list, where it is taken.
-fn own_taken(
+/// The vector of a motion in a list, where it is taken.
+fn taken_in(
     search: Search,
     slice: &SliceMotion,
     list: u8,
     target: Reference,
-    vector: Option<Vector>,
+    motion: Motion,
 ) -> Option<Mv>
-    ensures { result
-        ≡ option_and_then (λ (v : Vector). taken search slice.now target (reference_in slice.now list v.ref_idx) v.mv)
-        vector }
+    ensures { result ≡ taken_in search slice.now list target motion }
 {
-    let v = vector?;
+    let v = in_list(list, motion)?;
     taken(
         search,
         slice,
@@ -74,23 +71,6 @@ fn own_taken(
         reference_in(slice, list, v.ref_idx),
         v.mv,
     )
-}
-
-/// A vector in the other list, where it is taken.
-fn other_taken(
-    search: Search,
-    slice: &SliceMotion,
-    list: u8,
-    target: Reference,
-    vector: Option<Vector>,
-) -> Option<Mv>
-    ensures { result
-        ≡ option_and_then
-        (λ (v : Vector). taken search slice.now target (reference_in_other slice.now list v.ref_idx) v.mv) vector }
-{
-    let v = vector?;
-    let reference = reference_in_other(slice, list, v.ref_idx);
-    taken(search, slice, target, reference, v.mv)
 }
 
 /// A vector, where it is taken.
@@ -146,13 +126,9 @@ fn in_list(list: u8, motion: Motion) -> Option<Vector>
     }
 }
 
-/// The vector in the other list.
-fn in_other(list: u8, motion: Motion) -> Option<Vector>
-    ensures { result ≡ in_other list motion }
+/// The other one of two lists.
+fn other_list(list: u8) -> u8
+    ensures { result ≡ other_list list }
 {
-    if list == 0 {
-        motion.list_1
-    } else {
-        motion.list_0
-    }
+    if list == 0 { 1 } else { 0 }
 }

@@ -1,7 +1,7 @@
 //! Reference pictures of a slice.
 
 ghost use Rattle.std.specs.Prelude.{◌≡◌, slice_index_or};
-ghost use Rattle.spec_motion.specs.Vectors.{no_reference, reference_in, reference_in_other};
+ghost use Rattle.spec_motion.specs.Vectors.{no_reference, reference_in};
 
 use spec_motion::{Reference, SliceMotion};
 
@@ -14,18 +14,6 @@ pub fn reference_in(slice: &SliceMotion, list: u8, i: u8) -> Reference
         entry(&slice.references_0, i)
     } else {
         entry(&slice.references_1, i)
-    }
-}
-
-/// RefPicListY\[ i \], Y being the other list.
-#[tactic(auto, unfolding(spec_motion::specs::Vectors::reference_in_other))]
-pub(crate) fn reference_in_other(slice: &SliceMotion, list: u8, i: u8) -> Reference
-    ensures { result ≡ reference_in_other slice.now list i }
-{
-    if list == 0 {
-        entry(&slice.references_1, i)
-    } else {
-        entry(&slice.references_0, i)
     }
 }
 

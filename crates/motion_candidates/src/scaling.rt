@@ -1,4 +1,4 @@
-//! The scaling of vectors by distances in order counts (8.5.3.2.7).
+//! The scaling of vectors by distances in order counts (8.5.3.2.7, 8.5.3.2.9).
 
 ghost use Rattle.std.specs.Prelude.{◌≡◌, ◌≤◌, ◌/◌, ◌+◌, ◌≢◌, false, pos, negsuc, ◌+ℤ◌, ◌-ℤ◌, ◌*ℤ◌, ◌≤ℤ◌};
 ghost use Rattle.spec_arithmetic.specs.Clipping.{clip3};

@@ -1,4 +1,4 @@
-//! Spatial merging candidates (8.5.3.2.2).
+//! Spatial merging candidates (8.5.3.2.3).
 
 ghost use Rattle.std.specs.Prelude.{◌≡◌, ◌≤◌, ◌+◌, ◌-◌, ◌^◌, ◌/◌, [], ◌∷◌, None, length, if◌then◌else◌};
 ghost use Rattle.spec_motion.specs.Derivation.{IsBlock, IsPlaced};

@@ -1,4 +1,4 @@
-//! Temporal vector prediction (8.5.3.2.7, 8.5.3.2.8).
+//! Temporal vector prediction (8.5.3.2.8, 8.5.3.2.9).
 
 ghost use Rattle.std.specs.Prelude.{◌≡◌, take};
 ghost use Rattle.std.specs.List.{list_all};

@@ -20,6 +20,7 @@ use Rattle.spec_motion.specs.VectorPrediction.{predicted_mv}
 abbrev pub wrapped : ℤ → ℤ → ℤ
 wrapped predictor difference = int_wrap w16 (predictor +ℤ difference)
 
+-- uLX of both coordinates
 abbrev pub sum_of : Mv → Mv → Mv
 sum_of predictor difference = record { x = wrapped predictor.x difference.x; y = wrapped predictor.y difference.y }
 
@@ -32,6 +33,7 @@ coded_vector slice beneath known block list (Some v) =
       ref_idx = v.ref_idx;
     })
 
+-- the motion of a prediction unit by what was read of it
 abbrev pub motion_by : SliceMotion → Beneath → Known → PredictionUnit → MotionSyntax → Motion
 motion_by slice beneath known unit (Merge index) = merged slice beneath known unit index
 motion_by slice beneath known unit (Vectors first second) = record {

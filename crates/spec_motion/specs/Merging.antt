@@ -1,4 +1,4 @@
--- Merging (8.5.3.2.1 to 8.5.3.2.5): a list of candidates, of which merge_idx names one.
+-- Merging (8.5.3.2.2 to 8.5.3.2.5): a list of candidates, of which merge_idx names one.
 use Rattle.std.specs.Prelude.{ℕ, ◌+◌, ◌-◌, ◌*◌, ◌/◌, ◌^◌, ◌==◌, Bool, true, false, not, ◌&&◌, nat_lt, min, Option, Some}
 use Rattle.std.specs.Prelude.{None, List, [], ◌∷◌, ◌++◌, length, take, map, filter_map, option_to_list, slice_index_or}
 use Rattle.std.specs.Prelude.{if◌then◌else◌}
@@ -34,6 +34,7 @@ is_cut_upright NLx2N = true
 is_cut_upright NRx2N = true
 is_cut_upright _ = false
 
+-- whether a mode cuts a unit into an upper and a lower part
 abbrev pub is_cut_level : PartMode → Bool
 is_cut_level TwoNxN = true
 is_cut_level TwoNxnU = true
@@ -44,6 +45,7 @@ is_cut_level _ = false
 abbrev pub is_right_part : SliceMotion → PredictionUnit → Bool
 is_right_part slice unit = not (is_shared slice unit) && (unit.part == 1 && is_cut_upright unit.part_mode)
 
+-- whether a part is the lower of two, whose candidate B1 is passed over
 abbrev pub is_lower_part : SliceMotion → PredictionUnit → Bool
 is_lower_part slice unit = not (is_shared slice unit) && (unit.part == 1 && is_cut_level unit.part_mode)
 
@@ -80,7 +82,7 @@ spatial_of a1 b1 b0 a0 b2 =
     let four : List Motion = present (a1 ∷ unless_same b1 a1 ∷ unless_same b0 b1 ∷ unless_same a0 a1 ∷ []) in
     four ++ (if length four == 4 then [] else option_to_list (unless_same (unless_same b2 a1) b1))
 
--- the spatial candidates of a unit (8.5.3.2.2)
+-- the spatial candidates of a unit (8.5.3.2.3)
 unfoldable pub spatial_candidates : SliceMotion → Known → PredictionUnit → List Motion
 spatial_candidates slice known unit =
     let block : Rectangle = merge_block slice unit in
@@ -121,13 +123,14 @@ is_doubled slice first second =
     (reference_in slice 0 first.ref_idx).picture == (reference_in slice 1 second.ref_idx).picture
     && same_mv first.mv second.mv
 
--- the vector of one candidate in list 0 and that of another in list 1, where both are there and differ (8.5.3.2.3)
+-- the vector of one candidate in list 0 and that of another in list 1, where both are there and differ (8.5.3.2.4)
 abbrev pub combination_of : SliceMotion → Option Vector → Option Vector → Option Motion
 combination_of slice None second = None
 combination_of slice (Some first) None = None
 combination_of slice (Some first) (Some second) =
     if is_doubled slice first second then None else Some (record { list_0 = Some first; list_1 = Some second })
 
+-- the combination of candidate i in list 0 and candidate j in list 1
 unfoldable pub combination : SliceMotion → List Motion → ℕ → ℕ → Option Motion
 combination slice found i j =
     combination_of slice (slice_index_or found i no_motion).list_0 (slice_index_or found j no_motion).list_1
@@ -137,16 +140,18 @@ unfoldable pub combinations : SliceMotion → List Motion → List Motion
 combinations slice found =
     filter_map (λ pair. combination slice found pair.0 pair.1) (take (length found * (length found - 1)) COMBINED_PAIRS)
 
+-- the combined candidates of B slices, where there are two others or more (8.5.3.2.4)
 unfoldable pub combined_candidates : SliceMotion → List Motion → List Motion
 combined_candidates slice found =
     if slice.is_b && (nat_lt 1 (length found) && nat_lt (length found) slice.max_candidates)
     then take (slice.max_candidates - length found) (combinations slice found)
     else []
 
--- a zero candidate, by zeroIdx (8.5.3.2.4)
+-- a zero candidate, by zeroIdx (8.5.3.2.5)
 abbrev pub zero_vector : ℕ → Vector
 zero_vector ref_idx = record { mv = zero_mv; ref_idx = ref_idx }
 
+-- the reference goes up with zeroIdx as far as the lists have entries
 unfoldable pub zero_candidate : SliceMotion → ℕ → Motion
 zero_candidate slice i =
     if slice.is_b
@@ -173,10 +178,11 @@ abbrev pub first_alone : Option Vector → Option Vector → Motion
 first_alone None second = record { list_0 = None; list_1 = second }
 first_alone (Some first) second = record { list_0 = Some first; list_1 = None }
 
+-- 8x4 and 4x8 blocks are predicted from list 0 alone, where from both (8.5.3.2.2)
 abbrev pub restricted : Rectangle → Motion → Motion
 restricted block motion = if block.width + block.height == 3 then first_alone motion.list_0 motion.list_1 else motion
 
--- the motion of a unit that merges (8.5.3.2.1)
+-- the motion of a unit that merges (8.5.3.2.2)
 unfoldable pub merged : SliceMotion → Beneath → Known → PredictionUnit → ℕ → Motion
 merged slice beneath known unit index =
     restricted (part_block unit.unit unit.part_mode unit.part)

@@ -1,4 +1,4 @@
--- The scaling of vectors by distances in order counts (8.5.3.2.7, 8.5.3.2.8).
+-- The scaling of vectors by distances in order counts (8.5.3.2.7, 8.5.3.2.9).
 use Rattle.std.specs.Prelude.{suc, ◌+◌, ◌/◌, Bool, ◌||◌, ℤ, pos, negsuc, neg_ℤ, ◌*ℤ◌, if◌then◌else◌}
 use Rattle.std.specs.Int.RustNames.{int_div, unsigned_abs}
 use Rattle.std.specs.Ordering.{int_eq}

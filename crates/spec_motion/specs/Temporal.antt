@@ -1,4 +1,4 @@
--- Temporal vector prediction (8.5.3.2.7, 8.5.3.2.8).
+-- Temporal vector prediction (8.5.3.2.8, 8.5.3.2.9).
 use Rattle.std.specs.Prelude.{ℕ, ◌+◌, ◌/◌, ◌==◌, Bool, not, ◌&&◌, ◌||◌, nat_lt, int_le, ℤ, ◌-ℤ◌, Option, Some, None}
 use Rattle.std.specs.Prelude.{option_and_then, take, if◌then◌else◌}
 use Rattle.std.specs.List.{list_all}

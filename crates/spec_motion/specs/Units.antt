@@ -2,24 +2,15 @@
 use Rattle.std.specs.Prelude.{List, ⊤}
 use Rattle.std.specs.List.{fold}
 use Rattle.ctu_records.specs.declared.item.Item.{Item}
-use Rattle.ctu_records.specs.declared.item.Item.TheVariants.{Unit, Luma, Chroma, Prediction, Pcm, Sample, Transform}
-use Rattle.ctu_records.specs.declared.item.Item.TheVariants.{Delta, Block, Level}
+use Rattle.ctu_records.specs.declared.item.Item.TheVariants.{Prediction}
 use Rattle.spec_motion.specs.declared.slice_motion.SliceMotion.{SliceMotion}
 use Rattle.spec_motion.specs.Derivation.{IsPlaced, motion_laid}
 use Rattle.spec_motion.specs.Vectors.{Beneath, Known}
 
 -- an item: the motion of each prediction unit is laid over what is known
 abbrev pub item_derived : SliceMotion → Beneath → Known → Item → Known
-item_derived slice beneath known (Unit unit) = known
-item_derived slice beneath known (Luma luma) = known
-item_derived slice beneath known (Chroma mode) = known
 item_derived slice beneath known (Prediction unit) = motion_laid slice beneath known unit
-item_derived slice beneath known (Pcm square) = known
-item_derived slice beneath known (Sample value) = known
-item_derived slice beneath known (Transform unit) = known
-item_derived slice beneath known (Delta delta) = known
-item_derived slice beneath known (Block block) = known
-item_derived slice beneath known (Level place value) = known
+item_derived slice beneath known other = known
 
 -- what is known once the items of a unit are derived, by what is known beside it
 unfoldable pub unit_derived : SliceMotion → Beneath → List Item → Known → Known
@@ -27,13 +18,5 @@ unit_derived slice beneath items known = fold (item_derived slice beneath) known
 
 -- a prediction unit lies in the unit
 abbrev pub IsPlacedItem : Item → Type 0
-IsPlacedItem (Unit unit) = ⊤
-IsPlacedItem (Luma luma) = ⊤
-IsPlacedItem (Chroma mode) = ⊤
 IsPlacedItem (Prediction unit) = IsPlaced unit
-IsPlacedItem (Pcm square) = ⊤
-IsPlacedItem (Sample value) = ⊤
-IsPlacedItem (Transform unit) = ⊤
-IsPlacedItem (Delta delta) = ⊤
-IsPlacedItem (Block block) = ⊤
-IsPlacedItem (Level place value) = ⊤
+IsPlacedItem other = ⊤

@@ -8,8 +8,8 @@ use Rattle.spec_motion.specs.declared.slice_motion.SliceMotion.{SliceMotion}
 use Rattle.spec_motion.specs.declared.vectors.Motion.{Motion}
 use Rattle.spec_motion.specs.declared.vectors.Reference.{Reference}
 use Rattle.spec_motion.specs.declared.vectors.Vector.{Vector}
-use Rattle.spec_motion.specs.Vectors.{Beneath, Known, agree, in_list, in_other, or_else, reference_in}
-use Rattle.spec_motion.specs.Vectors.{reference_in_other, same_mv, zero_mv}
+use Rattle.spec_motion.specs.Vectors.{Beneath, Known, agree, in_list, or_else, other_list, reference_in}
+use Rattle.spec_motion.specs.Vectors.{same_mv, zero_mv}
 use Rattle.spec_motion.specs.Scaling.{scaled}
 use Rattle.spec_motion.specs.Temporal.{temporal_mv}
 
@@ -17,15 +17,18 @@ use Rattle.spec_motion.specs.Temporal.{temporal_mv}
 abbrev pub if_same_picture : Reference → Reference → Mv → Option Mv
 if_same_picture target reference mv = if reference.picture == target.picture then Some mv else None
 
--- the vector of a place that points to the picture of a reference
+-- the vector of a place in a list that points to the picture of a reference
+abbrev pub same_picture_in : SliceMotion → ℕ → Reference → Motion → Option Mv
+same_picture_in slice list target motion =
+    option_and_then (λ (v : Vector). if_same_picture target (reference_in slice list v.ref_idx) v.mv)
+    (in_list list motion)
+
+-- that in list X, or else that in the other one
 abbrev pub of_same_picture : SliceMotion → ℕ → Reference → Motion → Option Mv
 of_same_picture slice list target motion =
-    or_else
-    (option_and_then (λ (v : Vector). if_same_picture target (reference_in slice list v.ref_idx) v.mv)
-    (in_list list motion))
-    (option_and_then (λ (v : Vector). if_same_picture target (reference_in_other slice list v.ref_idx) v.mv)
-    (in_other list motion))
+    or_else (same_picture_in slice list target motion) (same_picture_in slice (other_list list) target motion)
 
+-- that of a place, where it has motion
 unfoldable pub pointing : SliceMotion → ℕ → Reference → Option Motion → Option Mv
 pointing slice list target place = option_and_then (of_same_picture slice list target) place
 
@@ -37,15 +40,18 @@ if_same_mark slice target reference mv =
     else scaled (slice.order -ℤ reference.order) (slice.order -ℤ target.order) mv)
     else None
 
--- the vector of a place whose reference has the same mark, scaled
+-- the vector of a place in a list whose reference has the same mark, scaled
+abbrev pub same_mark_in : SliceMotion → ℕ → Reference → Motion → Option Mv
+same_mark_in slice list target motion =
+    option_and_then (λ (v : Vector). if_same_mark slice target (reference_in slice list v.ref_idx) v.mv)
+    (in_list list motion)
+
+-- that in list X, or else that in the other one
 abbrev pub of_same_mark : SliceMotion → ℕ → Reference → Motion → Option Mv
 of_same_mark slice list target motion =
-    or_else
-    (option_and_then (λ (v : Vector). if_same_mark slice target (reference_in slice list v.ref_idx) v.mv)
-    (in_list list motion))
-    (option_and_then (λ (v : Vector). if_same_mark slice target (reference_in_other slice list v.ref_idx) v.mv)
-    (in_other list motion))
+    or_else (same_mark_in slice list target motion) (same_mark_in slice (other_list list) target motion)
 
+-- that of a place, where it has motion
 unfoldable pub reaching : SliceMotion → ℕ → Reference → Option Motion → Option Mv
 reaching slice list target place = option_and_then (of_same_mark slice list target) place
 
@@ -54,6 +60,7 @@ abbrev pub first_of : List (Option Mv) → Option Mv
 first_of [] = None
 first_of (candidate ∷ candidates) = or_else candidate (first_of candidates)
 
+-- whether a place has motion
 abbrev pub is_there : Option Motion → Bool
 is_there None = false
 is_there (Some motion) = true

@@ -28,29 +28,27 @@ zero_mv = record { x = pos 0; y = pos 0 }
 abbrev pub no_motion : Motion
 no_motion = record { list_0 = None; list_1 = None }
 
--- the vector in a list, and in the other one
+-- the other one of two lists
+abbrev pub other_list : ℕ → ℕ
+other_list list = if list == 0 then 1 else 0
+
+-- the vector in a list
 abbrev pub in_list : ℕ → Motion → Option Vector
 in_list list motion = if list == 0 then motion.list_0 else motion.list_1
-
-abbrev pub in_other : ℕ → Motion → Option Vector
-in_other list motion = if list == 0 then motion.list_1 else motion.list_0
 
 -- what stands where a list has no picture
 abbrev pub no_reference : Reference
 no_reference = record { picture = 0; order = pos 0; long_term = false }
 
--- RefPicListX[ i ], and that of the other list
+-- RefPicListX[ i ]
 unfoldable pub reference_in : SliceMotion → ℕ → ℕ → Reference
 reference_in slice list i = slice_index_or (if list == 0 then slice.references_0 else slice.references_1) i no_reference
-
-unfoldable pub reference_in_other : SliceMotion → ℕ → ℕ → Reference
-reference_in_other slice list i =
-    slice_index_or (if list == 0 then slice.references_1 else slice.references_0) i no_reference
 
 -- whether vectors are the same
 abbrev pub same_mv : Mv → Mv → Bool
 same_mv a b = int_eq a.x b.x && int_eq a.y b.y
 
+-- whether two vectors of a list are the same, or both not there
 abbrev pub same_vector : Option Vector → Option Vector → Bool
 same_vector None None = true
 same_vector None (Some b) = false

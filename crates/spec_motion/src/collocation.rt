@@ -1,4 +1,4 @@
-//! The motion of the collocated picture (8.5.3.2.8).
+//! The motion of the collocated picture (8.5.3.2.9).
 
 use ctu_records::Mv;
 
