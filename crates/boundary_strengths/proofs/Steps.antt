@@ -80,16 +80,8 @@ same_added pcm_disabled (Level place value) marks e = record {
 -- what is laid over a place depends on what was there alone
 coded_by : (places other : ℕ → ℕ → Bool) (item : Item) (i j : ℕ) → places i j ≡ other i j
     → coded_laid places item i j ≡ coded_laid other item i j
-coded_by places other (Unit unit) i j e = e
-coded_by places other (Luma luma) i j e = e
-coded_by places other (Chroma mode) i j e = e
-coded_by places other (Prediction unit) i j e = e
-coded_by places other (Pcm square) i j e = e
-coded_by places other (Sample value) i j e = e
 coded_by places other (Transform unit) i j e = rw e refl
-coded_by places other (Delta delta) i j e = e
-coded_by places other (Block block) i j e = e
-coded_by places other (Level place value) i j e = e
+coded_by places other rest i j e = e
 
 kept_by : (pcm_disabled : Bool) (places other : ℕ → ℕ → Bool) (item : Item) (i j : ℕ) → places i j ≡ other i j
     → kept_laid pcm_disabled places item i j ≡ kept_laid pcm_disabled other item i j

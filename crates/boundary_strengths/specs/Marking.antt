@@ -31,12 +31,7 @@ pub record IsAdded (pcm_disabled : Bool) (item : Item) (old new : Marks) : Type 
 -- whether an item has no edge, is not coded, and keeps no samples
 abbrev pub adds_nothing : Item → Bool
 adds_nothing (Unit unit) = false
-adds_nothing (Luma luma) = true
-adds_nothing (Chroma mode) = true
 adds_nothing (Prediction unit) = false
 adds_nothing (Pcm square) = false
-adds_nothing (Sample value) = true
 adds_nothing (Transform unit) = false
-adds_nothing (Delta delta) = true
-adds_nothing (Block block) = true
-adds_nothing (Level place value) = true
+adds_nothing other = true

@@ -68,12 +68,7 @@ fn add_item(marks: &mut Marks, item: Item, pcm_disabled: bool)
             }
         }
         Item::Pcm(square) => add_pcm(marks, square, pcm_disabled),
-        Item::Luma(_)
-        | Item::Chroma(_)
-        | Item::Sample(_)
-        | Item::Delta(_)
-        | Item::Block(_)
-        | Item::Level(_, _) => {}
+        _ => {}
     }
 }
 

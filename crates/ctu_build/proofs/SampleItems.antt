@@ -14,16 +14,8 @@ none_small : (format : UnitFormat) → IsPulse format 0
 none_small format = record { luma = omega arith; chroma = omega arith }
 
 sound_small : (format : UnitFormat) (item : Item) → IsSound format item → IsPulse format (sample_of item)
-sound_small format (Unit unit) sound = none_small format
-sound_small format (Luma luma) sound = none_small format
-sound_small format (Chroma mode) sound = none_small format
-sound_small format (Prediction unit) sound = none_small format
-sound_small format (Pcm square) sound = none_small format
 sound_small format (Sample value) sound = sound
-sound_small format (Transform unit) sound = none_small format
-sound_small format (Delta delta) sound = none_small format
-sound_small format (Block block) sound = none_small format
-sound_small format (Level place value) sound = none_small format
+sound_small format other sound = none_small format
 
 pub each_small : (format : UnitFormat) (items : List Item) → All (IsSound format) items
     → (k : ℕ) → IsPulse format (sample_of (get_or items k (Sample 0)))

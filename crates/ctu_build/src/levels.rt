@@ -54,15 +54,7 @@ fn lay_item(levels: &mut [i32], item: Item) -> bool
             lay_level(levels, place, value);
             true
         }
-        Item::Unit(_)
-        | Item::Luma(_)
-        | Item::Chroma(_)
-        | Item::Prediction(_)
-        | Item::Pcm(_)
-        | Item::Sample(_)
-        | Item::Transform(_)
-        | Item::Delta(_)
-        | Item::Block(_) => false,
+        _ => false,
     }
 }
 

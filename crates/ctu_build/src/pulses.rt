@@ -19,15 +19,7 @@ fn sample_of(item: Item) -> u16
 {
     match item {
         Item::Sample(value) => value,
-        Item::Unit(_)
-        | Item::Luma(_)
-        | Item::Chroma(_)
-        | Item::Prediction(_)
-        | Item::Pcm(_)
-        | Item::Transform(_)
-        | Item::Delta(_)
-        | Item::Block(_)
-        | Item::Level(_, _) => 0,
+        _ => 0,
     }
 }
 

@@ -6,8 +6,8 @@ use Rattle.std.proofs.lemmas.List.{get_or-replicate}
 use Rattle.std.proofs.lemmas.List.Sums.{fold-append}
 use Rattle.ctu_records.specs.declared.item.CodingPlace.{CodingPlace}
 use Rattle.ctu_records.specs.declared.item.Item.{Item}
-use Rattle.ctu_records.specs.declared.item.Item.TheVariants.{Unit, Luma, Chroma, Prediction, Pcm, Sample, Transform}
-use Rattle.ctu_records.specs.declared.item.Item.TheVariants.{Delta, Block, Level}
+use Rattle.ctu_records.specs.declared.item.Item.TheVariants.{Unit, Luma}
+use Rattle.ctu_records.specs.declared.item.Item.TheVariants.{Delta}
 use Rattle.ctu_records.specs.Places.{Holds, inside, overlay, by_place}
 use Rattle.ctu_records.specs.Tree.{coding_laid, luma_mode_laid, qp_laid, lays_nothing}
 
@@ -39,36 +39,13 @@ held_laid d v x y side cells new places held count laid = record {
 pub coding_stays : (places : ℕ → ℕ → CodingPlace) (item : Item) → lays_nothing item ≡ true
     → coding_laid places item ≡ places
 coding_stays places (Unit unit) e = absurd cc
-coding_stays places (Luma luma) e = refl
-coding_stays places (Chroma mode) e = refl
-coding_stays places (Prediction unit) e = refl
-coding_stays places (Pcm square) e = refl
-coding_stays places (Sample value) e = refl
-coding_stays places (Transform unit) e = refl
-coding_stays places (Delta delta) e = refl
-coding_stays places (Block block) e = refl
-coding_stays places (Level place value) e = refl
+coding_stays places other e = refl
 
 pub mode_stays : (modes : ℕ → ℕ → ℕ) (item : Item) → lays_nothing item ≡ true → luma_mode_laid modes item ≡ modes
-mode_stays modes (Unit unit) e = refl
 mode_stays modes (Luma luma) e = absurd cc
-mode_stays modes (Chroma mode) e = refl
-mode_stays modes (Prediction unit) e = refl
-mode_stays modes (Pcm square) e = refl
-mode_stays modes (Sample value) e = refl
-mode_stays modes (Transform unit) e = refl
-mode_stays modes (Delta delta) e = refl
-mode_stays modes (Block block) e = refl
-mode_stays modes (Level place value) e = refl
+mode_stays modes other e = refl
 
 pub qp_stays : (qps : ℕ → ℕ → ℕ) (item : Item) → lays_nothing item ≡ true → qp_laid qps item ≡ qps
 qp_stays qps (Unit unit) e = absurd cc
-qp_stays qps (Luma luma) e = refl
-qp_stays qps (Chroma mode) e = refl
-qp_stays qps (Prediction unit) e = refl
-qp_stays qps (Pcm square) e = refl
-qp_stays qps (Sample value) e = refl
-qp_stays qps (Transform unit) e = refl
 qp_stays qps (Delta delta) e = absurd cc
-qp_stays qps (Block block) e = refl
-qp_stays qps (Level place value) e = refl
+qp_stays qps other e = refl

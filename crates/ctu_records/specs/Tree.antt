@@ -6,8 +6,8 @@ use Rattle.ctu_records.specs.declared.item.Square.{Square}
 use Rattle.ctu_records.specs.declared.item.CodingPlace.{CodingPlace}
 use Rattle.ctu_records.specs.declared.item.CodingUnit.{CodingUnit}
 use Rattle.ctu_records.specs.declared.item.Item.{Item}
-use Rattle.ctu_records.specs.declared.item.Item.TheVariants.{Unit, Luma, Chroma, Prediction, Pcm, Sample, Transform}
-use Rattle.ctu_records.specs.declared.item.Item.TheVariants.{Delta, Block, Level}
+use Rattle.ctu_records.specs.declared.item.Item.TheVariants.{Unit, Luma}
+use Rattle.ctu_records.specs.declared.item.Item.TheVariants.{Delta}
 use Rattle.ctu_records.specs.declared.side.Side.{Side}
 use Rattle.ctu_records.specs.declared.offset.Sao.{Sao}
 use Rattle.ctu_records.specs.declared.records.Quantization.{Quantization}
@@ -73,15 +73,7 @@ coding_place unit = record { depth = unit.depth; skipped = unit.skipped; intra =
 
 abbrev pub coding_laid : (ℕ → ℕ → CodingPlace) → Item → ℕ → ℕ → CodingPlace
 coding_laid places (Unit unit) = laid unit.square (coding_place unit) places
-coding_laid places (Luma luma) = places
-coding_laid places (Chroma mode) = places
-coding_laid places (Prediction unit) = places
-coding_laid places (Pcm square) = places
-coding_laid places (Sample value) = places
-coding_laid places (Transform unit) = places
-coding_laid places (Delta delta) = places
-coding_laid places (Block block) = places
-coding_laid places (Level place value) = places
+coding_laid places other = places
 
 abbrev pub no_coding : CodingPlace
 no_coding = record { depth = 0; skipped = false; intra = false }
@@ -97,16 +89,8 @@ unfoldable pub coding_at : List Item → ℕ → ℕ → CodingPlace
 coding_at items = fold coding_laid no_codings items
 
 abbrev pub luma_mode_laid : (ℕ → ℕ → ℕ) → Item → ℕ → ℕ → ℕ
-luma_mode_laid modes (Unit unit) = modes
 luma_mode_laid modes (Luma luma) = laid luma.square luma.mode modes
-luma_mode_laid modes (Chroma mode) = modes
-luma_mode_laid modes (Prediction unit) = modes
-luma_mode_laid modes (Pcm square) = modes
-luma_mode_laid modes (Sample value) = modes
-luma_mode_laid modes (Transform unit) = modes
-luma_mode_laid modes (Delta delta) = modes
-luma_mode_laid modes (Block block) = modes
-luma_mode_laid modes (Level place value) = modes
+luma_mode_laid modes other = modes
 
 -- INTRA_DC
 abbrev pub no_mode : ℕ → ℕ → ℕ
@@ -118,15 +102,8 @@ luma_mode_at items = fold luma_mode_laid no_mode items
 
 abbrev pub qp_laid : (ℕ → ℕ → ℕ) → Item → ℕ → ℕ → ℕ
 qp_laid qps (Unit unit) = laid unit.square unit.qp qps
-qp_laid qps (Luma luma) = qps
-qp_laid qps (Chroma mode) = qps
-qp_laid qps (Prediction unit) = qps
-qp_laid qps (Pcm square) = qps
-qp_laid qps (Sample value) = qps
-qp_laid qps (Transform unit) = qps
 qp_laid qps (Delta delta) = laid delta.square delta.qp qps
-qp_laid qps (Block block) = qps
-qp_laid qps (Level place value) = qps
+qp_laid qps other = qps
 
 -- Qp'Y of a place of the unit, by what was read
 unfoldable pub qp_at : List Item → ℕ → ℕ → ℕ
@@ -185,14 +162,8 @@ pub record IsPlaced (square : Square) : Type 0 where
 abbrev pub lays_nothing : Item → Bool
 lays_nothing (Unit unit) = false
 lays_nothing (Luma luma) = false
-lays_nothing (Chroma mode) = true
-lays_nothing (Prediction unit) = true
-lays_nothing (Pcm square) = true
-lays_nothing (Sample value) = true
-lays_nothing (Transform unit) = true
 lays_nothing (Delta delta) = false
-lays_nothing (Block block) = true
-lays_nothing (Level place value) = true
+lays_nothing other = true
 
 -- how many items a unit has at most: 64 a place of the greatest one
 abbrev pub room : ℕ

@@ -63,7 +63,7 @@ fn chroma_first(place: u32, v: i16) -> i32
     place as i32 + i32::from(v >> 3) - 1
 }
 
-/// Writes the luma prediction of a block by a vector (8.5.3.3.3.1), on a scale of 14 bits, in lines of 64. `depth` is
+/// Writes the luma prediction of a block by a vector (8.5.3.3.3.2), on a scale of 14 bits, in lines of 64. `depth` is
 /// the bit depth of the reference picture, below which its samples are.
 pub fn luma<V: RefWindow>(
     view: &V,
@@ -97,7 +97,7 @@ pub fn luma<V: RefWindow>(
     interpolate::<V, 8>(view, first, fractions, depth, scratch, out);
 }
 
-/// Writes the prediction of a block of a chroma component by a vector (8.5.3.3.3.2), on a scale of 14 bits, in lines of
+/// Writes the prediction of a block of a chroma component by a vector (8.5.3.3.3.3), on a scale of 14 bits, in lines of
 /// 64. The vector is that of the luma block, so it counts eighths of a chroma sample.
 pub fn chroma<V: RefWindow>(
     view: &V,

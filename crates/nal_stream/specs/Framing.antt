@@ -29,10 +29,7 @@ at_end h = record { fed = h.fed; given = h.given; finished = true }
 -- after an answer
 abbrev pub with_answer : History → Next → History
 with_answer h (next.Unit n) = record { fed = h.fed; given = h.given ++ Whole (unit_of n) ∷ []; finished = h.finished }
-with_answer h (next.Fault f) = h
-with_answer h (next.Limit l) = h
-with_answer h next.More = h
-with_answer h next.End = h
+with_answer h other = h
 
 -- what the answer to such a history is: the next unit, the fault or the limit that comes after the units given, or
 -- that nothing is left

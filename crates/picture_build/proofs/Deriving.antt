@@ -41,16 +41,8 @@ placed unit is =
     record { few = is.placed.size; column = is.placed.x; row = is.placed.y; part = omega (arith, few, is.part) }
 
 item_placed : (format : UnitFormat) (item : Item) → IsSound format item → IsPlacedItem item
-item_placed format (Unit unit) is = tt
-item_placed format (Luma luma) is = tt
-item_placed format (Chroma mode) is = tt
 item_placed format (Prediction unit) is = placed unit is
-item_placed format (Pcm square) is = tt
-item_placed format (Sample value) is = tt
-item_placed format (Transform unit) is = tt
-item_placed format (Delta delta) is = tt
-item_placed format (Block block) is = tt
-item_placed format (Level place value) is = tt
+item_placed format other is = tt
 
 -- prediction units that are sound lie in the unit
 pub all_placed : (format : UnitFormat) (items : List Item) → AreSound format items → All IsPlacedItem items

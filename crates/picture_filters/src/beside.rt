@@ -1,4 +1,4 @@
-//! What is known beside a coding tree unit, apart from motion (8.7.2.3).
+//! What is known beside a coding tree unit, apart from motion (8.7.2.1).
 
 ghost use Rattle.std.specs.Prelude.{◌≡◌, ◌+◌, ◌-◌, ◌≤◌, ◌&&◌, ◌||◌, nat_le, nat_lt};
 ghost use Rattle.picture_filters.specs.Places.{places_of};

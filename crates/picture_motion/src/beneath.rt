@@ -1,4 +1,4 @@
-//! The motion of the collocated picture beneath a coding tree unit (8.5.3.2.8).
+//! The motion of the collocated picture beneath a coding tree unit (8.5.3.2.9).
 
 ghost use Rattle.std.specs.Prelude.{◌≡◌, ℕ, ◌+◌, ◌*◌, ◌<◌, ◌≤◌, ◌==◌, ◌&&◌, nat_lt, None, if◌then◌else◌};
 ghost use Rattle.ctu_motion.specs.Held.{held, held_beneath};

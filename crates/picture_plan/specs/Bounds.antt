@@ -20,9 +20,5 @@ pub record IsBetween (s : Between) : Type 0 where
 
 -- of what a slice segment opens
 abbrev pub ChangesFew : Change → Type 0
-ChangesFew change.Nothing = Unit {0}
-ChangesFew (change.SequenceSet sps) = Unit {0}
-ChangesFew (change.PictureSet pps) = Unit {0}
-ChangesFew change.SequenceEnd = Unit {0}
 ChangesFew (change.Opened p) = KeepsFew p
-ChangesFew (change.Stop e) = Unit {0}
+ChangesFew other = Unit {0}

@@ -31,16 +31,9 @@ R = SLICE_HEADER_RULES
 -- ---- a format whose first question is a flag, once the flag is known
 
 abbrev BeginsWithFlag : {X : Type 0} → Format Field FieldValue X → Type 0
-BeginsWithFlag (Give x) = ⊥
-BeginsWithFlag (Refuse e) = ⊥
 BeginsWithFlag (One Flag) = Unit {0}
-BeginsWithFlag (One (U n)) = ⊥
-BeginsWithFlag (One Ue) = ⊥
-BeginsWithFlag (One Se) = ⊥
-BeginsWithFlag (One (UeTo n)) = ⊥
-BeginsWithFlag (One (SeWithin low high)) = ⊥
-BeginsWithFlag (One (Within fact)) = ⊥
 BeginsWithFlag (Then m f) = BeginsWithFlag m
+BeginsWithFlag other = ⊥
 
 abbrev behind_flag : {X : Type 0} → Bool → Format Field FieldValue X → Format Field FieldValue X
 behind_flag b (Give x) = Give x

@@ -12,6 +12,7 @@ bit_of byte k = bit_at byte k == 1
 unfoldable pub bits : List ℕ → List Bool
 bits bytes = map (λ i. bit_of (slice_index bytes (i / 8)) (7 - i % 8)) (range_with_len 0 (8 * length bytes))
 
+-- a bit as a number
 abbrev pub digit : Bool → ℕ
 digit true = 1
 digit false = 0

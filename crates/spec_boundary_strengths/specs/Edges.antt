@@ -1,10 +1,9 @@
 -- The edges of a coding tree unit by what was read of it (8.7.2.2, 8.7.2.3): the left sides and the tops of its blocks,
 -- by column and row of places, counted from 0 at the unit's first place. A place is a block of 4x4 luma samples.
-use Rattle.std.specs.Prelude.{ℕ, ◌+◌, ◌^◌, ◌==◌, Bool, false, ◌&&◌, ◌||◌, nat_le, nat_lt, List, Option, Some, None}
+use Rattle.std.specs.Prelude.{ℕ, ◌+◌, ◌^◌, ◌==◌, Bool, false, ◌&&◌, nat_le, nat_lt, List, Option, Some, None}
 use Rattle.std.specs.List.{list_any}
 use Rattle.ctu_records.specs.declared.item.Item.{Item}
-use Rattle.ctu_records.specs.declared.item.Item.TheVariants.{Unit, Luma, Chroma, Prediction, Pcm, Sample, Transform}
-use Rattle.ctu_records.specs.declared.item.Item.TheVariants.{Delta, Block, Level}
+use Rattle.ctu_records.specs.declared.item.Item.TheVariants.{Unit, Prediction, Transform}
 use Rattle.ctu_records.specs.declared.item.Square.{Square}
 use Rattle.ctu_records.specs.declared.prediction.Rectangle.{Rectangle}
 use Rattle.ctu_records.specs.Prediction.{part_block, rectangle}
@@ -17,42 +16,31 @@ is_marked line first count i j = i == line && (nat_le first j && nat_lt j (first
 abbrev pub stands_left : Rectangle → ℕ → ℕ → Bool
 stands_left block x y = is_marked block.x block.y block.height x y
 
+-- whether a place is at the top side of a block
 abbrev pub stands_top : Rectangle → ℕ → ℕ → Bool
 stands_top block x y = is_marked block.y block.x block.width y x
 
+-- the places of a square
 abbrev pub square_block : Square → Rectangle
 square_block square = rectangle square.x square.y (2 ^ square.log2_size) (2 ^ square.log2_size)
 
 -- the block of a coding unit or of a transform unit
 abbrev pub transform_block : Item → Option Rectangle
 transform_block (Unit unit) = Some (square_block unit.square)
-transform_block (Luma luma) = None
-transform_block (Chroma mode) = None
-transform_block (Prediction unit) = None
-transform_block (Pcm square) = None
-transform_block (Sample value) = None
 transform_block (Transform unit) = Some (square_block unit.square)
-transform_block (Delta delta) = None
-transform_block (Block block) = None
-transform_block (Level place value) = None
+transform_block other = None
 
 -- the block of a prediction unit
 abbrev pub prediction_block : Item → Option Rectangle
-prediction_block (Unit unit) = None
-prediction_block (Luma luma) = None
-prediction_block (Chroma mode) = None
 prediction_block (Prediction unit) = Some (part_block unit.unit unit.part_mode unit.part)
-prediction_block (Pcm square) = None
-prediction_block (Sample value) = None
-prediction_block (Transform unit) = None
-prediction_block (Delta delta) = None
-prediction_block (Block block) = None
-prediction_block (Level place value) = None
+prediction_block other = None
 
+-- whether a place is at the left side of a block, where there is one
 abbrev pub at_left : ℕ → ℕ → Option Rectangle → Bool
 at_left x y None = false
 at_left x y (Some block) = stands_left block x y
 
+-- whether it is at the top side of one
 abbrev pub at_top : ℕ → ℕ → Option Rectangle → Bool
 at_top x y None = false
 at_top x y (Some block) = stands_top block x y

@@ -8,6 +8,7 @@ use Rattle.picture_buffer.specs.declared.place_motion.PlaceVector.{PlaceVector}
 use Rattle.spec_boundary_strengths.specs.declared.vectors.Vectors.{Vectors}
 use Rattle.spec_boundary_strengths.specs.declared.vectors.Vectors.TheVariants.{NoVector, OneVector, TwoVectors}
 
+-- the vectors of both lists that are there
 abbrev pub listed : Option PlaceVector → Option PlaceVector → Vectors
 listed None None = NoVector
 listed None (Some v) = OneVector v
@@ -35,6 +36,7 @@ one_apart p q p' q' = are_apart p q || are_apart p' q'
 abbrev pub same_in_order : PlaceVector → PlaceVector → PlaceVector → PlaceVector → Bool
 same_in_order p0 p1 q0 q1 = same_picture p0 q0 && same_picture p1 q1
 
+-- whether each vector refers to the picture of the other side's other vector
 abbrev pub same_crossed : PlaceVector → PlaceVector → PlaceVector → PlaceVector → Bool
 same_crossed p0 p1 q0 q1 = same_picture p0 q1 && same_picture p1 q0
 

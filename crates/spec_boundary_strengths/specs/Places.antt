@@ -2,8 +2,7 @@
 use Rattle.std.specs.Prelude.{ℕ, Bool, true, List, pos, ◌-ℤ◌, if◌then◌else◌}
 use Rattle.std.specs.List.{fold}
 use Rattle.ctu_records.specs.declared.item.Item.{Item}
-use Rattle.ctu_records.specs.declared.item.Item.TheVariants.{Unit, Luma, Chroma, Prediction, Pcm, Sample, Transform}
-use Rattle.ctu_records.specs.declared.item.Item.TheVariants.{Delta, Block, Level}
+use Rattle.ctu_records.specs.declared.item.Item.TheVariants.{Unit, Pcm}
 use Rattle.ctu_records.specs.Tree.{laid, qp_at}
 use Rattle.spec_boundary_strengths.specs.declared.place.UnitPlace.{UnitPlace}
 use Rattle.spec_boundary_strengths.specs.Strengths.{Beside, coded_at, left_strength, top_strength, nowhere}
@@ -11,15 +10,8 @@ use Rattle.spec_boundary_strengths.specs.Strengths.{Beside, coded_at, left_stren
 -- by pcm_loop_filter_disabled_flag
 abbrev pub kept_laid : Bool → (ℕ → ℕ → Bool) → Item → ℕ → ℕ → Bool
 kept_laid pcm_disabled places (Unit unit) = laid unit.square unit.transquant_bypass places
-kept_laid pcm_disabled places (Luma luma) = places
-kept_laid pcm_disabled places (Chroma mode) = places
-kept_laid pcm_disabled places (Prediction unit) = places
 kept_laid pcm_disabled places (Pcm square) = if pcm_disabled then laid square true places else places
-kept_laid pcm_disabled places (Sample value) = places
-kept_laid pcm_disabled places (Transform unit) = places
-kept_laid pcm_disabled places (Delta delta) = places
-kept_laid pcm_disabled places (Block block) = places
-kept_laid pcm_disabled places (Level place value) = places
+kept_laid pcm_disabled places other = places
 
 -- whether the samples of a place stay: cu_transquant_bypass_flag, or pcm_flag where pcm_loop_filter_disabled_flag is 1
 unfoldable pub kept_at : Bool → List Item → ℕ → ℕ → Bool

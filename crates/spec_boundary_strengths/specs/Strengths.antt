@@ -3,8 +3,7 @@ use Rattle.std.specs.Prelude.{ℕ, ◌+◌, ◌-◌, ◌%◌, ◌==◌, Bool, tr
 use Rattle.std.specs.Prelude.{if◌then◌else◌}
 use Rattle.std.specs.List.{fold}
 use Rattle.ctu_records.specs.declared.item.Item.{Item}
-use Rattle.ctu_records.specs.declared.item.Item.TheVariants.{Unit, Luma, Chroma, Prediction, Pcm, Sample, Transform}
-use Rattle.ctu_records.specs.declared.item.Item.TheVariants.{Delta, Block, Level}
+use Rattle.ctu_records.specs.declared.item.Item.TheVariants.{Transform}
 use Rattle.ctu_records.specs.Tree.{laid}
 use Rattle.picture_buffer.specs.declared.place_motion.PlaceMotion.{PlaceMotion}
 use Rattle.spec_boundary_strengths.specs.Motion.{motion_strength}
@@ -22,18 +21,12 @@ pub record Beside : Type 0 where
   pub top : Bool
   pub disabled : Bool
 
+-- cbf_luma by place, behind an item more
 abbrev pub coded_laid : (ℕ → ℕ → Bool) → Item → ℕ → ℕ → Bool
-coded_laid places (Unit unit) = places
-coded_laid places (Luma luma) = places
-coded_laid places (Chroma mode) = places
-coded_laid places (Prediction unit) = places
-coded_laid places (Pcm square) = places
-coded_laid places (Sample value) = places
 coded_laid places (Transform unit) = laid unit.square unit.cbf_luma places
-coded_laid places (Delta delta) = places
-coded_laid places (Block block) = places
-coded_laid places (Level place value) = places
+coded_laid places other = places
 
+-- no place is coded
 abbrev pub nowhere : ℕ → ℕ → Bool
 nowhere x y = false
 

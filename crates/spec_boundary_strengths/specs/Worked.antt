@@ -1,5 +1,5 @@
 -- Worked cases: vectors into pictures, and a coding unit of 16x16 luma samples in two parts beside each other.
-use Rattle.std.specs.Prelude.{ℕ, ℤ, pos, Bool, true, false, nat_lt, List, [], ◌∷◌, Option, Some, None, if◌then◌else◌}
+use Rattle.std.specs.Prelude.{ℕ, ℤ, pos, true, false, nat_lt, List, [], ◌∷◌, Some, None, if◌then◌else◌}
 use Rattle.ctu_records.specs.declared.item.CodingUnit.{CodingUnit}
 use Rattle.ctu_records.specs.declared.item.Item.{Item}
 use Rattle.ctu_records.specs.declared.item.Item.TheVariants.{Unit, Prediction}
@@ -18,18 +18,23 @@ vector_into index picture x = record {
   reference = record { picture = picture; order = pos 0; long_term = false };
 }
 
+-- motion by list 0 alone
 unfoldable pub by_one : PlaceVector → PlaceMotion
 by_one v = record { list_0 = Some v; list_1 = None }
 
+-- motion by list 1 alone
 unfoldable pub by_other : PlaceVector → PlaceMotion
 by_other v = record { list_0 = None; list_1 = Some v }
 
+-- motion by both lists
 unfoldable pub by_both : PlaceVector → PlaceVector → PlaceMotion
 by_both v w = record { list_0 = Some v; list_1 = Some w }
 
+-- a unit of 16x16 luma samples
 unfoldable pub whole_square : Square
 whole_square = record { x = 0; y = 0; log2_size = 2 }
 
+-- a coding unit that is skipped
 unfoldable pub skipped_unit : CodingUnit
 skipped_unit = record {
   square = whole_square;
@@ -41,9 +46,11 @@ skipped_unit = record {
   qp = 26;
 }
 
+-- one of its two parts, side by side
 unfoldable pub half : ℕ → PredictionUnit
 half part = record { unit = whole_square; part_mode = Nx2N; part = part; motion = Merge 0 }
 
+-- what is read of a unit in two parts
 unfoldable pub two_parts : List Item
 two_parts = Unit skipped_unit ∷ Prediction (half 0) ∷ Prediction (half 1) ∷ []
 

@@ -19,6 +19,7 @@ pub data Bin : Type 0 where
   Sample : (size : ℕ) → Bin
   PcmEnd : Bin
 
+-- what answers each question
 abbrev pub BinValue : Bin → Type 0
 BinValue (Decision i) = Bool
 BinValue Bypass = Bool
@@ -45,10 +46,12 @@ abbrev pub stepped : {X : Type 0} → List ℕ → Option (X × Engine) → Resu
 stepped contexts None = Err data_end
 stepped contexts (Some d) = Ok (d.0, (d.1, contexts))
 
+-- the state behind a step of the engine that gives no value
 abbrev pub moved : List ℕ → Option Engine → Result (Unit {0} × State) Breach
 moved contexts None = Err data_end
 moved contexts (Some e) = Ok (tt, (e, contexts))
 
+-- the same behind one whose value isn't asked
 abbrev pub placed : List ℕ → Option (ℕ × Engine) → Result (Unit {0} × State) Breach
 placed contexts None = Err data_end
 placed contexts (Some d) = Ok (tt, (d.1, contexts))
@@ -62,6 +65,7 @@ bin_at PcmStart s = placed s.1 (pcm_start_at s.0)
 bin_at (Sample size) s = stepped s.1 (sample_at size s.0)
 bin_at PcmEnd s = moved s.1 (pcm_end_at s.0)
 
+-- a format over bins
 abbrev pub Tree : Type 0 → Type 1
 Tree X = Format Bin BinValue X
 
@@ -69,21 +73,27 @@ Tree X = Format Bin BinValue X
 abbrev pub read : {X : Type 0} → Tree X → State → Result (X × State) Breach
 read format = reading bin_at format
 
+-- a bin of a context (9.3.4.3.2)
 abbrev pub decision : ℕ → Tree Bool
 decision i = One (Decision i)
 
+-- a bin without a context (9.3.4.3.4)
 abbrev pub bypass : Tree Bool
 bypass = One Bypass
 
+-- the bin before the end of a part of the data (9.3.4.3.5)
 abbrev pub terminate : Tree Bool
 terminate = One Terminate
 
+-- behind pcm_flag: the bits up to the first sample (9.3.2.5)
 abbrev pub pcm_start : Tree (Unit {0})
 pcm_start = One PcmStart
 
+-- a sample of so many bits
 abbrev pub sample : ℕ → Tree ℕ
 sample size = One (Sample size)
 
+-- behind the last sample: the engine begins anew (9.3.2.5)
 abbrev pub pcm_end : Tree (Unit {0})
 pcm_end = One PcmEnd
 
@@ -101,6 +111,7 @@ fixed_after (suc n) value = do
   bin ← bypass
   fixed_after n (2 * value + digit bin)
 
+-- a binarization of fixed length: so many bypass bins (9.3.3.5)
 abbrev pub fixed : ℕ → Tree ℕ
 fixed n = fixed_after n 0
 

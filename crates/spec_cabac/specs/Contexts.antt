@@ -15,6 +15,7 @@ lps_range_of state range = slice_index RANGE_TAB_LPS (4 * state + range / 64 % 4
 unfoldable pub state_after_lps : ℕ → ℕ
 state_after_lps state = slice_index TRANS_IDX_LPS state
 
+-- transIdxMps
 unfoldable pub state_after_mps : ℕ → ℕ
 state_after_mps state = slice_index TRANS_IDX_MPS state
 
@@ -23,6 +24,7 @@ unfoldable pub context_after_lps : ℕ → ℕ
 context_after_lps context =
     2 * state_after_lps (context / 2) + (if context / 2 == 0 then 1 - context % 2 else context % 2)
 
+-- a context behind a more probable symbol
 unfoldable pub context_after_mps : ℕ → ℕ
 context_after_mps context = 2 * state_after_mps (context / 2) + context % 2
 

@@ -17,6 +17,7 @@ bend s2 s1 s0 = abs_diff (s2 + s0) (2 * s1)
 abbrev pub d_p : Line → ℕ
 d_p line = bend line.p2 line.p1 line.p0
 
+-- dq of a line
 abbrev pub d_q : Line → ℕ
 d_q line = bend line.q2 line.q1 line.q0
 

@@ -42,6 +42,7 @@ unfoldable pub second_change : ℕ → ℕ → ℕ → ℕ → ℤ → ℤ
 second_change tc outer middle inner delta =
     within (tc / 2) (int_shr (pos ((outer + inner + 1) / 2) -ℤ pos middle +ℤ delta) 1)
 
+-- p1' or q1', where it changes
 unfoldable pub second_sample : Bool → ℕ → ℕ → ℕ → ℕ → ℕ → ℤ → ℕ
 second_sample changes greatest tc outer middle inner delta =
     if changes then moved greatest middle (second_change tc outer middle inner delta) else middle
@@ -79,6 +80,7 @@ nearest greatest tc line = let delta : ℤ = within tc (chroma_change line) in r
   q3 = line.q3;
 }
 
+-- a line behind its filter
 unfoldable pub filtered : Filter → ℕ → ℕ → Line → Line
 filtered Off greatest tc line = line
 filtered (Normal p1 q1) greatest tc line = normal p1 q1 greatest tc line

@@ -18,5 +18,6 @@ step_place = record {
 unfoldable pub step_sample : ℕ → ℕ → ℕ
 step_sample x y = if nat_lt x 8 then 100 else 110
 
+-- the line behind the strong filter
 unfoldable pub smoothed : Line
 smoothed = record { p3 = 100; p2 = 101; p1 = 103; p0 = 104; q0 = 106; q1 = 108; q2 = 109; q3 = 110 }

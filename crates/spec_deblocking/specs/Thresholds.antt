@@ -23,9 +23,11 @@ unfoldable pub edge_qp : Plane → Place → Place → ℤ
 edge_qp Luma p q = mean_qp p q
 edge_qp (Chroma offset) p q = chroma_qp (mean_qp p q +ℤ offset)
 
+-- Q of beta' (8.7.2.5.3)
 abbrev pub beta_index : Place → Place → ℕ
 beta_index p q = clip3_from_zero 51 (mean_qp p q +ℤ pos 2 *ℤ q.slice_beta_offset_div2)
 
+-- Q of tC' (8.7.2.5.3, 8.7.2.5.5)
 abbrev pub tc_index : Plane → Place → Place → ℕ
 tc_index plane p q =
     clip3_from_zero 53

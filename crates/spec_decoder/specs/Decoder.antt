@@ -25,6 +25,7 @@ picture_out picture = picture_bytes picture.format picture.samples
 abbrev pub told : PictureBroken → Stop
 told broken = stopped_at broken.nal (Some broken.ctu) broken.breach
 
+-- a picture, or what its data break with its place
 abbrev pub decoded_data : Result DecodedPicture PictureBroken → Result DecodedPicture Stop
 decoded_data (Ok picture) = Ok picture
 decoded_data (Err broken) = Err (told broken)
@@ -38,6 +39,7 @@ abbrev pub next_out : Option DecodedPicture → List (List ℕ) → List (List �
 next_out None later = later
 next_out (Some picture) later = picture_out picture ∷ later
 
+-- the bytes of the pictures at these places, one picture after the other
 unfoldable pub out_at : List DecodedPicture → List ℕ → List (List ℕ)
 out_at buffer [] = []
 out_at buffer (place ∷ places) = next_out (slice_get buffer place) (out_at buffer places)

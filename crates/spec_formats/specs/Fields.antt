@@ -21,6 +21,7 @@ pub data Field : Type 0 where
   SeWithin : (low high : ℕ) → Field
   Within : (fact : Bool) → Field
 
+-- what a field gives
 abbrev pub FieldValue : Field → Type 0
 FieldValue (U n) = ℕ
 FieldValue Flag = Bool
@@ -56,6 +57,7 @@ field_at rules (UeTo greatest) bs = judged rules (λ value. nat_le value greates
 field_at rules (SeWithin low high) bs = judged rules (is_within low high) (whole rules (se_at bs))
 field_at rules (Within fact) bs = judged rules (λ held. held) (Ok (fact, bs))
 
+-- a format over fields
 abbrev pub Header : Type 0 → Type 1
 Header X = Format Field FieldValue X
 
@@ -71,21 +73,27 @@ m >>= f = Then m f
 abbrev pub give : {X : Type 0} → X → Header X
 give x = Give x
 
+-- u(n) (7.2)
 abbrev pub u : ℕ → Header ℕ
 u n = One (U n)
 
+-- u(1), as a flag
 abbrev pub flag : Header Bool
 flag = One Flag
 
+-- ue(v)
 abbrev pub ue : Header ℕ
 ue = One Ue
 
+-- se(v)
 abbrev pub se : Header ℤ
 se = One Se
 
+-- ue(v) that may not be above a number
 abbrev pub ue_to : ℕ → Header ℕ
 ue_to greatest = One (UeTo greatest)
 
+-- se(v) from one number below 0 to one above
 abbrev pub se_within : ℕ → ℕ → Header ℤ
 se_within low high = One (SeWithin low high)
 
@@ -123,6 +131,7 @@ Refuses refusal.Memory read = Unit {0}
 Refuses (refusal.Fault kind) read = read ≡ Err (breach.Fault kind)
 Refuses (refusal.Limit kind) read = read ≡ Err (breach.Limit kind)
 
+-- a call's answer with the bits that are left, by what reading gives
 abbrev pub Reads : {X Y : Type 0} → (X → Y) → Result X Refusal → List Bool → Result (Y × List Bool) Breach → Type 0
 Reads view (Ok x) left read = read ≡ Ok (view x, left)
 Reads view (Err e) left read = Refuses e read

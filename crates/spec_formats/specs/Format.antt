@@ -23,6 +23,7 @@ abbrev pub refuse : {Question : Type 0} {Answer : Question → Type 0} {X : Type
 refuse e = Refuse e
 
 infix 5 when◌then◌else◌
+-- one of two formats
 abbrev pub when◌then◌else◌ : {Question : Type 0} {Answer : Question → Type 0} {X : Type 0} → Bool
     → Format Question Answer X → Format Question Answer X → Format Question Answer X
 when b then m else n = cond b m n
@@ -35,6 +36,7 @@ wanted fact e = when fact then Give fact else Refuse e
 abbrev pub Answers : (S Question : Type 0) → (Question → Type 0) → Type 0
 Answers S Question Answer = (q : Question) → S → Result (Answer q × S) Breach
 
+-- reading goes on behind a value
 abbrev pub bind : {S X Y : Type 0} → Result (X × S) Breach → (X → S → Result (Y × S) Breach) → Result (Y × S) Breach
 bind (Ok x) f = f x.0 x.1
 bind (Err e) f = Err e

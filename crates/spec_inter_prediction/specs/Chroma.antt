@@ -1,4 +1,4 @@
--- Chroma sample interpolation (8.5.3.3.3.2) in 4:2:0: a vector in quarters of a luma sample is one in eighths of a
+-- Chroma sample interpolation (8.5.3.3.3.3) in 4:2:0: a vector in quarters of a luma sample is one in eighths of a
 -- chroma sample.
 use Rattle.std.specs.Prelude.{ℕ, ℤ, pos, ◌+ℤ◌, ◌-ℤ◌}
 use Rattle.std.specs.Int.{int_shr, int_rem_euclid}

@@ -1,4 +1,4 @@
--- Luma sample interpolation (8.5.3.3.3.1).
+-- Luma sample interpolation (8.5.3.3.3.2).
 use Rattle.std.specs.Prelude.{ℕ, ℤ, pos, ◌+ℤ◌, ◌-ℤ◌}
 use Rattle.std.specs.Int.{int_shr, int_rem_euclid}
 use Rattle.std.specs.Int.RustNames.{unsigned_abs}

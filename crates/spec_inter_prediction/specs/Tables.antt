@@ -15,6 +15,7 @@ use Rattle.spec_inter_prediction.specs.Weighting.{IsWeight}
 abbrev pub no_weight : Weight
 no_weight = record { weight = pos 0; offset = pos 0 }
 
+-- what stands where a list has no entry
 abbrev pub no_weights : ReferenceWeights
 no_weights = record { luma = no_weight; cb = no_weight; cr = no_weight }
 
@@ -34,6 +35,7 @@ weights_of t c first second = record {
   list1 = weight_at t.list_1 second c;
 }
 
+-- the weighting of a component of a prediction unit that refers to these entries
 abbrev pub weighting_of : SliceWeighting → ℕ → ℕ → ℕ → Weighting
 weighting_of slice.Default c first second = Default
 weighting_of (slice.Explicit t) c first second = Explicit (weights_of t c first second)
@@ -44,12 +46,14 @@ pub record AreWeights (w : ReferenceWeights) : Type 0 where
   pub cb : IsWeight w.cb
   pub cr : IsWeight w.cr
 
+-- a table that may be coded (7.4.7.3)
 pub record IsTable (t : WeightTable) : Type 0 where
   pub luma : t.luma_log2_denominator ≤ 7
   pub chroma : t.chroma_log2_denominator ≤ 7
   pub list_0 : All AreWeights t.list_0
   pub list_1 : All AreWeights t.list_1
 
+-- the weights of a slice that may be coded
 abbrev pub IsSliceWeighting : SliceWeighting → Type 0
 IsSliceWeighting slice.Default = Unit {0}
 IsSliceWeighting (slice.Explicit t) = IsTable t

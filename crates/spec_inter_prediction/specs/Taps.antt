@@ -1,4 +1,4 @@
--- The interpolation filters (8.5.3.3.3.1, 8.5.3.3.3.2), and how they run over a picture. Samples of one line, or
+-- The interpolation filters (8.5.3.3.3.2, 8.5.3.3.3.3), and how they run over a picture. Samples of one line, or
 -- column, beside each other are a to h; d is the whole place of luma, and b that of chroma.
 use Rattle.std.specs.Prelude.{ℕ, ◌-◌, ◌≤◌, ◌==◌, ℤ, pos, ◌+ℤ◌, ◌-ℤ◌, ◌*ℤ◌, if◌then◌else◌}
 use Rattle.std.specs.Int.{int_shr}
@@ -29,6 +29,7 @@ chroma_taps eighth a b c d =
 abbrev pub luma_filter : ℕ → (ℕ → ℤ) → ℤ
 luma_filter quarter s = luma_taps quarter (s 0) (s 1) (s 2) (s 3) (s 4) (s 5) (s 6) (s 7)
 
+-- that of chroma
 abbrev pub chroma_filter : ℕ → (ℕ → ℤ) → ℤ
 chroma_filter eighth s = chroma_taps eighth (s 0) (s 1) (s 2) (s 3)
 

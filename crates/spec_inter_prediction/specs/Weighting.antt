@@ -25,6 +25,7 @@ log2_wd depth denominator = denominator + (14 - depth)
 unfoldable pub default_one : ℕ → ℤ → ℕ
 default_one depth p = clip1 depth (rounded_if_shifted (14 - depth) p)
 
+-- that of two predictions
 unfoldable pub default_two : ℕ → ℤ → ℤ → ℕ
 default_two depth p q = clip1 depth (rounded_if_shifted (15 - depth) (p +ℤ q))
 
@@ -33,6 +34,7 @@ unfoldable pub explicit_one : ℕ → ℕ → Weight → ℤ → ℕ
 explicit_one depth log2_wd w p =
     clip1 depth (rounded_if_shifted log2_wd (p *ℤ w.weight) +ℤ scaled_offset depth w.offset)
 
+-- that of two predictions
 unfoldable pub explicit_two : ℕ → ℕ → Weight → Weight → ℤ → ℤ → ℕ
 explicit_two depth log2_wd w v p q =
     clip1 depth (int_shr (p *ℤ w.weight +ℤ q *ℤ v.weight
@@ -53,11 +55,13 @@ weighted_two depth (Explicit w) p q = explicit_two depth (log2_wd depth w.log2_d
 abbrev pub IsWeight : Weight → Type 0
 IsWeight w = (negsuc 127 ≤ℤ w.weight) × (w.weight ≤ℤ pos 255)
 
+-- those of both lists
 pub record IsWeights (w : Weights) : Type 0 where
   pub denominator : w.log2_denominator ≤ 7
   pub list0 : IsWeight w.list0
   pub list1 : IsWeight w.list1
 
+-- those of a component
 abbrev pub IsWeighting : Weighting → Type 0
 IsWeighting Default = Unit {0}
 IsWeighting (Explicit w) = IsWeights w

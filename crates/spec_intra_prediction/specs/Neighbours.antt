@@ -3,6 +3,7 @@
 use Rattle.std.specs.Prelude.{ℕ, ◌+◌, ◌-◌, ◌*◌, Option, nat_le, List, map, drop, slice_index_or, if◌then◌else◌}
 use Rattle.std.specs.List.{range_with_len}
 
+-- a sample of a list by its number
 abbrev pub at : List ℕ → ℕ → ℕ
 at samples k = slice_index_or samples k 0
 

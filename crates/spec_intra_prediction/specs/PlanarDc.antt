@@ -26,5 +26,6 @@ levelled edges n p mean x y =
     else (if x == 0 then (left_at n p y + 3 * mean + 2) / 4 else mean))
     else mean
 
+-- the sample at (x, y) of DC prediction
 unfoldable pub dc : Bool → ℕ → List ℕ → ℕ → ℕ → ℕ
 dc edges log2 p x y = levelled edges (2 ^ log2) p (mean_beside log2 p) x y

@@ -25,6 +25,7 @@ smoothed_at p k =
     if k == 0 then at p k
     else (if k + 1 == length p then at p k else (at p (k - 1) + 2 * at p k + at p (k + 1) + 2) / 4)
 
+-- the neighbours behind the filter of three samples
 unfoldable pub smoothed : List ℕ → List ℕ
 smoothed p = map (smoothed_at p) (range_with_len 0 (length p))
 
@@ -45,6 +46,7 @@ straight_at p k =
     then ((64 - k) * at p 0 + k * at p 64 + 32) / 64
     else ((128 - k) * at p 64 + (k - 64) * at p 128 + 32) / 64
 
+-- the neighbours on straight lines between corner and ends (strong_intra_smoothing)
 unfoldable pub straightened : List ℕ → List ℕ
 straightened p = map (straight_at p) (range_with_len 0 129)
 

@@ -29,12 +29,15 @@ luma_samples c = if c == 0 then 1 else 2
 abbrev pub width_of : FilterFormat → ℕ → ℕ
 width_of format c = format.width / luma_samples c
 
+-- the lines of a component
 abbrev pub height_of : FilterFormat → ℕ → ℕ
 height_of format c = format.height / luma_samples c
 
+-- the columns of its coding tree blocks
 abbrev pub size_of : FilterFormat → ℕ → ℕ
 size_of format c = format.ctb_size / luma_samples c
 
+-- its bit depth
 abbrev pub depth_of : FilterFormat → ℕ → ℕ
 depth_of format c = if c == 0 then format.luma_depth else format.chroma_depth
 

@@ -53,6 +53,7 @@ pub data Told : Type 0 where
   Broken : Fault → Told
   Met : Limit → Told
 
+-- a rule that unit n breaks
 abbrev pub broken : FaultKind → ℕ → Told
 broken kind n = Broken (record { kind = kind; nal = n; ctu = None })
 

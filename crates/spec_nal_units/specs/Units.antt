@@ -36,6 +36,7 @@ unit_to ended bs (Some n) = Raw (take n bs) ∷ []
 unit_to true bs None = Raw (trimmed bs) ∷ []
 unit_to false bs None = []
 
+-- what stands where a unit begins
 abbrev pub unit_at : Bool → List ℕ → List Part
 unit_at ended bs = unit_to ended bs (unit_end bs)
 

@@ -23,6 +23,7 @@ abbrev pub HasPlaces : List DpbPicture → Option ℕ → Type 0
 HasPlaces pictures None = length pictures ≤ 16
 HasPlaces pictures (Some reorder) = length pictures ≤ 15
 
+-- nothing goes out behind the picture
 abbrev pub before_only : Bumped → Outputs
 before_only b = record { before = b.out; behind = []; kept = kept_from 0 b.left; dpb = filter is_kept b.left }
 

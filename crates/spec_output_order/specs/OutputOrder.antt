@@ -12,6 +12,7 @@ use Rattle.spec_output_order.specs.declared.current_picture.CurrentPicture.{Curr
 use Rattle.spec_output_order.specs.declared.next_output.NextOutput.{NextOutput}
 use Rattle.plan_types.specs.declared.outputs.Outputs.{Outputs}
 
+-- whether a picture waits
 abbrev pub is_needed_for_output : DpbPicture → Bool
 is_needed_for_output p = p.needed_for_output
 
@@ -32,6 +33,7 @@ is_full_of_references anew ordering marks = not anew && nat_le (size_of ordering
 abbrev pub marked : DpbPicture → Mark → DpbPicture
 marked p m = record (p) { mark = m }
 
+-- the marks of the current picture's reference picture set; a picture without one is unused
 abbrev pub all_marked : List DpbPicture → List Mark → List DpbPicture
 all_marked [] marks = []
 all_marked (p ∷ pictures) [] = marked p mark.Unused ∷ all_marked pictures []
@@ -54,6 +56,7 @@ next_output (p ∷ pictures) = sooner p (next_output pictures)
 abbrev pub not_needed : DpbPicture → DpbPicture
 not_needed p = record (p) { needed_for_output = false }
 
+-- the picture at a place has gone out
 abbrev pub not_needed_at : List DpbPicture → ℕ → List DpbPicture
 not_needed_at pictures place = slice_set pictures place (not_needed (slice_index_or pictures place no_picture))
 
@@ -63,6 +66,7 @@ abbrev pub is_full : Option ℕ → List DpbPicture → Bool
 is_full None pictures = false
 is_full (Some size) pictures = nat_le size (count_by is_kept pictures)
 
+-- whether more wait than may be reordered, or no place is free (C.5.2.2, C.5.2.3)
 unfoldable pub needs_bumping : ℕ → Option ℕ → List DpbPicture → Bool
 needs_bumping reorder size pictures = nat_lt reorder (count_by is_needed_for_output pictures) || is_full size pictures
 
@@ -71,12 +75,15 @@ pub record Bumped : Type 0 where
   pub out : List ℕ
   pub left : List DpbPicture
 
+-- no picture goes out
 abbrev pub none_out : List DpbPicture → Bumped
 none_out pictures = record { out = []; left = pictures }
 
+-- one goes out before others
 abbrev pub one_out : ℕ → Bumped → Bumped
 one_out place b = record (b) { out = place ∷ b.out }
 
+-- the next one goes out, where there is one, and the rest behind it
 abbrev pub next_from : List DpbPicture → Option NextOutput → (List DpbPicture → Bumped) → Bumped
 next_from pictures None rest = none_out pictures
 next_from pictures (Some n) rest = one_out n.place (rest (not_needed_at pictures n.place))
@@ -115,6 +122,7 @@ newest poc pic_output_flag = record { poc = poc; mark = mark.Short; needed_for_o
 abbrev pub entered : CurrentPicture → List DpbPicture → List DpbPicture
 entered current pictures = pictures ++ newest current.poc current.pic_output_flag ∷ []
 
+-- what goes out once the current picture stands in the buffer (C.5.2.3)
 unfoldable pub ended : CurrentPicture → List DpbPicture → Bumped
 ended current pictures = bumped current.ordering.max_num_reorder_pics None (entered current pictures)
 
@@ -124,9 +132,11 @@ kept_from place [] = []
 kept_from place (p ∷ pictures) =
     if is_kept p then place ∷ kept_from (suc place) pictures else kept_from (suc place) pictures
 
+-- what goes out before the current picture and behind it
 abbrev pub outputs_by : List ℕ → Bumped → Outputs
 outputs_by before b = record { before = before; behind = b.out; kept = kept_from 0 b.left; dpb = filter is_kept b.left }
 
+-- the second from the buffer that the first leaves
 abbrev pub outputs_from : CurrentPicture → Bumped → Outputs
 outputs_from current b = outputs_by b.out (ended current b.left)
 

@@ -9,6 +9,7 @@ use Rattle.spec_output_order.specs.declared.current_picture.CurrentPicture.{Curr
 use Rattle.spec_output_order.specs.OutputOrder.{NoneNeededForOutput, needs_bumping, not_needed_at}
 use Rattle.plan_types.specs.declared.outputs.Outputs.{Outputs}
 
+-- the picture at a place
 abbrev pub picture_at : List DpbPicture → ℕ → DpbPicture
 picture_at pictures place = slice_index_or pictures place no_picture
 

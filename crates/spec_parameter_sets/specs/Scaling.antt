@@ -97,6 +97,7 @@ lists_behind size (suc n) former = do
 unfoldable pub lists_of : ℕ → Header (List ScalingList)
 lists_of size = lists_behind size (list_count size) []
 
+-- the lists of all four sizes (7.3.4)
 unfoldable pub scaling_list_data : Header ScalingLists
 scaling_list_data = do
   of_4x4 ← lists_of 0

@@ -17,6 +17,7 @@ no_samples c x y = 0
 abbrev pub width_of : PictureShape → ℕ → ℕ
 width_of picture c = samples_of_place c * picture.across
 
+-- the lines of a component
 abbrev pub height_of : PictureShape → ℕ → ℕ
 height_of picture c = samples_of_place c * picture.down
 
@@ -28,6 +29,7 @@ unit_side picture c = samples_of_place c * 2 ^ picture.size
 abbrev pub unit_column : PictureShape → ℕ → ℕ → ℕ
 unit_column picture c address = unit_side picture c * column_of picture address
 
+-- the first line of a unit in a component
 abbrev pub unit_line : PictureShape → ℕ → ℕ → ℕ
 unit_line picture c address = unit_side picture c * row_of picture address
 

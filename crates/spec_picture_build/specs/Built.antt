@@ -71,6 +71,7 @@ unit_added buffer p s unit built = record {
   motions = motion.unit_added (motions_of buffer) p s unit built.motions;
 }
 
+-- a unit more of a segment, where the plan has it
 abbrev pub added_in : List DecodedPicture → PicturePlan → Option SegmentPlan → TreeUnit → BuiltPicture → BuiltPicture
 added_in buffer p None unit built = built
 added_in buffer p (Some s) unit built = unit_added buffer p s unit built
@@ -83,6 +84,7 @@ with_unit buffer p built unit = added_in buffer p (slice_get p.segments unit.seg
 unfoldable pub units_built : List DecodedPicture → PicturePlan → List TreeUnit → BuiltPicture
 units_built buffer p units = fold (with_unit buffer p) no_picture units
 
+-- the picture of the units that were read, or what its data break
 abbrev pub built_of : List DecodedPicture → PicturePlan → Result Progress Halt → Result BuiltPicture PictureBroken
 built_of buffer p (Ok progress) = Ok (units_built buffer p progress.given)
 built_of buffer p (Err halt) = Err halt.broken

@@ -8,6 +8,7 @@ use Rattle.spec_picture_trees.specs.Shapes.{pcm_syntax}
 use Rattle.spec_reconstruction.specs.declared.format.UnitFormat.{UnitFormat}
 use Rattle.spec_reconstruction.specs.Factors.{scaling_factors}
 
+-- what the samples of a slice's units depend on
 unfoldable pub unit_format : SpsFields → PpsFields → SliceFields → UnitFormat
 unit_format sps pps slice = record {
   luma_depth = 8 + sps.format.bit_depth_luma_minus8;

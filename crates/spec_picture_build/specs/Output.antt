@@ -1,5 +1,5 @@
 -- A picture as it is put out: the planes Y, Cb and Cr inside the conformance window, row after row, a byte a sample
--- (7.4.3.2, C.4).
+-- (7.4.3.2, C.5.2.4).
 use Rattle.std.specs.Prelude.{ℕ, ◌+◌, ◌*◌, ◌/◌, ◌%◌, ◌==◌, List, ◌++◌, map, Option, Some, None, if◌then◌else◌}
 use Rattle.std.specs.List.{concat, range_with_len}
 use Rattle.header_types.specs.declared.sps.ConformanceWindow.{ConformanceWindow}
@@ -19,6 +19,7 @@ abbrev pub luma_left : Option ConformanceWindow → ℕ
 luma_left None = 0
 luma_left (Some w) = 2 * w.conf_win_left_offset
 
+-- the lines above the window
 abbrev pub luma_top : Option ConformanceWindow → ℕ
 luma_top None = 0
 luma_top (Some w) = 2 * w.conf_win_top_offset
@@ -27,6 +28,7 @@ luma_top (Some w) = 2 * w.conf_win_top_offset
 abbrev pub luma_samples : ℕ → ℕ
 luma_samples c = if c == 0 then 1 else 2
 
+-- the window of a component, in its own samples
 unfoldable pub window_of : PictureFormat → ℕ → Window
 window_of format c = record {
   left = luma_left format.conformance_window / luma_samples c;
@@ -44,6 +46,7 @@ abbrev pub row_bytes : Samples → ℕ → Window → ℕ → List ℕ
 row_bytes samples c w row =
     map (λ column. byte_of (samples c (w.left + column) (w.top + row))) (range_with_len 0 w.width)
 
+-- the bytes of a component, row by row
 unfoldable pub plane_bytes : Samples → ℕ → Window → List ℕ
 plane_bytes samples c w = concat (map (row_bytes samples c w) (range_with_len 0 w.height))
 

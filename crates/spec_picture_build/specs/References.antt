@@ -17,6 +17,7 @@ pub record DecodedPicture : Type 0 where
 abbrev pub format_width : PictureFormat → ℕ → ℕ
 format_width format c = if c == 0 then format.pic_width_in_luma_samples else format.pic_width_in_luma_samples / 2
 
+-- the lines of a component
 abbrev pub format_height : PictureFormat → ℕ → ℕ
 format_height format c = if c == 0 then format.pic_height_in_luma_samples else format.pic_height_in_luma_samples / 2
 
@@ -42,5 +43,6 @@ abbrev pub motions_in : Option DecodedPicture → Motions
 motions_in None = no_motions
 motions_in (Some p) = p.motions
 
+-- the motion of the pictures of the buffer, by place
 abbrev pub motions_of : List DecodedPicture → References
 motions_of buffer place = motions_in (slice_get buffer place)

@@ -21,6 +21,7 @@ use Rattle.spec_inter_prediction.specs.Tables.{no_weights}
 abbrev pub luma_denominator : PredWeightTable → ℕ
 luma_denominator t = min t.luma_log2_weight_denom 7
 
+-- ChromaLog2WeightDenom (7.4.7.3)
 abbrev pub chroma_denominator : PredWeightTable → ℕ
 chroma_denominator t =
     clip3_from_zero 7 (pos t.luma_log2_weight_denom +ℤ t.delta_chroma_log2_weight_denom)
@@ -40,16 +41,19 @@ abbrev pub chroma_offset : ℕ → ℤ → ℤ → ℤ
 chroma_offset denominator weight delta =
     clip3 (negsuc 127) (pos 127) (pos 128 +ℤ delta -ℤ int_shr (pos 128 *ℤ weight) denominator)
 
+-- ChromaWeightLX and ChromaOffsetLX
 abbrev pub chroma_weight : ℕ → ChromaWeight → Weight
 chroma_weight denominator w = record {
   weight = weight_by denominator w.delta_chroma_weight;
   offset = chroma_offset denominator (weight_by denominator w.delta_chroma_weight) w.delta_chroma_offset;
 }
 
+-- those of Cb; where they aren't coded the weight is 1 and the offset 0
 abbrev pub cb_weight : ℕ → Option (ChromaWeight × ChromaWeight) → Weight
 cb_weight denominator None = record { weight = weight_by denominator (pos 0); offset = pos 0 }
 cb_weight denominator (Some w) = chroma_weight denominator w.0
 
+-- those of Cr
 abbrev pub cr_weight : ℕ → Option (ChromaWeight × ChromaWeight) → Weight
 cr_weight denominator None = record { weight = weight_by denominator (pos 0); offset = pos 0 }
 cr_weight denominator (Some w) = chroma_weight denominator w.1
@@ -75,6 +79,7 @@ weights_at luma chroma list i =
 unfoldable pub weights_in : ℕ → ℕ → List RefWeights → List ReferenceWeights
 weights_in luma chroma list = map (weights_at luma chroma list) (range_with_len 0 16)
 
+-- the weights of all entries of both lists
 unfoldable pub weight_table : PredWeightTable → WeightTable
 weight_table t = record {
   luma_log2_denominator = luma_denominator t;
@@ -83,6 +88,7 @@ weight_table t = record {
   list_1 = weights_in (luma_denominator t) (chroma_denominator t) t.l1;
 }
 
+-- explicit weights, where the header has them
 abbrev pub weighting_by : Option PredWeightTable → SliceWeighting
 weighting_by None = Default
 weighting_by (Some t) = Explicit (weight_table t)

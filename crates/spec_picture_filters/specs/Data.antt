@@ -22,6 +22,7 @@ no_place = record {
   slice_tc_offset_div2 = pos 0;
 }
 
+-- a unit that isn't read
 abbrev pub no_unit : OffsetUnit
 no_unit = record { offset = Off; slice = 0; across = true }
 

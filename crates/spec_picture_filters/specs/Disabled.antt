@@ -8,6 +8,7 @@ use Rattle.spec_slice_data.specs.Offset.{no_sao}
 abbrev pub IsDisabled : SegmentPlan → Type 0
 IsDisabled s = s.header.slice.deblocking.slice_deblocking_filter_disabled_flag ≡ true
 
+-- all segments are such
 abbrev pub AreDisabled : List SegmentPlan → Type 0
 AreDisabled segments = All IsDisabled segments
 

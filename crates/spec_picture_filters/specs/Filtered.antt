@@ -17,9 +17,11 @@ pub record Behind : Type 0 where
   pub motions : Motions
   pub gathered : FilterData
 
+-- motion and data behind a unit more
 unfoldable pub both_added : PicturePlan → SegmentPlan → TreeUnit → Motions → FilterData → Behind
 both_added p s unit motions gathered = record { motions = motions; gathered = unit_added p s unit motions gathered }
 
+-- the same of a segment, where the plan has it
 abbrev pub added_in : References → PicturePlan → Option SegmentPlan → TreeUnit → Behind → Behind
 added_in pictures p None unit behind = behind
 added_in pictures p (Some s) unit behind =
@@ -29,9 +31,11 @@ added_in pictures p (Some s) unit behind =
 abbrev pub with_unit : References → PicturePlan → Behind → TreeUnit → Behind
 with_unit pictures p behind unit = added_in pictures p (slice_get p.segments unit.segment) unit behind
 
+-- before the first unit
 abbrev pub before_units : Behind
 before_units = record { motions = no_motions; gathered = no_data }
 
+-- behind all units
 unfoldable pub units_behind : References → PicturePlan → List TreeUnit → Behind
 units_behind pictures p units = fold (with_unit pictures p) before_units units
 

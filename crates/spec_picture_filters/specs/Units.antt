@@ -38,11 +38,12 @@ is_across s = s.header.slice.slice_loop_filter_across_slices_enabled_flag
 abbrev pub is_reached : PicturePlan → SegmentPlan → ℕ → Bool
 is_reached p s before = is_from (slice_address p s) before || is_across s
 
--- whether the left side of the unit at an address is filtered, and its top: filterEdgeFlag (8.7.2.3)
+-- whether the left side of the unit at an address is filtered, and its top: filterEdgeFlag (8.7.2.1)
 unfoldable pub is_left_filtered : PicturePlan → SegmentPlan → ℕ → Bool
 is_left_filtered p s address =
     nat_lt 0 (column_of (picture_shape p.sps p.pps) address) && is_reached p s (address - 1)
 
+-- that of its top
 unfoldable pub is_top_filtered : PicturePlan → SegmentPlan → ℕ → Bool
 is_top_filtered p s address =
     nat_le (picture_shape p.sps p.pps).width address && is_reached p s (address - (picture_shape p.sps p.pps).width)
@@ -54,6 +55,7 @@ motion_near picture address motions column row =
     then motions (first_column picture address + column - 1) (first_row picture address + row - 1)
     else None
 
+-- whether a place beside the unit is coded
 unfoldable pub coded_near : PictureShape → ℕ → (ℕ → ℕ → Bool) → ℕ → ℕ → Bool
 coded_near picture address coded column row =
     if is_there picture address column row
@@ -114,6 +116,7 @@ coded_laid picture address read coded x y =
 abbrev pub offset_of : Sao → ℕ → ComponentOffset
 offset_of sao c = if c == 0 then sao.luma else (if c == 1 then sao.cb else sao.cr)
 
+-- what sample adaptive offset asks of a unit's component
 abbrev pub unit_read : PicturePlan → SegmentPlan → Sao → ℕ → OffsetUnit
 unit_read p s sao c = record { offset = offset_of sao c; slice = slice_address p s; across = is_across s }
 

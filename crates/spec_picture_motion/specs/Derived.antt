@@ -37,6 +37,7 @@ unit_added pictures p s unit motions =
     unit_laid (picture_shape p.sps p.pps) unit.ctu (slice_motion p s unit.ctu)
     (known_of_unit pictures p s unit motions) motions
 
+-- the motion behind a unit more of a segment, where the plan has it
 abbrev pub added_in : References → PicturePlan → Option SegmentPlan → TreeUnit → Motions → Motions
 added_in pictures p None unit motions = motions
 added_in pictures p (Some s) unit motions = unit_added pictures p s unit motions

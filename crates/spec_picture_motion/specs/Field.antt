@@ -1,5 +1,5 @@
 -- The motion of a picture by place, what of it is known beside a coding tree unit (6.4.1, 6.4.2), and what a later
--- picture takes of it (8.5.3.2.8). A place is a block of 4x4 luma samples.
+-- picture takes of it (8.5.3.2.9). A place is a block of 4x4 luma samples.
 use Rattle.std.specs.Prelude.{ℕ, ◌+◌, ◌-◌, ◌*◌, ◌==◌, ◌&&◌, ◌||◌, nat_le, nat_lt, Bool, Option, Some, None}
 use Rattle.std.specs.Prelude.{if◌then◌else◌}
 use Rattle.spec_motion.specs.declared.collocation.Collocated.{Collocated}
@@ -27,6 +27,7 @@ abbrev pub vector_of : Option PlaceVector → Option Vector
 vector_of None = None
 vector_of (Some v) = Some v.vector
 
+-- the motion of a place as units beside it take it
 abbrev pub motion_of : Option PlaceMotion → Option Motion
 motion_of None = None
 motion_of (Some place) = Some (record { list_0 = vector_of place.list_0; list_1 = vector_of place.list_1 })
@@ -57,6 +58,7 @@ collocated_vector None = None
 collocated_vector (Some v) =
     Some (record { mv = v.vector.mv; order = v.reference.order; long_term = v.reference.long_term })
 
+-- the motion of a place as later pictures take it
 abbrev pub collocated_of : Option PlaceMotion → Option Collocated
 collocated_of None = None
 collocated_of (Some place) =
@@ -75,6 +77,7 @@ abbrev pub pointing_vector : SliceMotion → ℕ → Option Vector → Option Pl
 pointing_vector slice list None = None
 pointing_vector slice list (Some v) = Some (record { vector = v; reference = reference_in slice list v.ref_idx })
 
+-- motion with the pictures that it refers to
 abbrev pub pointing_motion : SliceMotion → Option Motion → Option PlaceMotion
 pointing_motion slice None = None
 pointing_motion slice (Some motion) =

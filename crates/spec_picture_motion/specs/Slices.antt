@@ -33,14 +33,17 @@ reference_at entries i =
 unfoldable pub references : List RefEntry → List Reference
 references entries = map (reference_at entries) (range_with_len 0 16)
 
+-- RefPicList0
 abbrev pub entries_0 : Option Lists → List RefEntry
 entries_0 None = []
 entries_0 (Some lists) = lists.l0
 
+-- RefPicList1
 abbrev pub entries_1 : Option Lists → List RefEntry
 entries_1 None = []
 entries_1 (Some lists) = lists.l1
 
+-- whether a slice is a B slice
 abbrev pub is_bi_predictive : SliceType → Bool
 is_bi_predictive slice_type.B = true
 is_bi_predictive slice_type.P = false
@@ -56,6 +59,7 @@ max_candidates (Some fields) = 5 - fields.five_minus_max_num_merge_cand
 abbrev pub log2_parallel : PpsFields → ℕ
 log2_parallel pps = min (pps.log2_parallel_merge_level_minus2 + 2) 6
 
+-- what a header says of the collocated picture
 abbrev pub collocation_of : InterFields → Option Collocated
 collocation_of fields = fields.collocated
 
@@ -63,21 +67,25 @@ collocation_of fields = fields.collocated
 abbrev pub collocation : SliceFields → Option Collocated
 collocation slice = if slice.slice_temporal_mvp_enabled_flag then option_and_then collocation_of slice.inter else None
 
--- the collocated picture of a slice (8.5.3.2.7)
+-- the collocated picture of a slice (8.5.3.2.8)
 abbrev pub entry_named : List RefEntry → List RefEntry → Collocated → Option RefEntry
 entry_named l0 l1 c = slice_get (if c.collocated_from_l0_flag then l0 else l1) c.collocated_ref_idx
 
+-- the entry of the list that it names, where there is one
 unfoldable pub collocated_entry : SliceFields → Option Lists → Option RefEntry
 collocated_entry slice lists = option_and_then (entry_named (entries_0 lists) (entries_1 lists)) (collocation slice)
 
+-- whether there is one
 abbrev pub is_there : Option RefEntry → Bool
 is_there None = false
 is_there (Some entry) = true
 
+-- its PicOrderCntVal
 abbrev pub order_of : Option RefEntry → ℤ
 order_of None = pos 0
 order_of (Some entry) = entry.poc
 
+-- collocated_from_l0_flag, 1 where it isn't coded
 abbrev pub is_from_list_0 : Option Collocated → Bool
 is_from_list_0 None = true
 is_from_list_0 (Some c) = c.collocated_from_l0_flag

@@ -27,6 +27,7 @@ entry_points_fit width end s =
     (length s.header.entry_points == row_before width end - address_of s / width)
     && nat_lt (sum s.header.entry_points) (data_size s.payload s.removed s.header.data_place)
 
+-- a rule that a segment breaks
 abbrev pub broken_at : FaultKind → SegmentPlan → Option Fault
 broken_at kind s = Some (record { kind = kind; nal = s.header.nal; ctu = None })
 
@@ -42,6 +43,7 @@ segment_breaks width start end s =
     else (if not (entry_points_fit width end s) then broken_at rule.EntryPoints s
     else None)
 
+-- the earlier of two breaks
 abbrev pub or_later : Option Fault → Option Fault → Option Fault
 or_later None later = later
 or_later (Some f) later = Some f
@@ -66,6 +68,7 @@ abbrev pub is_buffer_full : PicturePlan → Bool
 is_buffer_full p =
     is_full_of_references (begins_anew p.kind) (highest_ordering p.sps.order.sub_layer_ordering) p.rps.marks
 
+-- a picture that finds no place in the buffer
 abbrev pub full_at : PicturePlan → Option Fault
 full_at p = if is_buffer_full p then Some (record { kind = rule.DpbFull; nal = p.nal; ctu = None }) else None
 

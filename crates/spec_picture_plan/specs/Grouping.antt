@@ -17,6 +17,7 @@ use Rattle.spec_picture_plan.specs.Planned.{Planned}
 abbrev pub is_decoded : Between → NalUnit → Bool
 is_decoded s u = not (nat_lt 0 u.layer) && (is_slice u.nal_type && not (is_rasl u.nal_type && s.drops_rasl))
 
+-- a unit that is told, where it is decoded
 abbrev pub decoded_unit : Between → Told → List NalUnit
 decoded_unit s (Told.Whole u) = if is_decoded s u then u ∷ [] else []
 decoded_unit s (Told.Broken f) = []

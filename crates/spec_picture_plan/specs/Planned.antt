@@ -15,6 +15,7 @@ pub record Planned : Type 0 where
   pub last : List ℕ
   pub stop : Option Stop
 
+-- what ended planning
 abbrev pub stop_of : Result Between Stop → Option Stop
 stop_of (Ok s) = None
 stop_of (Err e) = Some e
@@ -24,6 +25,7 @@ abbrev pub last_of : Result Between Stop → List ℕ
 last_of (Ok s) = last_outputs s.former.dpb
 last_of (Err e) = []
 
+-- what a last step gives
 abbrev pub at_end : Stepped → Planned
 at_end t = record { pictures = t.closed; last = last_of t.next; stop = stop_of t.next }
 
@@ -32,6 +34,7 @@ abbrev pub planned_end : Bool → Between → Planned
 planned_end true s = at_end (close s)
 planned_end false s = record { pictures = []; last = []; stop = None }
 
+-- pictures that closed, before those that follow
 abbrev pub behind_closed : List PicturePlan → Planned → Planned
 behind_closed closed p = record { pictures = closed ++ p.pictures; last = p.last; stop = p.stop }
 

@@ -59,10 +59,12 @@ behind_read nal (Ok x) f = Ok (f x)
 abbrev pub behind : Between → PicturePlan → Between
 behind s p = record { sets = s.sets; former = former_after s.former p; drops_rasl = s.drops_rasl; picture = None }
 
+-- a picture closes, or breaks a rule at its closing
 abbrev pub closed_by : Between → PicturePlan → Option Fault → Stepped
 closed_by s p None = record { closed = p ∷ []; next = Ok (behind s p) }
 closed_by s p (Some f) = record { closed = []; next = Err (stop.Fault f) }
 
+-- the open picture closes, where there is one
 abbrev pub closed_open : Between → Option PicturePlan → Stepped
 closed_open s None = record { closed = []; next = Ok s }
 closed_open s (Some p) = closed_by s p (broken_at_closing p)
@@ -76,6 +78,7 @@ abbrev pub then_next : List PicturePlan → Result Between Stop → (Between →
 then_next closed (Err e) f = record { closed = closed; next = Err e }
 then_next closed (Ok s) f = record { closed = closed; next = f s }
 
+-- the open picture closes, and then a unit is read
 abbrev pub closing : Between → (Between → Result Between Stop) → Stepped
 closing s f = then_next (close s).closed (close s).next f
 
@@ -85,6 +88,7 @@ put_sps s sps = record s {
   sets = record s.sets { sps = slice_set s.sets.sps sps.identity.sps_seq_parameter_set_id (Some sps) };
 }
 
+-- a picture parameter set replaces that of its number
 abbrev pub put_pps : Between → PpsFields → Between
 put_pps s pps = record s {
   sets = record s.sets { pps = slice_set s.sets.pps pps.identity.pps_pic_parameter_set_id (Some pps) };
@@ -148,11 +152,13 @@ with_set dpb u header n poc (Ok rps) = Ok (record {
   hashes = [];
 })
 
+-- a picture with its order count, or the rule that this breaks
 abbrev pub with_order : Former → NalUnit → SliceHeaderFields → Named → Result ℤ FaultKind → Result PicturePlan Breach
 with_order former u header n (Err kind) = Err (breach.Fault kind)
 with_order former u header n (Ok poc) =
     with_set former.dpb u header n poc (reference_picture_set header.kind header.slice.references poc former.dpb)
 
+-- a picture by the sets that its header names
 abbrev pub with_sets : Former → NalUnit → SliceHeaderFields → Option Named → Result PicturePlan Breach
 with_sets former u header None = Err (breach.Fault rule.MissingSet)
 with_sets former u header (Some n) =
@@ -175,6 +181,7 @@ begun s p = record s { drops_rasl = drops_after s.drops_rasl p.kind; picture = S
 abbrev pub continued : Between → PicturePlan → Between
 continued s p = record s { picture = Some p }
 
+-- a segment more of a picture
 abbrev pub with_segment : List DpbPicture → NalUnit → SliceHeaderFields → PicturePlan → PicturePlan
 with_segment dpb u header p = record p { segments = p.segments ++ segment_of p.segments dpb p.rps u header ∷ [] }
 
@@ -188,6 +195,7 @@ judged_header sets former segments u =
     else (if nat_le 4096 (length segments) then Err (breach.Limit bound.Segments)
     else slice_header_of (context_of sets former segments u) u.payload))
 
+-- a picture opens by its first header
 abbrev pub opened_by : Sets → Former → NalUnit → Result SliceHeaderFields Breach → Result PicturePlan Breach
 opened_by sets former u (Err e) = Err e
 opened_by sets former u (Ok header) = picture_of sets former u header
@@ -196,6 +204,7 @@ opened_by sets former u (Ok header) = picture_of sets former u header
 unfoldable pub opening : Sets → Former → NalUnit → Result PicturePlan Breach
 opening sets former u = opened_by sets former u (judged_header sets former [] u)
 
+-- a picture goes on by a later header
 abbrev pub continued_by : Former → NalUnit → PicturePlan → Result SliceHeaderFields Breach → Result PicturePlan Breach
 continued_by former u p (Err e) = Err e
 continued_by former u p (Ok header) = Ok (with_segment former.dpb u header p)
@@ -204,6 +213,7 @@ continued_by former u p (Ok header) = Ok (with_segment former.dpb u header p)
 unfoldable pub continuing : Sets → Former → NalUnit → PicturePlan → Result PicturePlan Breach
 continuing sets former u p = continued_by former u p (judged_header sets former p.segments u)
 
+-- a slice segment opens a picture, or goes on with the open one
 abbrev pub joined : NalUnit → Between → Option PicturePlan → Result Between Stop
 joined u s None = behind_read u.index (opening s.sets s.former u) (begun s)
 joined u s (Some p) = behind_read u.index (continuing s.sets s.former u p) (continued s)
@@ -225,6 +235,7 @@ slice_step s u =
     else (if goes_on (first_flag (bits u.payload)) then record { closed = []; next = slice_judged u s }
     else closing s (slice_judged u))
 
+-- a unit by its kind
 abbrev pub kind_step : Between → NalUnit → UnitKind → Stepped
 kind_step s u unit.Slice = slice_step s u
 kind_step s u unit.SequenceSet = closing s (λ t. behind_read u.index (sequence_parameter_set_of u.payload) (put_sps t))

@@ -11,6 +11,7 @@ use Rattle.spec_picture_plan.specs.declared.unit_kind.UnitKind.TheVariants.{Bord
 abbrev pub is_slice : ℕ → Bool
 is_slice nal_type = nat_le nal_type RASL_R || (nat_le BLA_W_LP nal_type && nat_le nal_type CRA_NUT)
 
+-- the kind of a unit by nal_unit_type (Table 7-1)
 unfoldable pub kind_of_type : ℕ → UnitKind
 kind_of_type nal_type =
     if is_slice nal_type then Slice
@@ -24,6 +25,7 @@ kind_of_type nal_type =
 abbrev pub is_rasl : ℕ → Bool
 is_rasl nal_type = (nal_type == RASL_N) || (nal_type == RASL_R)
 
+-- RADL pictures
 abbrev pub is_radl : ℕ → Bool
 is_radl nal_type = (nal_type == RADL_N) || (nal_type == RADL_R)
 

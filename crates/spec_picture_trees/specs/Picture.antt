@@ -28,9 +28,11 @@ pub record PictureBroken : Type 0 where
   pub nal : ℕ
   pub ctu : ℕ
 
+-- what breaks in a segment, with its NAL unit
 abbrev pub in_unit : ℕ → Broken → PictureBroken
 in_unit nal broken = record { breach = broken.breach; nal = nal; ctu = broken.ctu }
 
+-- reading goes on with the next segment
 abbrev pub then_segments : ℕ → Result Between Broken → (Between → Result Between PictureBroken)
     → Result Between PictureBroken
 then_segments nal (Err e) next = Err (in_unit nal e)
@@ -73,6 +75,7 @@ pub record SegmentAt : Type 0 where
   pub picture : PictureShape
   pub shape : SegmentShape
 
+-- a segment with its number and what its data are read by
 abbrev pub segment_at : PicturePlan → ℕ → ℕ → SegmentPlan → List SegmentPlan → SegmentAt
 segment_at p number first s later = record {
   number = number;
@@ -82,12 +85,15 @@ segment_at p number first s later = record {
   shape = segment_shape p s first (end_of (size_in_ctbs p.sps) first later);
 }
 
+-- a unit that was read, as it is handed over
 abbrev pub unit_given : SegmentAt → ℕ → Between → TreeUnit
 unit_given at ctu between = record { segment = at.number; ctu = ctu; read = unit_of at.picture between ctu }
 
+-- a unit more
 abbrev pub with_unit : SegmentAt → ℕ → List TreeUnit → Between → Progress
 with_unit at ctu given between = record { between = between; given = given ++ unit_given at ctu between ∷ [] }
 
+-- reading goes on with the next unit
 abbrev pub then_units : SegmentAt → ℕ → List TreeUnit → Result Between Breach → (Progress → Result Progress Halt)
     → Result Progress Halt
 then_units at ctu given (Err e) next =
@@ -101,9 +107,11 @@ units_read at (suc n) place progress =
     then_units at (ctb_scan place) progress.given
     (unit_step at.syntax at.picture at.shape (ctb_scan place) progress.between) (units_read at n (place + 1))
 
+-- the units of a segment
 abbrev pub segment_read : SegmentAt → Progress → Result Progress Halt
 segment_read at progress = units_read at at.shape.count at.shape.first progress
 
+-- the segments behind it
 abbrev pub and_segments : Result Progress Halt → (Progress → Result Progress Halt) → Result Progress Halt
 and_segments (Err e) next = Err e
 and_segments (Ok progress) next = next progress

@@ -8,9 +8,11 @@ use Rattle.spec_slice_data.specs.Segment.{PictureShape, column_of, row_of}
 abbrev pub unit_places : PictureShape → ℕ
 unit_places picture = 2 ^ picture.size
 
+-- the column of a unit's first place
 abbrev pub first_column : PictureShape → ℕ → ℕ
 first_column picture address = unit_places picture * column_of picture address
 
+-- the row of its first place
 abbrev pub first_row : PictureShape → ℕ → ℕ
 first_row picture address = unit_places picture * row_of picture address
 

@@ -27,6 +27,7 @@ use Rattle.spec_slice_data.specs.Segment.{PictureShape, SegmentShape}
 abbrev pub in_places : ℕ → ℕ
 in_places log2 = log2 - 2
 
+-- the sizes of a picture, in coding tree units and in places
 unfoldable pub picture_shape : SpsFields → PpsFields → PictureShape
 picture_shape sps pps = record {
   width = width_in_ctbs sps;
@@ -82,6 +83,7 @@ inter_syntax sps kind (Some fields) = record {
 abbrev pub init_type_of : Bool → Bool → ℕ
 init_type_of of_b cabac_init = if of_b then (if cabac_init then 1 else 2) else (if cabac_init then 2 else 1)
 
+-- initType of a slice (9.3.2.2)
 unfoldable pub init_type : SliceType → Option InterFields → ℕ
 init_type kind None = 0
 init_type kind (Some fields) = init_type_of (is_b kind) fields.cabac_init_flag
@@ -109,6 +111,7 @@ slice_syntax sps pps fields = record {
   lower = 0;
 }
 
+-- what the data of a segment are read by
 abbrev pub segment_syntax : PicturePlan → SegmentPlan → CtuSyntax
 segment_syntax p s = slice_syntax p.sps p.pps s.header.slice
 

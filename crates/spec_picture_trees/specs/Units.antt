@@ -31,5 +31,6 @@ picture_units p = units_between 0 (size_in_ctbs p.sps)
 abbrev pub addresses : List TreeUnit → List ℕ
 addresses units = map (λ unit. unit.ctu) units
 
+-- units by their segments' numbers and their addresses
 abbrev pub with_segments : List TreeUnit → List (ℕ × ℕ)
 with_segments units = map (λ unit. (unit.segment, unit.ctu)) units

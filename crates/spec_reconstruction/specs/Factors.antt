@@ -23,6 +23,7 @@ factor factors log2 c place = slice_index_or factors.by_place (first_factor log2
 abbrev pub matrix_of : Bool → ℕ → ℕ → ℕ
 matrix_of intra log2 c = if intra then c else (if log2 == 5 then c + 1 else c + 3)
 
+-- what stands where there is no list
 abbrev pub no_list : ScalingList
 no_list = record { factors = []; dc = 16 }
 
@@ -48,6 +49,7 @@ abbrev pub factors_in_rows : Option ScalingLists → Bool → ℕ → ℕ → Li
 factors_in_rows lists intra log2 c =
     map (λ k. scaling_factor lists intra log2 c (k % 2 ^ log2) (k / 2 ^ log2)) (range_with_len 0 (2 ^ log2 * 2 ^ log2))
 
+-- the factors of all blocks of a size, component after component
 abbrev pub factors_of_size : Option ScalingLists → Bool → ℕ → List ℕ
 factors_of_size lists intra log2 =
     factors_in_rows lists intra log2 0 ++ (factors_in_rows lists intra log2 1 ++ factors_in_rows lists intra log2 2)

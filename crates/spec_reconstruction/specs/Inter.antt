@@ -91,6 +91,7 @@ component_predicted format inter block motion c known =
     (samples_of_place c * inter.row + y))
     known
 
+-- a block by its motion, where it has one
 abbrev pub block_predicted_by : UnitFormat → InterUnit → Rectangle → Option Motion → Known → Known
 block_predicted_by format inter block None known = known
 block_predicted_by format inter block (Some motion) known =

@@ -1,5 +1,5 @@
 -- The samples that are known while a coding tree unit is built.
-use Rattle.std.specs.Prelude.{ℕ, ◌+◌, ◌-◌, ◌==◌, ◌&&◌, Bool, Option, Some, None, ℤ, pos, ◌+ℤ◌, if◌then◌else◌}
+use Rattle.std.specs.Prelude.{ℕ, ◌+◌, ◌-◌, ◌==◌, ◌&&◌, Option, Some, None, ℤ, pos, ◌+ℤ◌, if◌then◌else◌}
 use Rattle.spec_arithmetic.specs.Clipping.{clip1}
 use Rattle.ctu_records.specs.Places.{inside}
 

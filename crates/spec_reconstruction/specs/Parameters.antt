@@ -12,6 +12,7 @@ depth_of format c = if c == 0 then format.luma_depth else format.chroma_depth
 abbrev pub depth_offset : ℕ → ℕ
 depth_offset depth = 6 * (depth - 8)
 
+-- pps_cb_qp_offset + slice_cb_qp_offset, or those of Cr
 abbrev pub chroma_offset : UnitFormat → ℕ → ℤ
 chroma_offset format c = if c == 1 then format.cb_qp_offset else format.cr_qp_offset
 

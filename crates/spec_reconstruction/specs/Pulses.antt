@@ -1,24 +1,15 @@
 -- Samples by pulse code modulation (8.4.4.1, 7.4.9.7).
-use Rattle.std.specs.Prelude.{ℕ, ◌+◌, ◌-◌, ◌*◌, ◌/◌, ◌^◌, List, slice_index_or}
+use Rattle.std.specs.Prelude.{ℕ, ◌+◌, ◌-◌, ◌*◌, ◌^◌, List, slice_index_or}
 use Rattle.ctu_records.specs.declared.item.Item.{Item}
-use Rattle.ctu_records.specs.declared.item.Item.TheVariants.{Unit, Luma, Chroma, Prediction, Pcm, Sample, Transform}
-use Rattle.ctu_records.specs.declared.item.Item.TheVariants.{Delta, Block, Level}
+use Rattle.ctu_records.specs.declared.item.Item.TheVariants.{Sample}
 use Rattle.ctu_records.specs.declared.item.Square.{Square}
 use Rattle.spec_reconstruction.specs.declared.format.UnitFormat.{UnitFormat}
 use Rattle.spec_reconstruction.specs.Known.{Known, laid}
 
 -- the value of an item that is a sample
 abbrev pub sample_of : Item → ℕ
-sample_of (Unit unit) = 0
-sample_of (Luma luma) = 0
-sample_of (Chroma mode) = 0
-sample_of (Prediction unit) = 0
-sample_of (Pcm square) = 0
 sample_of (Sample value) = value
-sample_of (Transform unit) = 0
-sample_of (Delta delta) = 0
-sample_of (Block block) = 0
-sample_of (Level place value) = 0
+sample_of other = 0
 
 -- a square of such samples, row after row from a number on, shifted up to the bit depth
 abbrev pub shifted : ℕ → ℕ → List Item → ℕ → ℕ → ℕ → ℕ

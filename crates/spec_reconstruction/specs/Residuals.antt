@@ -1,10 +1,8 @@
 -- The residuals of a coded transform block (8.6.2).
-use Rattle.std.specs.Prelude.{ℕ, ◌+◌, ◌*◌, ◌^◌, ◌==◌, ◌&&◌, Bool, ℤ, pos, List, [], ◌∷◌, replicate, set, if◌then◌else◌}
+use Rattle.std.specs.Prelude.{ℕ, ◌+◌, ◌*◌, ◌^◌, ◌==◌, ◌&&◌, Bool, ℤ, pos, List, ◌∷◌, replicate, set, if◌then◌else◌}
 use Rattle.ctu_records.specs.declared.item.CodedBlock.{CodedBlock}
 use Rattle.ctu_records.specs.declared.item.Item.{Item}
-use Rattle.ctu_records.specs.declared.item.Item.TheVariants as item
-use Rattle.ctu_records.specs.declared.item.Item.TheVariants.{Unit, Luma, Chroma, Prediction, Pcm, Sample, Transform}
-use Rattle.ctu_records.specs.declared.item.Item.TheVariants.{Delta, Level}
+use Rattle.ctu_records.specs.declared.item.Item.TheVariants.{Level}
 use Rattle.spec_reconstruction.specs.declared.format.ScalingFactors.{ScalingFactors}
 use Rattle.spec_reconstruction.specs.declared.format.UnitFormat.{UnitFormat}
 use Rattle.spec_reconstruction.specs.declared.unit_mode.UnitMode.{UnitMode}
@@ -15,17 +13,8 @@ use Rattle.spec_transforms.specs.Transforms.{Block, block_in, transformed, skipp
 
 -- levels in rows, and over them those of the items that follow, up to the first item of another kind
 unfoldable pub levels_laid : List ℤ → List Item → List ℤ
-levels_laid levels [] = levels
-levels_laid levels (Unit unit ∷ items) = levels
-levels_laid levels (Luma luma ∷ items) = levels
-levels_laid levels (Chroma mode ∷ items) = levels
-levels_laid levels (Prediction unit ∷ items) = levels
-levels_laid levels (Pcm square ∷ items) = levels
-levels_laid levels (Sample value ∷ items) = levels
-levels_laid levels (Transform unit ∷ items) = levels
-levels_laid levels (Delta delta ∷ items) = levels
-levels_laid levels (item.Block block ∷ items) = levels
 levels_laid levels (Level place value ∷ items) = levels_laid (set levels place value) items
+levels_laid levels other = levels
 
 -- the levels of a block of so many samples, by the items behind it: 0 where none is told
 abbrev pub levels_behind : ℕ → List Item → List ℤ

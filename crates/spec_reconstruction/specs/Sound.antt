@@ -1,18 +1,17 @@
 -- The ranges of what is read of a unit, for which its samples are told: what its syntax and the sets that it belongs to
 -- give.
-use Rattle.std.specs.Prelude.{◌≡◌, ℕ, ◌+◌, ◌-◌, ◌*◌, ◌^◌, ◌<◌, ◌≤◌, List, [], ◌∷◌, length, slice_index_or, Option, Some}
+use Rattle.std.specs.Prelude.{ℕ, ◌+◌, ◌-◌, ◌*◌, ◌^◌, ◌<◌, ◌≤◌, List, [], ◌∷◌, length, slice_index_or, Option, Some}
 use Rattle.std.specs.Prelude.{None, ⊤}
 use Rattle.std.specs.List.{All}
 use Rattle.ctu_records.specs.declared.item.Item.{Item}
-use Rattle.ctu_records.specs.declared.item.Item.TheVariants.{Unit, Luma, Chroma, Prediction, Pcm, Sample, Transform}
-use Rattle.ctu_records.specs.declared.item.Item.TheVariants.{Delta, Block, Level}
+use Rattle.ctu_records.specs.declared.item.Item.TheVariants.{Chroma, Prediction, Pcm, Sample, Transform}
+use Rattle.ctu_records.specs.declared.item.Item.TheVariants.{Block}
 use Rattle.ctu_records.specs.declared.item.Square.{Square}
 use Rattle.ctu_records.specs.declared.item.CodedBlock.{CodedBlock}
 use Rattle.ctu_records.specs.declared.prediction.MotionSyntax.{MotionSyntax}
 use Rattle.ctu_records.specs.declared.prediction.MotionSyntax.TheVariants.{Merge, Vectors}
 use Rattle.ctu_records.specs.declared.prediction.PartMode.{PartMode}
-use Rattle.ctu_records.specs.declared.prediction.PartMode.TheVariants.{Whole, TwoNxN, Nx2N, NxN, TwoNxnU, TwoNxnD}
-use Rattle.ctu_records.specs.declared.prediction.PartMode.TheVariants.{NLx2N, NRx2N}
+use Rattle.ctu_records.specs.declared.prediction.PartMode.TheVariants.{Whole, TwoNxN, Nx2N}
 use Rattle.ctu_records.specs.declared.prediction.PredictionUnit.{PredictionUnit}
 use Rattle.ctu_records.specs.declared.prediction.VectorSyntax.{VectorSyntax}
 use Rattle.ctu_records.specs.Tree.{IsPlaced, luma_mode_at, qp_at}
@@ -56,11 +55,7 @@ abbrev pub least_size : PartMode → ℕ
 least_size Whole = 1
 least_size TwoNxN = 1
 least_size Nx2N = 1
-least_size NxN = 2
-least_size TwoNxnU = 2
-least_size TwoNxnD = 2
-least_size NLx2N = 2
-least_size NRx2N = 2
+least_size other = 2
 
 -- a vector that names one of at most 16 references, where there is one
 abbrev pub IsVector : Option VectorSyntax → Type 0
@@ -79,17 +74,15 @@ pub record IsPrediction (unit : PredictionUnit) : Type 0 where
   pub part : unit.part < part_count unit.part_mode
   pub motion : IsMotion unit.motion
 
+-- what is read of a unit, in its range
 abbrev pub IsSound : UnitFormat → Item → Type 0
-IsSound format (Unit unit) = ⊤
-IsSound format (Luma luma) = ⊤
 IsSound format (Chroma mode) = mode ≤ 34
 IsSound format (Prediction unit) = IsPrediction unit
 IsSound format (Pcm square) = IsSquare square × (1 ≤ square.log2_size)
 IsSound format (Sample value) = IsPulse format value
 IsSound format (Transform unit) = IsSquare unit.square
-IsSound format (Delta delta) = ⊤
 IsSound format (Block block) = IsCoded block
-IsSound format (Level place value) = ⊤
+IsSound format other = ⊤
 
 -- the items behind a square by pulse code modulation begin with its samples: those of luma have as many bits as are
 -- read of each, and so have those of chroma
@@ -100,17 +93,10 @@ pub record HasPulses (format : UnitFormat) (square : Square) (items : List Item)
   pub chroma : (k : ℕ) → 16 * 4 ^ square.log2_size ≤ k → k < 24 * 4 ^ square.log2_size
       → sample_of (slice_index_or items k (Sample 0)) < 2 ^ format.pcm_chroma_bits
 
+-- the samples behind an item that begins them are in their range
 abbrev pub BeginsPulses : UnitFormat → Item → List Item → Type 0
-BeginsPulses format (Unit unit) items = ⊤
-BeginsPulses format (Luma luma) items = ⊤
-BeginsPulses format (Chroma mode) items = ⊤
-BeginsPulses format (Prediction unit) items = ⊤
 BeginsPulses format (Pcm square) items = HasPulses format square items
-BeginsPulses format (Sample value) items = ⊤
-BeginsPulses format (Transform unit) items = ⊤
-BeginsPulses format (Delta delta) items = ⊤
-BeginsPulses format (Block block) items = ⊤
-BeginsPulses format (Level place value) items = ⊤
+BeginsPulses format other items = ⊤
 
 -- each square by pulse code modulation has its samples behind it
 unfoldable pub ArePulses : UnitFormat → List Item → Type 0

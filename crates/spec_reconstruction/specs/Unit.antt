@@ -1,5 +1,5 @@
 -- The samples of a coding tree unit by what was read of it (8.4.4.1, 8.5.3.3, 8.6.5).
-use Rattle.std.specs.Prelude.{ℕ, ◌+◌, ◌*◌, ◌^◌, ◌==◌, false, List, [], ◌∷◌, if◌then◌else◌}
+use Rattle.std.specs.Prelude.{ℕ, ◌*◌, ◌^◌, false, List, [], ◌∷◌, if◌then◌else◌}
 use Rattle.ctu_records.specs.declared.item.CodedBlock.{CodedBlock}
 use Rattle.ctu_records.specs.declared.item.CodingUnit.{CodingUnit}
 use Rattle.ctu_records.specs.declared.item.Item.{Item}
@@ -28,9 +28,11 @@ abbrev pub before_unit : Known → Building
 before_unit known =
     record { mode = record { transquant_bypass = false; intra = false }; chroma_mode = 0; known = known }
 
+-- with other samples
 abbrev pub with_known : Building → Known → Building
 with_known building known = record { mode = building.mode; chroma_mode = building.chroma_mode; known = known }
 
+-- what a coding unit says of its samples
 abbrev pub mode_of : CodingUnit → UnitMode
 mode_of unit = record { transquant_bypass = unit.transquant_bypass; intra = unit.intra }
 

@@ -19,6 +19,7 @@ order_count_at dpb place = (slice_index_or dpb place no_picture).poc
 abbrev pub short_entry : List DpbPicture → ℕ → RefEntry
 short_entry dpb place = record { place = place; poc = order_count_at dpb place; is_long_term = false }
 
+-- a long-term entry
 abbrev pub long_entry : List DpbPicture → ℕ → RefEntry
 long_entry dpb place = record { place = place; poc = order_count_at dpb place; is_long_term = true }
 
@@ -60,6 +61,7 @@ list_1_of None list_entry rps dpb = []
 list_1_of (Some active_minus1) list_entry rps dpb =
     reference_list (in_turn dpb rps.st_curr_after rps.st_curr_before rps.lt_curr) (active_minus1 + 1) list_entry
 
+-- RefPicList1 (8.3.4)
 abbrev pub list_1 : Option InterFields → Rps → List DpbPicture → List RefEntry
 list_1 None rps dpb = []
 list_1 (Some fields) rps dpb = list_1_of fields.num_ref_idx_l1_active_minus1 fields.list_entry_l1 rps dpb

@@ -60,6 +60,7 @@ abbrev pub is_place : ℕ → Option ℕ → Bool
 is_place k None = false
 is_place k (Some place) = place == k
 
+-- whether a place is among those of a list
 abbrev pub is_among : ℕ → List (Option ℕ) → Bool
 is_among k places = list_any (is_place k) places
 
@@ -69,6 +70,7 @@ is_reference mark.Unused = false
 is_reference mark.Short = true
 is_reference mark.Long = true
 
+-- whether a picture is marked as short-term
 abbrev pub is_short_term : Mark → Bool
 is_short_term mark.Unused = false
 is_short_term mark.Short = true
@@ -84,6 +86,7 @@ abbrev pub reference_poc : PictureKind → DpbPicture → Option ℤ
 reference_poc kind picture =
     if begins_anew kind then None else (if is_reference picture.mark then Some picture.poc else None)
 
+-- the order counts of all pictures that are marked as reference
 unfoldable pub reference_pocs : PictureKind → List DpbPicture → List (Option ℤ)
 reference_pocs kind dpb = map (reference_poc kind) dpb
 
@@ -91,6 +94,7 @@ reference_pocs kind dpb = map (reference_poc kind) dpb
 abbrev pub no_entry : LongTermRef
 no_entry = record { lt_idx_sps = None; poc_lsb_lt = 0; used_by_curr_pic_lt_flag = false; delta_poc_msb_cycle_lt = None }
 
+-- entry i of the long-term pictures of a header
 abbrev pub long_term_entry : LongTermRefs → ℕ → LongTermRef
 long_term_entry long i = slice_index_or long.entries i no_entry
 
@@ -134,6 +138,7 @@ short_term_poc kind long k picture =
     if begins_anew kind || is_among k long then None
     else (if is_short_term picture.mark then Some picture.poc else None)
 
+-- the order counts of those that short-term entries may name
 unfoldable pub short_term_pocs : PictureKind → List (Option ℕ) → List DpbPicture → List (Option ℤ)
 short_term_pocs kind long dpb =
     map (λ k. short_term_poc kind long k (slice_index_or dpb k no_picture)) (range_with_len 0 (length dpb))
@@ -217,6 +222,7 @@ GivesSet (Err (refusal.Limit kind)) set = ⊥
 abbrev pub IsShortTerm : Rps → ℕ → Type 0
 IsShortTerm rps k = Contains rps.st_curr_before k ⊎ (Contains rps.st_curr_after k ⊎ Contains rps.st_foll k)
 
+-- a picture that is in a long-term list
 abbrev pub IsLongTerm : Rps → ℕ → Type 0
 IsLongTerm rps k = Contains rps.lt_curr k ⊎ Contains rps.lt_foll k
 

@@ -13,6 +13,7 @@ use Rattle.spec_formats.specs.Fields.{Header, read, ◌>>=◌, give, ranged, fla
 abbrev pub is_before : ShortTermRef → Bool
 is_before r = int_lt r.delta_poc (pos 0)
 
+-- whether an entry is behind the picture in output order
 abbrev pub is_after : ShortTermRef → Bool
 is_after r = int_lt (pos 0) r.delta_poc
 

@@ -44,6 +44,7 @@ may_read plane x y column line =
 abbrev pub first_column : ℕ → ℕ
 first_column class = if class == 1 then 1 else (if class == 3 then 2 else 0)
 
+-- vPos of the first neighbour
 abbrev pub first_line : ℕ → ℕ
 first_line class = if class == 0 then 1 else 0
 

@@ -28,6 +28,7 @@ use Rattle.spec_slice_data.specs.Offset.{signed}
 use Rattle.spec_slice_data.specs.declared.syntax.InterSyntax.{InterSyntax}
 use Rattle.spec_slice_data.specs.declared.syntax.UnitStart.{UnitStart}
 
+-- a flag as a number
 abbrev pub one_if : Bool → ℕ
 one_if b = if b then 1 else 0
 
@@ -89,6 +90,7 @@ merge_bin i = when i == 0 then decision MERGE_IDX else bypass
 abbrev pub merge_idx : InterSyntax → Tree ℕ
 merge_idx inter = truncated merge_bin (inter.max_merge - 1)
 
+-- the motion of a unit that merges
 abbrev pub merged : InterSyntax → Tree MotionSyntax
 merged inter = do
   index ← merge_idx inter
@@ -119,6 +121,7 @@ unfoldable pub inter_pred_idc : InterSyntax → ℕ → Rectangle → Tree ℕ
 inter_pred_idc inter depth block =
     when inter.is_b then (when block.width + block.height == 3 then one_list else one_or_both depth) else give 0
 
+-- a difference out of its range (7.4.9.9)
 abbrev pub out_of_vectors : Breach
 out_of_vectors = breach.Fault rule.MvdRange
 
@@ -143,9 +146,11 @@ some_difference more = do
   held ← wanted (is_difference size negative) out_of_vectors
   give (signed size negative)
 
+-- a coordinate of a difference by both flags
 abbrev pub difference : Bool → Bool → Tree ℤ
 difference some more = when some then some_difference more else give (pos 0)
 
+-- abs_mvd_greater1_flag, 0 where it isn't coded
 abbrev pub abs_mvd_greater1_flag : Bool → Tree Bool
 abs_mvd_greater1_flag some = when some then decision ABS_MVD_GREATER1_FLAG else give false
 
@@ -160,9 +165,11 @@ mvd_coding = do
   y ← difference some_y more_y
   give (record { x = x; y = y })
 
+-- a difference of 0
 abbrev pub no_difference : Mv
 no_difference = record { x = pos 0; y = pos 0 }
 
+-- a difference that is coded, or 0
 abbrev pub difference_where : Bool → Tree Mv
 difference_where coded = when coded then mvd_coding else give no_difference
 
@@ -174,6 +181,7 @@ vector_in active coded = do
   mvp ← decision MVP_FLAG
   give (record { ref_idx = index; mvd = mvd; mvp = mvp })
 
+-- a vector of a list that the unit is predicted from
 unfoldable pub vector_where : Bool → ℕ → Bool → Tree (Option VectorSyntax)
 vector_where there active coded =
     when there
@@ -200,9 +208,11 @@ motion inter depth block = do
   is_merged ← decision MERGE_FLAG
   when is_merged then merged inter else vectors inter depth block
 
+-- a prediction unit by its part and its motion
 abbrev pub unit_of_part : Square → PartMode → ℕ → MotionSyntax → PredictionUnit
 unit_of_part square mode part motion = record { unit = square; part_mode = mode; part = part; motion = motion }
 
+-- it is added to what was read
 abbrev pub with_part : Square → PartMode → ℕ → MotionSyntax → Ctu → Ctu
 with_part square mode part motion ctu = added ctu (Prediction (unit_of_part square mode part motion))
 
@@ -215,13 +225,8 @@ prediction_unit inter start mode part ctu = do
 -- how many prediction units a coding unit has
 unfoldable pub part_count : PartMode → ℕ
 part_count Whole = 1
-part_count TwoNxN = 2
-part_count Nx2N = 2
 part_count NxN = 4
-part_count TwoNxnU = 2
-part_count TwoNxnD = 2
-part_count NLx2N = 2
-part_count NRx2N = 2
+part_count other = 2
 
 -- the third and the fourth of four
 unfoldable pub last_two : InterSyntax → UnitStart → PartMode → Ctu → Tree Ctu
@@ -241,6 +246,7 @@ later_parts inter start mode ctu =
       second ← prediction_unit inter start mode 1 ctu
       last_two inter start mode second)
 
+-- whether a unit merges
 abbrev pub is_merged : MotionSyntax → Bool
 is_merged (Merge index) = true
 is_merged (Vectors first second) = false

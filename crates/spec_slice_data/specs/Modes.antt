@@ -23,6 +23,7 @@ candidates a b =
     else record { first = a; second = 2 + (a + 29) % 32; third = 2 + (a - 1) % 32 })
     else record { first = a; second = b; third = third_candidate a b }
 
+-- a candidate by its number
 abbrev pub candidate : Candidates → ℕ → ℕ
 candidate c index = if index == 0 then c.first else (if index == 1 then c.second else c.third)
 
@@ -56,12 +57,15 @@ luma_mode most_probable c =
 abbrev pub upper_left : Square → Square
 upper_left s = record { x = s.x; y = s.y; log2_size = s.log2_size - 1 }
 
+-- the upper right quarter of a square
 abbrev pub upper_right : Square → Square
 upper_right s = record { x = s.x + 2 ^ (s.log2_size - 1); y = s.y; log2_size = s.log2_size - 1 }
 
+-- the lower left one
 abbrev pub lower_left : Square → Square
 lower_left s = record { x = s.x; y = s.y + 2 ^ (s.log2_size - 1); log2_size = s.log2_size - 1 }
 
+-- the lower right one
 abbrev pub lower_right : Square → Square
 lower_right s = record { x = s.x + 2 ^ (s.log2_size - 1); y = s.y + 2 ^ (s.log2_size - 1); log2_size = s.log2_size - 1 }
 
@@ -71,6 +75,7 @@ luma_block square most_probable ctu = do
   mode ← luma_mode most_probable (candidates (mode_left ctu square.x square.y) (mode_above ctu square.x square.y))
   give (added ctu (Luma (record { square = square; mode = mode })))
 
+-- prev_intra_luma_pred_flag
 abbrev pub prev_intra_luma_pred_flag : Tree Bool
 prev_intra_luma_pred_flag = decision PREV_INTRA_LUMA_PRED_FLAG
 
@@ -97,6 +102,7 @@ luma_quarters square ctu = do
   flag_3 ← prev_intra_luma_pred_flag
   luma_blocks square flag_0 flag_1 flag_2 flag_3 ctu
 
+-- the luma modes of a coding unit: one, or four
 abbrev pub luma_modes : Bool → Square → Ctu → Tree Ctu
 luma_modes split square ctu = when split then luma_quarters square ctu else luma_whole square ctu
 

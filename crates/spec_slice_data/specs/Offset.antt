@@ -13,6 +13,7 @@ use Rattle.spec_slice_data.specs.declared.syntax.CtuSyntax.{CtuSyntax}
 unfoldable pub sao_offset_abs : Tree ℕ
 sao_offset_abs = truncated (λ i. bypass) 7
 
+-- a number as one that isn't above 0
 abbrev pub negated : ℕ → ℤ
 negated zero = pos 0
 negated (suc n) = negsuc n
@@ -56,6 +57,7 @@ abbrev pub class_where : Option ℕ → Tree ℕ
 class_where None = fixed 2
 class_where (Some class) = give class
 
+-- edge offset: the class, and the signs that its offsets have
 abbrev pub edge_offset : Option ℕ → ℕ → ℕ → ℕ → ℕ → Tree ComponentOffset
 edge_offset shared a b c d = do
   class ← class_where shared
@@ -70,6 +72,7 @@ offsets kind shared = do
   d ← sao_offset_abs
   when kind == 1 then band a b c d else edge_offset shared a b c d
 
+-- the parameters of a component of this SaoTypeIdx
 abbrev pub component : ℕ → Option ℕ → Tree ComponentOffset
 component kind shared = when kind == 0 then give Off else offsets kind shared
 
@@ -79,11 +82,13 @@ own_component = do
   kind ← sao_type_idx
   component kind None
 
+-- SaoTypeIdx
 abbrev pub kind_of : ComponentOffset → ℕ
 kind_of Off = 0
 kind_of (Band position values) = 1
 kind_of (Edge class values) = 2
 
+-- SaoEoClass, 0 where it has none
 abbrev pub class_of : ComponentOffset → ℕ
 class_of Off = 0
 class_of (Band position values) = 0
@@ -93,9 +98,11 @@ class_of (Edge class values) = class
 unfoldable pub like_component : ComponentOffset → Tree ComponentOffset
 like_component cb = component (kind_of cb) (Some (class_of cb))
 
+-- own parameters, where the slice has offsets
 abbrev pub own_where : Bool → Tree ComponentOffset
 own_where applied = when applied then own_component else give Off
 
+-- those of Cr, which has the kind and the class of Cb
 abbrev pub like_where : Bool → ComponentOffset → Tree ComponentOffset
 like_where applied cb = when applied then like_component cb else give Off
 
@@ -111,14 +118,17 @@ own_sao syntax = do
 abbrev pub merge_flag : Bool → Tree Bool
 merge_flag there = when there then decision SAO_MERGE_FLAG else give false
 
+-- those of the unit above, or own ones
 abbrev pub sao_or_above : CtuSyntax → Sao → Tree Sao
 sao_or_above syntax above = do
   merged ← merge_flag syntax.has_above
   when merged then give above else own_sao syntax
 
+-- no offset in any component
 abbrev pub no_sao : Sao
 no_sao = record { luma = Off; cb = Off; cr = Off }
 
+-- those of the unit on the left, or what follows
 abbrev pub merged_or_own : CtuSyntax → Sao → Sao → Tree Sao
 merged_or_own syntax left above = do
   merged ← merge_flag syntax.has_left

@@ -1,4 +1,4 @@
--- Quantization groups, cu_qp_delta and the parameters that they make (7.3.8.4, 7.3.8.11, 7.4.9.10, 8.6.1).
+-- Quantization groups, cu_qp_delta and the parameters that they make (7.3.8.4, 7.3.8.10, 7.4.9.10, 8.6.1).
 use Rattle.std.specs.Prelude.{ℕ, ◌+◌, ◌-◌, ◌/◌, ◌%◌, ◌==◌, nat_le, nat_lt, Bool, true, false, if◌then◌else◌}
 use Rattle.hv_base.specs.declared.breach.Breach.{Breach}
 use Rattle.hv_base.specs.declared.breach.Breach.TheVariants as breach
@@ -29,6 +29,7 @@ grouped syntax square ctu =
 abbrev pub unit_begun : Quantization → Quantization
 unit_begun q = record { last = q.qp; predicted = q.predicted; qp = q.qp; coded = q.coded }
 
+-- a delta out of its range (7.4.9.10)
 abbrev pub out_of_range : Breach
 out_of_range = breach.Fault rule.QpRange
 
@@ -63,9 +64,11 @@ unfoldable pub qp_of : ℕ → ℕ → ℕ → Bool → ℕ
 qp_of offset predicted size negative =
     if negative then (predicted + (52 + offset) - size) % (52 + offset) else (predicted + size) % (52 + offset)
 
+-- a group behind its delta
 abbrev pub delta_coded : Quantization → ℕ → Quantization
 delta_coded q qp = record { last = qp; predicted = q.predicted; qp = qp; coded = true }
 
+-- a delta is added to what was read
 abbrev pub with_delta : Ctu → Square → ℕ → Bool → ℕ → Ctu
 with_delta ctu square size negative qp =
     added (with_quantization ctu (delta_coded ctu.quantization qp))

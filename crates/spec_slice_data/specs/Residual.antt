@@ -47,6 +47,7 @@ residual_block syntax unit block = record {
   sign_hiding = syntax.sign_data_hiding_enabled;
 }
 
+-- a block as it stands in what was read
 abbrev pub coded : TransformBlock → Bool → CodedBlock
 coded block transform_skip = record {
   x = block.x;

@@ -49,9 +49,11 @@ pub record Between : Type 0 where
   pub last : ℕ
   pub units : List Ctu
 
+-- a unit of which nothing is read
 abbrev pub nothing_read : ℕ → Quantization → Ctu
 nothing_read size group = record { size = size; left = []; above = []; sao = no_sao; quantization = group; items = [] }
 
+-- before the first quantization group
 abbrev pub no_group : Quantization
 no_group = record { last = 0; predicted = 0; qp = 0; coded = false }
 
@@ -63,15 +65,19 @@ unit_of picture between address = slice_index_or between.units (ctb_place addres
 abbrev pub same_slice : SegmentShape → ℕ → Bool
 same_slice segment address = is_from segment.slice address
 
+-- the column of a unit
 abbrev pub column_of : PictureShape → ℕ → ℕ
 column_of picture address = address % picture.width
 
+-- its row
 abbrev pub row_of : PictureShape → ℕ → ℕ
 row_of picture address = address / picture.width
 
+-- whether the unit on the left is in the picture and in the slice
 abbrev pub has_left : PictureShape → SegmentShape → ℕ → Bool
 has_left picture segment address = nat_lt 0 (column_of picture address) && same_slice segment (address - 1)
 
+-- whether the unit above is
 abbrev pub has_above : PictureShape → SegmentShape → ℕ → Bool
 has_above picture segment address = nat_le picture.width address && same_slice segment (address - picture.width)
 
@@ -85,6 +91,7 @@ side_of ctu x y = record {
   qp = qp_at ctu.items x y;
 }
 
+-- the places of a side that the picture has from one on
 abbrev pub places_left : ℕ → ℕ → ℕ
 places_left whole before = whole - before
 
@@ -142,6 +149,7 @@ begins_row picture address = picture.sync && column_of picture address == 0
 abbrev pub is_first : SegmentShape → ℕ → Bool
 is_first segment address = ctb_place address == segment.first
 
+-- whether the engine begins anew at a unit
 abbrev pub begins_substream : PictureShape → SegmentShape → ℕ → Bool
 begins_substream picture segment address = is_first segment address || begins_row picture address
 
@@ -165,6 +173,7 @@ qp_before picture segment address between =
     if begins_row picture address || (is_first segment address && not segment.dependent) then segment.qp
     else between.last
 
+-- the engine begins anew, with these contexts
 abbrev pub restarted : List ℕ → ℕ → Between → Option Engine → Result Between Breach
 restarted contexts last between None = Err data_end
 restarted contexts last between (Some engine) =
@@ -187,11 +196,13 @@ before_unit picture segment address between =
 abbrev pub ends_rightly : Bool → Engine → Bool
 ends_rightly last e = is_trailing e && (last || nat_le (length e.bits) (8 * ((e.at + 7) / 8)))
 
+-- whether the bits behind a unit are those that end a substream or a segment
 abbrev pub judged_end : End → Engine → Bool
 judged_end end.More engine = true
 judged_end end.Subset engine = ends_rightly false engine
 judged_end end.Segment engine = ends_rightly true engine
 
+-- the contexts behind the second unit of a row are stored (9.3.2.2)
 abbrev pub stored_behind : PictureShape → ℕ → List ℕ → List ℕ → List ℕ
 stored_behind picture address contexts stored =
     if picture.sync && column_of picture address == 1 then contexts else stored
@@ -210,6 +221,7 @@ behind_unit picture address between (Ok r) =
     })
     else Err (breach.Fault rule.TrailingBits)
 
+-- whether a unit is the last of its segment
 abbrev pub is_last : SegmentShape → ℕ → Bool
 is_last segment address = ctb_place address + 1 == segment.first + segment.count
 
@@ -230,10 +242,12 @@ read_unit common picture segment address between =
     behind_unit picture address between
     (read (unit_at common picture segment address between) (between.engine, between.contexts))
 
+-- the unit is read behind what stands before it
 abbrev pub then_unit : CtuSyntax → PictureShape → SegmentShape → ℕ → Result Between Breach → Result Between Breach
 then_unit common picture segment address (Err e) = Err e
 then_unit common picture segment address (Ok between) = read_unit common picture segment address between
 
+-- a unit with what stands before it
 abbrev pub unit_step : CtuSyntax → PictureShape → SegmentShape → ℕ → Between → Result Between Breach
 unit_step common picture segment address between =
     then_unit common picture segment address (before_unit picture segment address between)
@@ -243,6 +257,7 @@ pub record Broken : Type 0 where
   pub breach : Breach
   pub ctu : ℕ
 
+-- reading goes on with the next unit
 abbrev pub and_then : ℕ → Result Between Breach → (Between → Result Between Broken) → Result Between Broken
 and_then address (Err e) next = Err (record { breach = e; ctu = address })
 and_then address (Ok between) next = next between

@@ -2,6 +2,7 @@
 use Rattle.std.specs.Prelude.{◌≤◌}
 use Rattle.spec_slice_data.specs.declared.syntax.CtuSyntax.{CtuSyntax}
 
+-- the ranges of what slice data are read by
 pub record IsSyntax (syntax : CtuSyntax) : Type 0 where
   pub coding : 1 ≤ syntax.log2_min_coding
   pub transform : syntax.log2_max_transform ≤ 3

@@ -37,6 +37,7 @@ split_transform_flag syntax unit n depth =
 abbrev pub cbf_chroma : Bool → ℕ → Tree Bool
 cbf_chroma above depth = when above then decision (CBF_CHROMA + depth) else give false
 
+-- cbf_cb and cbf_cr
 unfoldable pub chroma_flags : ChromaFlags → ℕ → Tree ChromaFlags
 chroma_flags above depth = do
   cb ← cbf_chroma above.cb depth
@@ -76,6 +77,7 @@ chroma_of syntax unit flags square ctu =
     else give ctu)
     else chroma_blocks syntax unit flags square ctu
 
+-- the luma block of a transform unit
 abbrev pub luma_transform : Square → Ctu → TransformBlock
 luma_transform square ctu = record {
   component = 0;
@@ -85,9 +87,11 @@ luma_transform square ctu = record {
   mode = luma_mode_at ctu.items square.x square.y;
 }
 
+-- it is read, where it is coded
 abbrev pub luma_of : CtuSyntax → UnitSyntax → Bool → Square → Ctu → Tree Ctu
 luma_of syntax unit cbf_luma square ctu = block_where syntax unit cbf_luma (luma_transform square ctu) ctu
 
+-- whether any block of a transform unit is coded
 abbrev pub any_coded : Bool → ChromaFlags → Bool
 any_coded cbf_luma flags = cbf_luma || (flags.cb || flags.cr)
 
@@ -102,10 +106,12 @@ transform_blocks syntax unit cbf_luma flags square ctu = do
   with_luma ← luma_of syntax unit cbf_luma square quantized
   chroma_of syntax unit flags square with_luma
 
+-- a transform unit as it stands in what was read
 abbrev pub transform : Square → ℕ → Bool → ChromaFlags → TransformUnit
 transform square depth cbf_luma flags =
     record { square = square; depth = depth; cbf_luma = cbf_luma; cbf_cb = flags.cb; cbf_cr = flags.cr }
 
+-- cbf_luma (9.3.4.2)
 abbrev pub cbf_luma : ℕ → Tree Bool
 cbf_luma depth = when depth == 0 then decision (CBF_LUMA + 1) else decision CBF_LUMA
 
@@ -120,6 +126,7 @@ transform_unit syntax unit flags depth square ctu = do
   coded ← cbf_luma_at unit flags depth
   transform_blocks syntax unit coded flags square (added ctu (Transform (transform square depth coded flags)))
 
+-- transform_tree: four quarters, or a transform unit (7.3.8.8)
 abbrev pub split_or_blocks : (ChromaFlags → Square → Ctu → Tree Ctu) → CtuSyntax → UnitSyntax → ChromaFlags → ℕ → Square
     → Ctu → Tree Ctu
 split_or_blocks quarter syntax unit above depth square ctu = do

@@ -81,6 +81,7 @@ pcm_flag pcm split n =
     when (pcm.enabled && not split) && (nat_le pcm.log2_least n && nat_le n pcm.log2_greatest) then terminate
     else give false
 
+-- a coding unit as it stands in what was read
 abbrev pub unit_at : UnitStart → Ctu → CodingUnit
 unit_at start ctu = record {
   square = start.square;
@@ -101,6 +102,7 @@ abbrev pub unit_tree : CtuSyntax → UnitSyntax → Ctu → Tree Ctu
 unit_tree syntax unit ctu =
     transform_tree syntax unit (record { cb = true; cr = true }) unit.square.log2_size 0 unit.square ctu
 
+-- what the transform tree of an intra unit is read by
 abbrev pub intra_syntax : UnitStart → Bool → ℕ → UnitSyntax
 intra_syntax start split mode = record {
   square = start.square;
@@ -130,6 +132,7 @@ skipped_unit syntax start ctu = do
   told ← merged syntax.inter
   give (with_part start.square Whole 0 told ctu)
 
+-- that of an inter unit
 abbrev pub inter_syntax : CtuSyntax → UnitStart → PartMode → UnitSyntax
 inter_syntax syntax start mode = record {
   square = start.square;
@@ -173,11 +176,13 @@ unit_start syntax depth square ctu = do
     intra = intra;
   })
 
+-- coding_unit (7.3.8.5)
 unfoldable pub coding_unit : CtuSyntax → ℕ → Square → Ctu → Tree Ctu
 coding_unit syntax depth square ctu = do
   start ← unit_start syntax depth square ctu
   unit_body syntax start (begun_unit start ctu)
 
+-- coding_quadtree: four quarters, or a coding unit (7.3.8.4)
 abbrev pub split_or_unit : CtuSyntax → (Square → Ctu → Tree Ctu) → ℕ → Square → Ctu → Tree Ctu
 split_or_unit syntax quarter depth square ctu = do
   split ← split_cu_flag syntax depth square ctu
@@ -202,6 +207,7 @@ coding_quadtree syntax (suc n) depth square ctu =
     where_reached syntax square ctu
     (split_or_unit syntax (coding_quadtree syntax n (depth + 1)) depth square (grouped syntax square ctu))
 
+-- the square of a coding tree unit
 abbrev pub whole_unit : ℕ → Square
 whole_unit size = record { x = 0; y = 0; log2_size = size }
 

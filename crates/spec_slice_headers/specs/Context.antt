@@ -13,6 +13,7 @@ use Rattle.plan_types.specs.declared.segment_plan.SegmentPlan.{SegmentPlan}
 use Rattle.spec_formats.specs.Format.{refuse, when◌then◌else◌}
 use Rattle.spec_formats.specs.Fields.{Header, give, flag, ue_to}
 
+-- a broken rule
 abbrev pub fault : FaultKind → Breach
 fault kind = breach.Fault kind
 
@@ -64,6 +65,7 @@ ceil_log2 n = count_by (λ k. nat_lt 0 ((n - 1) / 2 ^ k)) (range_with_len 0 32)
 abbrev pub last_segment : List SegmentPlan → Option SegmentPlan
 last_segment segments = slice_get segments (length segments - 1)
 
+-- the header of a segment
 abbrev pub header_of : Option SegmentPlan → Option SliceHeaderFields
 header_of None = None
 header_of (Some s) = Some s.header
@@ -77,6 +79,7 @@ slice_of (Some s) = s.slice
 abbrev pub slice_header : List SegmentPlan → Option SliceHeaderFields
 slice_header segments = header_of (slice_get segments (slice_of (last_segment segments)))
 
+-- its slice_segment_address
 abbrev pub address_of : Option SliceHeaderFields → Option ℕ
 address_of None = None
 address_of (Some header) = Some header.segment.slice_segment_address

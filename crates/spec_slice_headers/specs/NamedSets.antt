@@ -14,10 +14,12 @@ pub record Named : Type 0 where
   pub pps : PpsFields
   pub sps : SpsFields
 
+-- a pair of sets, where both are there
 abbrev pub with_sps : PpsFields → Option SpsFields → Option Named
 with_sps pps None = None
 with_sps pps (Some sps) = Some (record { pps = pps; sps = sps })
 
+-- the sequence parameter set that a picture parameter set names
 abbrev pub with_pps : Sets → Option PpsFields → Option Named
 with_pps sets None = None
 with_pps sets (Some pps) = with_sps pps (slice_index_or sets.sps pps.identity.pps_seq_parameter_set_id None)
@@ -26,6 +28,7 @@ with_pps sets (Some pps) = with_sps pps (slice_index_or sets.sps pps.identity.pp
 abbrev pub named_by : Sets → ℕ → Option Named
 named_by sets id = with_pps sets (slice_index_or sets.pps id None)
 
+-- the sets, or the rule that is broken without them
 abbrev pub found : Option Named → Result Named Breach
 found None = Err (fault rule.MissingSet)
 found (Some n) = Ok n

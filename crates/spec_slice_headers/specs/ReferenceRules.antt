@@ -14,6 +14,7 @@ use Rattle.spec_reference_pictures.specs.PictureOrderCount.{pic_order_cnt_val}
 use Rattle.spec_reference_pictures.specs.ReferencePictureSet.{reference_picture_set, num_pic_total_curr}
 use Rattle.spec_slice_headers.specs.Context.{Context, fault, ◌>>=◌, kept, agrees}
 
+-- whether a slice is an I slice
 abbrev pub is_i : SliceType → Bool
 is_i slice.B = false
 is_i slice.P = false

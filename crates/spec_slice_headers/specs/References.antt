@@ -15,6 +15,7 @@ use Rattle.spec_reference_pictures.specs.ShortTermSets.{st_ref_pic_set}
 use Rattle.spec_reference_pictures.specs.PictureOrderCount.{is_idr}
 use Rattle.spec_slice_headers.specs.Context.{ceil_log2, ue_or}
 
+-- a set without entries
 abbrev pub empty_set : StRps
 empty_set = record { negative = []; positive = [] }
 
@@ -48,11 +49,13 @@ named_short_term sps = do
     short_term_ref_pic_set = slice_index_or sps.references.short_term_ref_pic_sets short_term_ref_pic_set_idx empty_set;
   })
 
+-- the short-term set of a header: one of the sequence parameter set, or its own
 unfoldable pub short_term : SpsFields → Header ShortTerm
 short_term sps = do
   short_term_ref_pic_set_sps_flag ← flag
   when short_term_ref_pic_set_sps_flag then named_short_term sps else coded_short_term sps
 
+-- what stands where there is no candidate
 abbrev pub no_candidate : LongTermCandidate
 no_candidate = record { lt_ref_pic_poc_lsb_sps = 0; used_by_curr_pic_lt_sps_flag = false }
 
@@ -93,6 +96,7 @@ abbrev pub long_term_entry : SpsFields → List LongTermCandidate → ℕ → �
 long_term_entry sps candidates num_long_term_sps i =
     when nat_lt i num_long_term_sps then named_long_term candidates else coded_long_term sps
 
+-- no long-term entries
 abbrev pub no_long_term : LongTermRefs
 no_long_term = record { num_long_term_sps = 0; entries = [] }
 
@@ -110,6 +114,7 @@ long_term_of sps set candidates = do
       (range_with_len 0 (num_long_term_sps + num_long_term_pics))
   give (record { num_long_term_sps = num_long_term_sps; entries = entries })
 
+-- the long-term entries of a header, where the set has such
 unfoldable pub long_term : SpsFields → StRps → Option (List LongTermCandidate) → Header LongTermRefs
 long_term sps set None = give no_long_term
 long_term sps set (Some candidates) = long_term_of sps set candidates
@@ -124,6 +129,7 @@ no_references = record {
   long_term = no_long_term;
 }
 
+-- order count and reference picture sets of a header (7.3.6.1)
 unfoldable pub coded_references : SpsFields → Header ReferenceFields
 coded_references sps = do
   slice_pic_order_cnt_lsb ← u (sps.order.log2_max_pic_order_cnt_lsb_minus4 + 4)
@@ -137,5 +143,6 @@ coded_references sps = do
     long_term = long;
   })
 
+-- an IDR picture has none
 unfoldable pub reference_fields : ℕ → SpsFields → Header ReferenceFields
 reference_fields nal_type sps = when is_idr nal_type then give no_references else coded_references sps

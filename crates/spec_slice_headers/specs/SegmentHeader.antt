@@ -71,6 +71,7 @@ slice_segment_header c = do
     data_place = 0;
   })
 
+-- byte alignment, which has to be there whole
 abbrev pub whole_alignment : Result (Bool × List Bool) Breach → Result (Bool × List Bool) Breach
 whole_alignment (Err e) = Err e
 whole_alignment (Ok x) = if x.0 then Ok x else Err (fault rule.HeaderSyntax)
@@ -84,6 +85,7 @@ abbrev pub placed : List ℕ → SliceHeaderFields → Result (Bool × List Bool
 placed payload h (Err e) = Err e
 placed payload h (Ok x) = Ok (record h { data_place = length payload - length x.1 / 8 })
 
+-- a header with its alignment
 abbrev pub aligned : List ℕ → Result (SliceHeaderFields × List Bool) Breach → Result SliceHeaderFields Breach
 aligned payload (Err e) = Err e
 aligned payload (Ok x) = placed payload x.0 (alignment x.1)

@@ -34,6 +34,7 @@ kind_of c sps = record {
   max_lsb = max_lsb sps;
 }
 
+-- slice_type (Table 7-7)
 abbrev pub type_of : ℕ → SliceType
 type_of n = if n == 0 then slice.B else (if n == 1 then slice.P else slice.I)
 
@@ -87,6 +88,7 @@ control_of None = record {
 }
 control_of (Some control) = control
 
+-- the deblocking parameters of the picture parameter set
 abbrev pub pps_deblocking : Bool → DeblockingControl → SliceDeblocking
 pps_deblocking override control = record {
   deblocking_filter_override_flag = override;
@@ -112,6 +114,7 @@ own_deblocking control = do
           slice_tc_offset_div2 = slice_tc_offset_div2;
         }))
 
+-- those of a slice
 unfoldable pub deblocking : DeblockingControl → Header SliceDeblocking
 deblocking control = do
   deblocking_filter_override_flag ← flag_or control.deblocking_filter_override_enabled_flag false
@@ -133,6 +136,7 @@ pub record Filters : Type 0 where
   pub deblocking : SliceDeblocking
   pub slice_loop_filter_across_slices_enabled_flag : Bool
 
+-- quantization parameter, chroma offsets and filters of a slice (7.3.6.1)
 unfoldable pub filter_fields : PpsFields → Bool → Header Filters
 filter_fields pps has_sao = do
   slice_qp_delta ← qp_delta pps

@@ -7,12 +7,14 @@ use Rattle.slice_types.specs.declared.weights.RefWeights.{RefWeights}
 use Rattle.slice_types.specs.declared.weights.PredWeightTable.{PredWeightTable}
 use Rattle.spec_formats.specs.Fields.{Header, ◌>>=◌, give, ranged, flag, ue_to, se, se_within, optional, repeated, each}
 
+-- a luma weight with its offset (7.3.6.3)
 unfoldable pub luma_weight : Header LumaWeight
 luma_weight = do
   delta_luma_weight ← se_within 128 127
   luma_offset ← se_within 128 127
   give (record { delta_luma_weight = delta_luma_weight; luma_offset = luma_offset })
 
+-- a chroma weight with its offset
 unfoldable pub chroma_weight : Header ChromaWeight
 chroma_weight = do
   delta_chroma_weight ← se_within 128 127

@@ -24,8 +24,10 @@ scaled depth log2 qp m level = clip16 (rounded (depth + log2 - 5) (level *ℤ po
 abbrev pub IsDepth : ℕ → Type 0
 IsDepth depth = (8 ≤ depth) × (depth ≤ 14)
 
+-- those of transform blocks, by the logarithm of their side
 abbrev pub IsSize : ℕ → Type 0
 IsSize log2 = (2 ≤ log2) × (log2 ≤ 5)
 
+-- qP
 abbrev pub IsParameter : ℕ → ℕ → Type 0
 IsParameter depth qp = qp ≤ 51 + 6 * (depth - 8)

@@ -1,4 +1,4 @@
-//! Quantization groups and cu_qp_delta (7.3.8.4, 7.3.8.11, 8.6.1).
+//! Quantization groups and cu_qp_delta (7.3.8.4, 7.3.8.10, 8.6.1).
 
 ghost use Rattle.std.specs.Prelude.{◌≡◌, ℕ, ◌+◌, ◌-◌, ◌*◌, ◌/◌, ◌^◌, ◌<◌, ◌≤◌, true, length, IfOk};
 ghost use Rattle.ctu_records.specs.Tree.{IsPlaced, room};

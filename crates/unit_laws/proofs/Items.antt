@@ -43,29 +43,13 @@ pub record IsKept (format : UnitFormat) (greatest : ℕ) (ctu : Ctu) : Type 0 wh
 
 -- an item behind which no sample has to stand
 abbrev pub IsWhole : Item → Type 0
-IsWhole (Unit unit) = ⊤
-IsWhole (Luma luma) = ⊤
-IsWhole (Chroma mode) = ⊤
-IsWhole (Prediction unit) = ⊤
 IsWhole (Pcm square) = ⊥
-IsWhole (Sample value) = ⊤
-IsWhole (Transform unit) = ⊤
-IsWhole (Delta delta) = ⊤
-IsWhole (Block block) = ⊤
-IsWhole (Level place value) = ⊤
+IsWhole other = ⊤
 
 pub whole_pulses : (format : UnitFormat) (item : Item) → IsWhole item → ArePulses format (item ∷ [])
 unfolding ArePulses
-whole_pulses format (Unit unit) whole = (tt, tt)
-whole_pulses format (Luma luma) whole = (tt, tt)
-whole_pulses format (Chroma mode) whole = (tt, tt)
-whole_pulses format (Prediction unit) whole = (tt, tt)
 whole_pulses format (Pcm square) whole = absurd whole
-whole_pulses format (Sample value) whole = (tt, tt)
-whole_pulses format (Transform unit) whole = (tt, tt)
-whole_pulses format (Delta delta) whole = (tt, tt)
-whole_pulses format (Block block) whole = (tt, tt)
-whole_pulses format (Level place value) whole = (tt, tt)
+whole_pulses format other whole = (tt, tt)
 
 has_more : (format : UnitFormat) (square : Square) (xs ys : List Item) → HasPulses format square xs
     → HasPulses format square (xs ++ ys)
@@ -79,16 +63,8 @@ has_more format square xs ys has = record {
 
 begins_more : (format : UnitFormat) (item : Item) (xs ys : List Item) → BeginsPulses format item xs
     → BeginsPulses format item (xs ++ ys)
-begins_more format (Unit unit) xs ys has = tt
-begins_more format (Luma luma) xs ys has = tt
-begins_more format (Chroma mode) xs ys has = tt
-begins_more format (Prediction unit) xs ys has = tt
 begins_more format (Pcm square) xs ys has = has_more format square xs ys has
-begins_more format (Sample value) xs ys has = tt
-begins_more format (Transform unit) xs ys has = tt
-begins_more format (Delta delta) xs ys has = tt
-begins_more format (Block block) xs ys has = tt
-begins_more format (Level place value) xs ys has = tt
+begins_more format other xs ys has = tt
 
 pub pulses_appended : (format : UnitFormat) (xs ys : List Item) → ArePulses format xs → ArePulses format ys
     → ArePulses format (xs ++ ys)
@@ -99,28 +75,13 @@ pulses_appended format (item ∷ xs) ys before behind =
 
 -- what an item lays is in range
 abbrev pub LaysMode : Item → Type 0
-LaysMode (Unit unit) = ⊤
 LaysMode (Luma luma) = luma.mode ≤ 34
-LaysMode (Chroma mode) = ⊤
-LaysMode (Prediction unit) = ⊤
-LaysMode (Pcm square) = ⊤
-LaysMode (Sample value) = ⊤
-LaysMode (Transform unit) = ⊤
-LaysMode (Delta delta) = ⊤
-LaysMode (Block block) = ⊤
-LaysMode (Level place value) = ⊤
+LaysMode other = ⊤
 
 abbrev pub LaysParameter : ℕ → Item → Type 0
 LaysParameter greatest (Unit unit) = unit.qp ≤ greatest
-LaysParameter greatest (Luma luma) = ⊤
-LaysParameter greatest (Chroma mode) = ⊤
-LaysParameter greatest (Prediction unit) = ⊤
-LaysParameter greatest (Pcm square) = ⊤
-LaysParameter greatest (Sample value) = ⊤
-LaysParameter greatest (Transform unit) = ⊤
 LaysParameter greatest (Delta delta) = delta.qp ≤ greatest
-LaysParameter greatest (Block block) = ⊤
-LaysParameter greatest (Level place value) = ⊤
+LaysParameter greatest other = ⊤
 
 pub cond_below : (b : Bool) (greatest v w : ℕ) → v ≤ greatest → w ≤ greatest → cond b v w ≤ greatest
 cond_below true greatest v w first second = first

@@ -1,4 +1,4 @@
-//! Pictures as they are put out: I420 inside the conformance window, a byte a sample (H.265 7.4.3.2, C.4).
+//! Pictures as they are put out: I420 inside the conformance window, a byte a sample (H.265 7.4.3.2, C.5.2.4).
 #![tactic(auto)]
 
 mod gathering;
