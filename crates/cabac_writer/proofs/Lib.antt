@@ -1,0 +1,7 @@
+pub mod Values
+pub mod Steps
+pub mod ReadBack
+pub mod Bytes
+pub mod Held
+pub mod Substreams
+pub mod Flushed

@@ -1,0 +1,5 @@
+pub mod Coding
+pub mod Held
+pub mod Encoders
+pub mod Pulses
+pub mod Flushed
