@@ -1,6 +1,6 @@
 -- Items one after the other.
-use Rattle.std.proofs.Common.{◌≡◌, ℕ, ◌+◌, ◌*◌, ◌<◌, ◌≤◌, Bool, true, false, ◌||◌, List, [], ◌∷◌, length, get_or, take}
-use Rattle.std.proofs.Common.{replicate, cond, refl, ap, sym, ◌∙◌, arith}
+use Rattle.std.proofs.Common.{◌≡◌, ℕ, ◌+◌, ◌*◌, ◌<◌, ◌≤◌, Bool, true, false, ◌||◌, List, [], length, get_or, take}
+use Rattle.std.proofs.Common.{replicate, refl, ap, sym, ◌∙◌, arith}
 use Rattle.std.proofs.Math.Bool.{or-false}
 use Rattle.std.specs.List.{fold, list_any}
 use Rattle.std.proofs.lemmas.List.{take_all, get_or-replicate}
@@ -9,8 +9,8 @@ use Rattle.std.proofs.lemmas.List.Sums.{fold_more}
 use Rattle.ctu_records.specs.declared.item.Item.{Item}
 use Rattle.ctu_records.specs.declared.item.Item.TheVariants.{Unit, Luma, Chroma, Prediction, Pcm, Sample, Transform}
 use Rattle.ctu_records.specs.declared.item.Item.TheVariants.{Delta, Block, Level}
-use Rattle.ctu_records.specs.Places.{inside, by_place}
-use Rattle.spec_boundary_strengths.specs.Edges.{at_left, at_top, transform_block, prediction_block, is_transform_left}
+use Rattle.ctu_records.specs.Places.{by_place}
+use Rattle.spec_boundary_strengths.specs.Edges.{is_transform_left}
 use Rattle.spec_boundary_strengths.specs.Edges.{is_transform_top, is_prediction_left, is_prediction_top}
 use Rattle.spec_boundary_strengths.specs.Places.{kept_laid, kept_at}
 use Rattle.spec_boundary_strengths.specs.Strengths.{coded_laid, coded_at, nowhere}

@@ -1,8 +1,7 @@
 -- One item more.
 use Rattle.std.specs.Prelude.{◌≡◌, ℕ, ◌<◌, Bool, true, false, ◌||◌}
 use Rattle.ctu_records.specs.declared.item.Item.{Item}
-use Rattle.ctu_records.specs.declared.item.Item.TheVariants.{Unit, Luma, Chroma, Prediction, Pcm, Sample, Transform}
-use Rattle.ctu_records.specs.declared.item.Item.TheVariants.{Delta, Block, Level}
+use Rattle.ctu_records.specs.declared.item.Item.TheVariants.{Unit, Prediction, Pcm, Transform}
 use Rattle.ctu_records.specs.Places.{by_place}
 use Rattle.spec_boundary_strengths.specs.Edges.{at_left, at_top, transform_block, prediction_block}
 use Rattle.spec_boundary_strengths.specs.Places.{kept_laid}

@@ -39,7 +39,8 @@ pub record AreCells (values : List ℕ) (known : List Bool) (extents : Extents) 
   pub cr : extents.cr ≤ 65
   pub zeros : (c i j : ℕ) → c < 3 → i < 129 → j < 65 → slice_index_or known (cell c i j) false ≡ false
       → slice_index_or values (cell c i j) 0 ≡ 0
-  pub unused : (c i j : ℕ) → c < 3 → i < 129 → j < 65 → lines_of extents c ≤ j → slice_index_or known (cell c i j) false ≡ false
+  pub unused : (c i j : ℕ) → c < 3 → i < 129 → j < 65 → lines_of extents c ≤ j
+      → slice_index_or known (cell c i j) false ≡ false
 
 -- a sample and a residual, where the sample is known
 unfoldable pub added : ℕ → Bool → ℤ → ℕ → ℕ

@@ -29,7 +29,8 @@ fn planar_line(edge: &[u16], log2: u32, y: usize, out: &mut [u16])
     requires edge { length edge.now ≡ 4 * 2 ^ log2 + 1 }
     requires out { 2 ^ log2 * y + 2 ^ log2 ≤ length out.old }
     ensures { (q : ℕ) → at out.new q
-        ≡ cond (nat_le (2 ^ log2 * y) q && nat_lt q (2 ^ log2 * y + 2 ^ log2)) (planar log2 edge.now (q - 2 ^ log2 * y) y)
+        ≡ cond (nat_le (2 ^ log2 * y) q && nat_lt q (2 ^ log2 * y + 2 ^ log2))
+        (planar log2 edge.now (q - 2 ^ log2 * y) y)
         (at out.old q) }
 {
     match log2 {

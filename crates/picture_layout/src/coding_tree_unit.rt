@@ -39,7 +39,8 @@ impl CodingTreeUnit {
 
     /// The same, where the picture has it.
     pub fn first_row_there(&self) -> Option<u32>
-        ensures some { IfSome result (λ row. (row ≡ first_row self.now.layout self.now.address) × (row ≤ 8192)) }
+        ensures some { IfSome result (λ row. row ≡ first_row self.now.layout self.now.address) }
+        ensures there { IfSome result (λ row. (row < self.now.layout.down) × (row ≤ 8192)) }
         ensures none { result ≡ None → self.now.layout.down ≤ first_row self.now.layout self.now.address }
         ensures shape { IsShape self.now.layout }
     {

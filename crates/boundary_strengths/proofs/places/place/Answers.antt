@@ -1,8 +1,7 @@
-use Rattle.std.proofs.Common.{rules, ℤ, pos, ◌-ℤ◌, ◌≡◌, ◌≤◌, ap, ◌∙◌, arith}
+use Rattle.std.proofs.Common.{rules, pos, ◌-ℤ◌, ◌≤◌, ap, ◌∙◌, arith}
 use Rattle.std.proofs.lemmas.Int.{to_z-of_z}
 use mir.Val.{SFits}
 use mir.Syntax.{w8}
-use Rattle.ctu_records.specs.Tree.{qp_at}
 use Rattle.spec_boundary_strengths.specs.Places.{unit_place}
 use Rattle.boundary_strengths.proofs.EdgeSides.{place_same}
 use Rattle.boundary_strengths.proofs.places.place.Goals as goal

@@ -1,9 +1,8 @@
-use Rattle.std.proofs.Common.{◌≡◌, ℕ, ◌<◌, ◌/◌, ◌%◌, List, length, subst, arith, ◌∙◌}
+use Rattle.std.proofs.Common.{ℕ, ◌<◌, ◌/◌, ◌%◌, List, length, subst, arith, ◌∙◌}
 use Rattle.std.proofs.lemmas.List.{length-set}
 use Rattle.std.specs.List.{All}
 use Rattle.ctu_records.specs.declared.item.Item.{Item}
 use Rattle.spec_motion.specs.Units.{IsPlacedItem}
-use Rattle.spec_boundary_strengths.specs.declared.place.UnitPlace.{UnitPlace}
 use Rattle.spec_boundary_strengths.specs.Places.{unit_place}
 use Rattle.boundary_strengths.specs.Held.{AreMarked, beside_of}
 use Rattle.boundary_strengths.proofs.Fill.{filled_more}
