@@ -9,3 +9,9 @@ pub mod Predictions
 pub mod Quadtree
 pub mod Units
 pub mod Pictures
+pub mod ScanOrder
+pub mod Bodies
+pub mod InOrder
+pub mod Beside
+pub mod Inside
+pub mod Available

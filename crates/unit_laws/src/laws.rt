@@ -1,13 +1,23 @@
 //! Laws of the definitions.
 
-ghost use Rattle.std.specs.Prelude.{◌≡◌, List, [], Ok, Err};
+ghost use Rattle.std.specs.Prelude.{◌≡◌, ℕ, ◌-◌, ◌≤◌, pos, true, List, [], Ok, Err};
 ghost use Rattle.std.specs.List.{All};
-ghost use Rattle.header_types.specs.SequenceParameterSets.{IsSps};
+ghost use Rattle.block_geometry.specs.Availability.{available};
+ghost use Rattle.header_types.specs.SequenceParameterSets.{IsSps, min_tb_log2};
 ghost use Rattle.plan_types.specs.declared.picture_plan.PicturePlan.{PicturePlan};
 ghost use Rattle.plan_types.specs.declared.segment_plan.SegmentPlan.{SegmentPlan};
 ghost use Rattle.spec_picture_trees.specs.Picture.{TreeUnit, Progress, Halt, picture_read};
 ghost use Rattle.spec_picture_build.specs.Format.{unit_format};
 ghost use Rattle.spec_reconstruction.specs.Sound.{IsFormat, AreSound};
+ghost use Rattle.spec_cabac.specs.Bins.{State, read};
+ghost use Rattle.ctu_records.specs.Tree.{Ctu};
+ghost use Rattle.spec_picture_trees.specs.Places.{first_column, first_row, is_available, unit_at as unit_of, unit_places};
+ghost use Rattle.spec_picture_trees.specs.Shapes.{in_places, picture_shape, segment_syntax};
+ghost use Rattle.block_geometry.specs.CodingTreeBlocks.{is_from};
+ghost use Rattle.spec_slice_data.specs.Segment.{Between, PictureShape, SegmentShape, unit_at};
+ghost use Rattle.spec_slice_data.specs.declared.syntax.CtuSyntax.{CtuSyntax};
+ghost use Rattle.spec_slice_data.specs.declared.syntax.End.{End};
+ghost use Rattle.unit_laws.specs.Order.{AreAvailable, AreScanned, coding_squares, slice_area};
 
 /// Where a picture's sequence parameter set is in range, its slices have formats for which samples are told, and so are
 /// the items of all units that are read, of those before the first broken rule too.
@@ -22,4 +32,39 @@ pub fn units_that_are_read_are_sound()
         → All
         (λ (unit : TreeUnit). (s : SegmentPlan) → AreSound (unit_format p.sps p.pps s.header.slice) unit.read.items)
         halt.given }
+{}
+
+/// The coding units of a coding tree unit are read in z-scan order: of the places that the picture has in it, those
+/// before a coding unit's first place are those of the coding units that are read before it, and all places are in one
+/// once the unit is read. So what is laid before a coding unit is what comes before it in that order.
+pub fn coding_units_are_in_scan_order()
+    ensures { (common : CtuSyntax) (picture : PictureShape) (segment : SegmentShape) (address : ℕ) (between : Between)
+        (s t : State) (unit : Ctu × End)
+        → picture.size ≤ 4 → common.log2_min_coding ≤ picture.size
+        → read (unit_at common picture segment address between) s ≡ Ok (unit, t)
+        → AreScanned common.log2_min_coding picture.size (picture.across - first_column picture address)
+        (picture.down - first_row picture address) (coding_squares unit.0.items) }
+{}
+
+/// Where samples and motion are read beside a coding unit, the standard's process of availability in z-scan order (6.4.1)
+/// says the same as the definitions here, by which a place may be read once it was laid before:
+///
+/// - `beside`: of another coding tree unit a place is there to be read (`is_available`) exactly where it is available
+///   for a place of this unit: the picture has it, it is of the same slice, and its minimum transform block doesn't come
+///   behind that of the place;
+/// - `inside`: of the same coding tree unit a place that the picture has is one of the coding units read before a coding
+///   unit exactly where it is available for that one's first place.
+pub fn availability_is_by_scan_order()
+    ensures beside { (p : PicturePlan) (slice address x y i j : ℕ) → IsSps p.sps
+        → unit_of (picture_shape p.sps p.pps) (unit_places (picture_shape p.sps p.pps)) x y ≡ address
+        → ¬ (unit_of (picture_shape p.sps p.pps) (unit_places (picture_shape p.sps p.pps)) i j ≡ address)
+        → is_available (picture_shape p.sps p.pps) slice address i j
+        ≡ available (slice_area (picture_shape p.sps p.pps) (in_places (min_tb_log2 p.sps.blocks)) slice) x y
+        (pos i) (pos j) }
+    ensures inside { (p : PicturePlan) (s : SegmentPlan) (segment : SegmentShape) (address : ℕ) (between : Between)
+        (u v : State) (unit : Ctu × End)
+        → IsSps p.sps → is_from segment.slice address ≡ true
+        → read (unit_at (segment_syntax p s) (picture_shape p.sps p.pps) segment address between) u ≡ Ok (unit, v)
+        → AreAvailable (picture_shape p.sps p.pps) (in_places (min_tb_log2 p.sps.blocks)) segment.slice address
+        (coding_squares unit.0.items) }
 {}
