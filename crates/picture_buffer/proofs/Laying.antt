@@ -34,7 +34,7 @@ behind_part a k xs ys q room e le =
     ∙ ap (λ (n : ℕ). get_or xs n 0) place
 
 -- a list's elements after a part was written over
-part_at : (a k : ℕ) (xs ys : List ℕ) (q : ℕ) → a + k ≤ length xs → length ys ≡ k
+pub part_at : (a k : ℕ) (xs ys : List ℕ) (q : ℕ) → a + k ≤ length xs → length ys ≡ k
     → get_or (put_mid a k xs ys) q 0 ≡ cond (nat_le a q && nat_lt q (a + k)) (get_or ys (q - a) 0) (get_or xs q 0)
 part_at a k xs ys q room e = elim (cases_lt q a) [
   | inl lt ↦ let t = before_part a k xs ys q (omega arith) lt in grind (arith, nat_tests)

@@ -1,3 +1,4 @@
 pub mod Laying
 pub mod Places
 pub mod Formats
+pub mod Lent

@@ -2,3 +2,5 @@ pub mod Planes
 pub mod Packed
 pub mod Motion
 pub mod Pictures
+pub mod Lending
+pub mod PictureLending

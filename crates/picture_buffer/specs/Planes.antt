@@ -1,5 +1,7 @@
 -- The samples of a picture by component, column and row (6.2).
-use Rattle.std.specs.Prelude.{◌≡◌, ℕ, ◌+◌, ◌*◌, ◌/◌, ◌≤◌, ◌==◌, ◌&&◌, nat_lt, List, length, slice_index, if◌then◌else◌}
+use Rattle.std.specs.Prelude.{◌≡◌, ℕ, ◌+◌, ◌*◌, ◌/◌, ◌≤◌, ◌==◌, ◌&&◌, nat_lt, List, [], length, slice_index}
+use Rattle.std.specs.Prelude.{if◌then◌else◌}
+use Rattle.std.specs.List.{refill}
 
 -- a plane's samples, row after row
 pub record PlaneSamples : Type 0 where
@@ -19,6 +21,14 @@ pub record IsPlane (width height : ℕ) (samples : List ℕ) : Type 0 where
   pub rows : height ≤ 8192
   pub count : length samples ≡ width * height
 
+-- a plane after its samples were written, as many as there were
+abbrev pub with_samples : PlaneSamples → List ℕ → PlaneSamples
+with_samples plane written = record {
+  width = plane.width;
+  height = plane.height;
+  samples = refill (length plane.samples) plane.samples written;
+}
+
 -- the sample in a column of a row; 0 outside the plane
 unfoldable pub plane_at : PlaneSamples → ℕ → ℕ → ℕ
 plane_at plane x y =
@@ -31,6 +41,19 @@ plane_width p c = if c == 0 then p.luma.width else (if c == 1 then p.cb.width el
 abbrev pub plane_height : PictureSamples → ℕ → ℕ
 plane_height p c =
     if c == 0 then p.luma.height else (if c == 1 then p.cb.height else (if c == 2 then p.cr.height else 0))
+
+-- the samples of a component's plane, row after row; none past the third component
+abbrev pub plane_samples : PictureSamples → ℕ → List ℕ
+plane_samples p c =
+    if c == 0 then p.luma.samples else (if c == 1 then p.cb.samples else (if c == 2 then p.cr.samples else []))
+
+-- a picture after the samples of a component were written
+abbrev pub with_component : PictureSamples → ℕ → List ℕ → PictureSamples
+with_component p c written = record {
+  luma = if c == 0 then with_samples p.luma written else p.luma;
+  cb = if c == 1 then with_samples p.cb written else p.cb;
+  cr = if c == 2 then with_samples p.cr written else p.cr;
+}
 
 -- the sample of a component in a column of a row; 0 outside the picture
 unfoldable pub samples_of : PictureSamples → ℕ → ℕ → ℕ → ℕ

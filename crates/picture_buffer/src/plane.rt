@@ -26,6 +26,9 @@ impl Model for Plane {
 }
 
 impl Plane {
+    ghost use Rattle.std.specs.Borrow.{sem};
+    ghost use Rattle.picture_buffer.specs.Lending.{LendsSamples};
+
     /// A plane of zeros.
     #[tactic(auto, unfolding(crate::specs::Planes::plane_at))]
     pub(crate) fn new(alloc: Global, width: u32, height: u32) -> Result<Plane, AllocError>
@@ -92,5 +95,14 @@ impl Plane {
     {
         let first = self.width as usize * y as usize + x as usize;
         self.samples[first..first + samples.len()].copy_from_slice(samples);
+    }
+
+    /// The samples, row after row, for writing.
+    pub(crate) fn samples_mut(&mut self) -> &mut [u16]
+        ensures* writes_back { sem 𝓛 (LendsSamples self.entry result) }
+        ensures value { result.now ≡ self.old.samples }
+        ensures count { length result.now ≡ self.old.width * self.old.height }
+    {
+        self.samples.as_mut_slice()
     }
 }

@@ -2,7 +2,7 @@
 
 ghost use Rattle.std.specs.Prelude.{◌≡◌, ℕ, ◌+◌, ◌-◌, ◌*◌, ◌<◌, ◌≤◌, ◌==◌, ◌&&◌, nat_le, nat_lt, length, IfOk};
 ghost use Rattle.std.specs.Prelude.{slice_index, slice_index_or, if◌then◌else◌};
-ghost use Rattle.picture_buffer.specs.Planes.{samples_of, plane_width, plane_height, HasSides};
+ghost use Rattle.picture_buffer.specs.Planes.{samples_of, plane_samples, plane_width, plane_height, HasSides};
 
 use crate::plane::Plane;
 use std::alloc::{AllocError, Global};
@@ -26,6 +26,9 @@ impl Model for Planes {
 }
 
 impl Planes {
+    ghost use Rattle.std.specs.Borrow.{sem};
+    ghost use Rattle.picture_buffer.specs.PictureLending.{LendsComponent};
+
     /// Planes of zeros of `width` times `height` luma samples.
     #[tactic(auto, unfolding(crate::specs::Planes::samples_of))]
     pub fn new(alloc: Global, width: u32, height: u32) -> Result<Planes, AllocError>
@@ -107,6 +110,19 @@ impl Planes {
             0 => self.luma.lay(x, y, samples),
             1 => self.cb.lay(x, y, samples),
             _ => self.cr.lay(x, y, samples),
+        }
+    }
+    /// The samples of component `c`, row after row, for writing.
+    pub fn samples_mut(&mut self, c: usize) -> &mut [u16]
+        requires { c < 3 }
+        ensures* writes_back { sem 𝓛 (LendsComponent self.entry c result) }
+        ensures value { result.now ≡ plane_samples self.old c }
+        ensures count { length result.now ≡ plane_width self.old c * plane_height self.old c }
+    {
+        match c {
+            0 => self.luma.samples_mut(),
+            1 => self.cb.samples_mut(),
+            _ => self.cr.samples_mut(),
         }
     }
 }
