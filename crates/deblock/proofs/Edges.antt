@@ -1,18 +1,22 @@
 -- Edge after edge, and place after place.
-use Rattle.std.proofs.Common.{◌≡◌, ℕ, ◌+◌, ◌-◌, ◌*◌, ◌/◌, ◌%◌, ◌<◌, ◌≤◌, Bool, true, false, ◌&&◌, ◌||◌, cond}
-use Rattle.std.proofs.Common.{nat_lt, refl, ap, sym, subst, ◌∙◌, inl, inr, ◌⊎◌, arith}
+use Rattle.std.proofs.Common.{◌≡◌, ℕ, ◌+◌, ◌-◌, ◌*◌, ◌/◌, ◌%◌, ◌^◌, ◌<◌, ◌≤◌, Bool, true, false, ◌&&◌, ◌||◌, cond}
+use Rattle.std.proofs.Common.{nat_le, nat_lt, refl, ap, sym, subst, ◌∙◌, inl, inr, ◌⊎◌, List, arith, if◌then◌else◌}
 use Rattle.std.proofs.lemmas.Bool.Decides.{nat_tests}
+use Rattle.spec_deblocking.specs.declared.line.Line.{Line}
 use Rattle.spec_deblocking.specs.declared.place.Place.{Place}
 use Rattle.spec_deblocking.specs.declared.place.Plane.{Plane}
 use Rattle.spec_deblocking.specs.declared.place.Plane.TheVariants.{Luma, Chroma}
-use Rattle.spec_deblocking.specs.Lines.{across}
+use Rattle.spec_deblocking.specs.Lines.{across, nth}
 use Rattle.spec_deblocking.specs.Places.{side, place_behind}
-use Rattle.spec_deblocking.specs.Planes.{edge_sample, vertical}
-use Rattle.spec_deblocking.proofs.Across.{nth_is}
+use Rattle.spec_deblocking.specs.Thresholds.{tc}
+use Rattle.spec_deblocking.specs.Decisions.{edge_filter}
+use Rattle.spec_deblocking.specs.Filters.{filtered}
+use Rattle.spec_deblocking.specs.Planes.{edge_sample, filtered_line, vertical}
+use Rattle.spec_deblocking.proofs.Across.{across_same, five_same, nth_is}
 use Rattle.spec_deblocking.proofs.Unchanged.{sample_off}
 use Rattle.deblock.specs.declared.pass.Pass.{Pass}
-use Rattle.deblock.specs.Passes.{is_beside, is_done, partly, IsPass, IsAlong, IsAcross}
-use Rattle.deblock.specs.Windows.{holds}
+use Rattle.deblock.specs.Passes.{is_beside, is_done, partly, IsPass, IsAlong, IsAcross, IsPartly}
+use Rattle.deblock.specs.Windows.{holds, seen}
 use Rattle.deblock.proofs.Flat.{inside_holds}
 use Rattle.deblock.proofs.Laying.{more}
 use Rattle.deblock.proofs.Lines.{IsBeside, beside_of, place_line}
@@ -21,23 +25,56 @@ same_either : (b : Bool) (v old : ℕ) → (b ≡ true → old ≡ v) → old �
 same_either true v old e = e refl
 same_either false v old e = refl
 
--- an edge inside a plane begins no later than what is filtered ends
-pub reaches : (side end e : ℕ) → (end ≡ side) ⊎ (end % 8 ≡ 0) → 8 * e ≤ end + 3 → 8 * e < side → 8 * e ≤ end
-reaches side end e (inl whole) h l = omega (arith, whole)
-reaches side end e (inr grid) h l = omega (arith, grid)
+-- a line of a place is not laid before it is read
+pub line_yet : (first n b : ℕ) (r : Bool) (v new start : ℕ) → b ≡ first + n
+    → new ≡ cond ((nat_le first b && nat_lt b (first + n)) && r) v start → new ≡ start
+line_yet first n b r v new start e is =
+    let none : ((nat_le first b && nat_lt b (first + n)) && r) ≡ false = grind (arith, nat_tests) in
+    rw none at is
 
-pub end_whole : (side end : ℕ) → side % 4 ≡ 0 → (end ≡ side) ⊎ (end % 8 ≡ 0) → end % 4 ≡ 0
-end_whole side end w (inl whole) = omega (arith, w, whole)
-end_whole side end w (inr grid) = omega (arith, grid)
-
--- what is read of a place across an edge lies in the samples that are read
+-- what is read of a place across an edge lies in the samples that are there
 pub reads_inside : (pass : Pass) (e s k b : ℕ) → IsPass pass → IsAcross pass e → IsAlong pass s → 0 < e →
     8 * e < pass.side → k < 8 → side pass.plane * s ≤ b → b < side pass.plane * s + side pass.plane →
-    holds pass.before (8 * e - 4 + k) b ≡ true
+    holds pass.window (8 * e - 4 + k) b ≡ true
 reads_inside pass e s k b is across along some inside few first last =
-    let whole : 8 * e ≤ pass.behind.across_end = reaches pass.side pass.behind.across_end e is.end across.high inside in
-    inside_holds pass.before _ _ (omega (arith, is.low, across.low)) (omega (arith, is.high, is.whole))
+    inside_holds pass.window _ _ (omega (arith, is.low, across.low)) (omega (arith, is.high, is.whole, across.high))
     (omega (arith, is.along_low, along.low)) (omega (arith, is.along_high, along.high))
+
+pub beside_inside : (pass : Pass) (e s i j : ℕ) → IsPass pass → IsAcross pass e → IsAlong pass s → 0 < e →
+    8 * e < pass.side → is_beside pass.plane s e i j ≡ true → holds pass.window i j ≡ true
+beside_inside pass e s i j is across along some inside t =
+    let at = beside_of pass.plane s e i j t in
+    let k : 8 * e - 4 + (i + 4 - 8 * e) ≡ i = omega (arith, at.low) in
+    subst (λ (x : ℕ). holds pass.window x j ≡ true) k
+    (reads_inside pass e s (i + 4 - 8 * e) j is across along some inside (omega (arith, at.high)) at.first at.last)
+
+beside_is : (plane : Plane) (s e i j : ℕ) → 8 * e ≤ i + 4 → i + 4 < 8 * e + 8 → side plane * s ≤ j
+    → j < side plane * s + side plane → is_beside plane s e i j ≡ true
+beside_is plane s e i j a b c d = grind (arith, nat_tests)
+
+some_lines : (plane : Plane) → 0 < side plane
+some_lines Luma = omega arith
+some_lines (Chroma offset) = omega arith
+
+-- samples beside an edge alone count
+pub edge_alone : (plane : Plane) (depth : ℕ) (places : ℕ → ℕ → Place) (f g : ℕ → ℕ → ℕ) (s e j k : ℕ) → 0 < e →
+    side plane * s ≤ j → j < side plane * s + side plane →
+    ((i l : ℕ) → is_beside plane s e i l ≡ true → g i l ≡ f i l) →
+    edge_sample plane depth places g e j k ≡ edge_sample plane depth places f e j k
+unfolding edge_sample filtered_line
+edge_alone plane depth places f g s e j k some low high same =
+    let here = place_line plane s j low high in
+    let some_line = some_lines plane in
+    let line : (l : ℕ) → side plane * s ≤ l → l < side plane * s + side plane
+    → across g (8 * e - 4) l ≡ across f (8 * e - 4) l = λ l a b.
+    across_same g f (8 * e - 4) l
+    (λ k few. same _ l (beside_is plane s e _ l (omega arith) (omega arith) a b)) in
+    five_same (λ (p q : Place) (a b c : Line). if (if nat_lt k 4 then p.kept else q.kept) then nth c k
+    else nth (filtered (edge_filter plane depth p q a b) (2 ^ depth - 1) (tc plane depth p q) c) k)
+    _ _ _ _ _ _ _ _ _ _ refl refl
+    (rw here (line (side plane * s) (omega arith) (omega arith)))
+    (rw here (line (side plane * s + (side plane - 1)) (omega arith) (omega arith)))
+    (line j low high)
 
 pub edge_in : (plane : Plane) (depth width : ℕ) (places : ℕ → ℕ → Place) (f : ℕ → ℕ → ℕ) (s e i j : ℕ) →
     IsBeside plane s e i j → 0 < e → 8 * e < width →
@@ -61,92 +98,102 @@ pub no_edge : (e width : ℕ) → (e ≤ 0) ⊎ (width ≤ 8 * e) → (nat_lt 0 
 no_edge e width (inl none) = grind (arith, nat_tests)
 no_edge e width (inr past) = grind (arith, nat_tests)
 
-done_more : (plane : Plane) (s e i j : ℕ)
-    → is_done plane s (e + 1) i j ≡ (is_done plane s e i j || is_beside plane s e i j)
-done_more plane s e i j = grind (arith, nat_tests)
+done_more : (p : Pass) (s e i j : ℕ) → p.first ≤ e → e < p.end → p.along_first ≤ side p.plane * s
+    → is_done p s (e + 1) i j ≡ (is_done p s e i j || is_beside p.plane s e i j)
+done_more p s e i j low high along = grind (arith, nat_tests)
 
-done_not : (plane : Plane) (s e i j : ℕ) → is_beside plane s e i j ≡ true → is_done plane s e i j ≡ false
-done_not plane s e i j t = grind (arith, nat_tests)
+done_not : (p : Pass) (s e i j : ℕ) → is_beside p.plane s e i j ≡ true → is_done p s e i j ≡ false
+done_not p s e i j t = grind (arith, nat_tests)
 
-pub not_yet : (plane : Plane) (depth width : ℕ) (places : ℕ → ℕ → Place) (f : ℕ → ℕ → ℕ) (s e i j old : ℕ) →
-    old ≡ partly plane depth width places f s e i j →
-    is_beside plane s e i j ≡ true → old ≡ f i j
-not_yet plane depth width places f s e i j old o t = let n = done_not plane s e i j t in rw n at o
+pub not_yet : (p : Pass) (places : ℕ → ℕ → Place) (f : ℕ → ℕ → ℕ) (s e i j old : ℕ) →
+    old ≡ partly p places f s e i j →
+    is_beside p.plane s e i j ≡ true → old ≡ f i j
+not_yet p places f s e i j old o t = let n = done_not p s e i j t in rw n at o
 
--- one more edge
-pub edge_more : (plane : Plane) (depth width : ℕ) (places : ℕ → ℕ → Place) (f : ℕ → ℕ → ℕ) (s e i j new old : ℕ) →
-    0 < e → 8 * e < width →
-    new ≡ cond (is_beside plane s e i j) (edge_sample plane depth places f e j (i + 4 - 8 * e)) old →
-    old ≡ partly plane depth width places f s e i j → new ≡ partly plane depth width places f s (e + 1) i j
-edge_more plane depth width places f s e i j new old some inside n o =
-    more _ _ _ new old (f i j) _ _ n o
-    (λ (t : is_beside plane s e i j ≡ true). edge_in plane depth width places f s e i j
-    (beside_of plane s e i j t) some inside)
-    (done_more plane s e i j)
+-- one more edge, filtered over samples of which the former ones are filtered
+pub edge_more : (p : Pass) (places : ℕ → ℕ → Place) (f : ℕ → ℕ → ℕ) (s e : ℕ) (now before : List ℕ) →
+    IsPass p → IsAcross p e → IsAlong p s → 0 < e → 8 * e < p.side →
+    ((i j : ℕ) → holds p.window i j ≡ true → seen p.window now i j
+    ≡ cond (is_beside p.plane s e i j)
+    (edge_sample p.plane p.bit_depth places (seen p.window before) e j (i + 4 - 8 * e)) (seen p.window before i j)) →
+    IsPartly p places f s e before → IsPartly p places f s (e + 1) now
+edge_more p places f s e now before is across along some inside new old i j h =
+    let same : (k l : ℕ) → is_beside p.plane s e k l ≡ true → seen p.window before k l ≡ f k l = λ k l t.
+    not_yet p places f s e k l _ (old k l (beside_inside p e s k l is across along some inside t)) t in
+    more _ _ _ _ _ (f i j) _ _ (new i j h) (old i j h)
+    (λ (t : is_beside p.plane s e i j ≡ true).
+    let at = beside_of p.plane s e i j t in
+    edge_alone p.plane p.bit_depth places f (seen p.window before) s e j (i + 4 - 8 * e) some at.first at.last same
+    ∙ edge_in p.plane p.bit_depth p.side places f s e i j at some inside)
+    (done_more p s e i j across.low across.high along.low)
 
 -- an edge that changes nothing
-pub edge_none : (plane : Plane) (depth width : ℕ) (places : ℕ → ℕ → Place) (f : ℕ → ℕ → ℕ) (s e i j old : ℕ) →
-    (nat_lt 0 e && nat_lt (8 * e) width) ≡ false →
-    old ≡ partly plane depth width places f s e i j → old ≡ partly plane depth width places f s (e + 1) i j
-edge_none plane depth width places f s e i j old none o =
-    let n : old ≡ cond (is_beside plane s e i j) (f i j) old =
-    same_either (is_beside plane s e i j) (f i j) old (not_yet plane depth width places f s e i j old o) in
-    more _ _ _ old old (f i j) _ _ n o
-    (λ (t : is_beside plane s e i j ≡ true). edge_out plane depth width places f s e i j
-    (beside_of plane s e i j t) none)
-    (done_more plane s e i j)
+pub edge_none : (p : Pass) (places : ℕ → ℕ → Place) (f : ℕ → ℕ → ℕ) (s e : ℕ) (samples : List ℕ) →
+    IsAcross p e → IsAlong p s →
+    (nat_lt 0 e && nat_lt (8 * e) p.side) ≡ false →
+    IsPartly p places f s e samples → IsPartly p places f s (e + 1) samples
+edge_none p places f s e samples across along none old i j h =
+    let o = old i j h in
+    let n : seen p.window samples i j ≡ cond (is_beside p.plane s e i j) (f i j) (seen p.window samples i j) =
+    same_either (is_beside p.plane s e i j) (f i j) _ (not_yet p places f s e i j _ o) in
+    more _ _ _ _ _ (f i j) _ _ n o
+    (λ (t : is_beside p.plane s e i j ≡ true). edge_out p.plane p.bit_depth p.side places f s e i j
+    (beside_of p.plane s e i j t) none)
+    (done_more p s e i j across.low across.high along.low)
 
 pub weak_of : (q r : Place) → q ≡ r → q.left_strength ≡ 0 → r.left_strength ≡ 0
 weak_of q r e h = subst (λ (p : Place). p.left_strength ≡ 0) e h
 
-pub edge_weak : (plane : Plane) (depth width : ℕ) (places : ℕ → ℕ → Place) (f : ℕ → ℕ → ℕ) (s e i j old : ℕ) → 0 < e →
-    8 * e < width →
-    (places (8 * e / side plane) s).left_strength ≡ 0 →
-    old ≡ partly plane depth width places f s e i j → old ≡ partly plane depth width places f s (e + 1) i j
-edge_weak plane depth width places f s e i j old some inside none o =
-    edge_more plane depth width places f s e i j old old some inside
-    (same_either (is_beside plane s e i j) _ old (λ (t : is_beside plane s e i j ≡ true).
-    let at = beside_of plane s e i j t in
-    let here = place_line plane s j at.first at.last in
-    let weak : (place_behind plane places e j).left_strength ≡ 0 =
-    subst (λ (r : ℕ). (places (8 * e / side plane) r).left_strength ≡ 0) (sym here) none in
+pub edge_weak : (p : Pass) (places : ℕ → ℕ → Place) (f : ℕ → ℕ → ℕ) (s e : ℕ) (samples : List ℕ) →
+    IsPass p → IsAcross p e → IsAlong p s → 0 < e → 8 * e < p.side →
+    (places (8 * e / side p.plane) s).left_strength ≡ 0 →
+    IsPartly p places f s e samples → IsPartly p places f s (e + 1) samples
+edge_weak p places f s e samples is across along some inside none old =
+    edge_more p places f s e samples samples is across along some inside
+    (λ i j h. same_either (is_beside p.plane s e i j) _ _ (λ (t : is_beside p.plane s e i j ≡ true).
+    let at = beside_of p.plane s e i j t in
+    let here = place_line p.plane s j at.first at.last in
+    let weak : (place_behind p.plane places e j).left_strength ≡ 0 =
+    subst (λ (r : ℕ). (places (8 * e / side p.plane) r).left_strength ≡ 0) (sym here) none in
     let k : 8 * e - 4 + (i + 4 - 8 * e) ≡ i = omega (arith, at.low) in
-    not_yet plane depth width places f s e i j old o t
-    ∙ sym (sample_off plane depth places f e j (i + 4 - 8 * e) weak
-    ∙ nth_is f (8 * e - 4) j (i + 4 - 8 * e) (omega (arith, at.high)) ∙ ap (λ (x : ℕ). f x j) k)))
-    o
+    sym (sample_off p.plane p.bit_depth places (seen p.window samples) e j (i + 4 - 8 * e) weak
+    ∙ nth_is (seen p.window samples) (8 * e - 4) j (i + 4 - 8 * e) (omega (arith, at.high))
+    ∙ ap (λ (x : ℕ). seen p.window samples x j) k)))
+    old
 
 -- a row's places
-pub part_none : (plane : Plane) (depth width : ℕ) (places : ℕ → ℕ → Place) (f : ℕ → ℕ → ℕ) (s i j first old : ℕ) →
-    first % 4 ≡ 0 → s ≡ first / side plane → first ≤ j → old ≡ f i j →
-    old ≡ partly plane depth width places f s 0 i j
-part_none Luma depth width places f s i j first old whole e le o =
-    let t : is_done Luma s 0 i j ≡ false = grind (arith, nat_tests) in rw t o
-part_none (Chroma offset) depth width places f s i j first old whole e le o =
-    let t : is_done (Chroma offset) s 0 i j ≡ false = grind (arith, nat_tests) in rw t o
+none_done : (plane : Plane) (first s j : ℕ) (a b c : Bool) → first % 4 ≡ 0 → s ≡ first / side plane →
+    ((nat_le first j && a) && ((nat_lt j (side plane * s) && b) || (nat_lt j (side plane * s + side plane) && c)))
+    ≡ ((nat_le first j && a) && (nat_lt j (side plane * s + side plane) && c))
+none_done Luma first s j a b c whole e = grind (arith, nat_tests)
+none_done (Chroma offset) first s j a b c whole e = grind (arith, nat_tests)
 
-pub part_all : (plane : Plane) (depth width : ℕ) (places : ℕ → ℕ → Place) (f : ℕ → ℕ → ℕ) (s i j end old : ℕ) →
-    end % 4 ≡ 0 → end / side plane ≤ s → j < end →
-    old ≡ partly plane depth width places f s 0 i j → old ≡ vertical plane depth width places f i j
-part_all Luma depth width places f s i j end old whole e lt o =
-    let t : is_done Luma s 0 i j ≡ true = grind (arith, nat_tests) in rw t at o
-part_all (Chroma offset) depth width places f s i j end old whole e lt o =
-    let t : is_done (Chroma offset) s 0 i j ≡ true = grind (arith, nat_tests) in rw t at o
+pub part_none : (p : Pass) (places : ℕ → ℕ → Place) (f : ℕ → ℕ → ℕ) (s i j old : ℕ) →
+    p.along_first % 4 ≡ 0 → s ≡ p.along_first / side p.plane → old ≡ f i j →
+    old ≡ partly p places f s 0 i j
+part_none p places f s i j old whole e o =
+    let t : is_done p s 0 i j ≡ false =
+    none_done p.plane p.along_first s j (nat_le (8 * p.first) (i + 4)) (nat_lt (i + 4) (8 * p.end))
+    (nat_lt (i + 4) (8 * 0)) whole e
+    ∙ grind (arith, nat_tests) in
+    rw t o
 
 -- a place's edges
-pub edges_none : (plane : Plane) (depth width : ℕ) (places : ℕ → ℕ → Place) (f : ℕ → ℕ → ℕ) (s i j first old : ℕ) →
-    first % 8 ≡ 0 → first ≤ i →
-    old ≡ partly plane depth width places f s 0 i j → old ≡ partly plane depth width places f s (first / 8) i j
-edges_none plane depth width places f s i j first old whole le o =
-    let t : is_done plane s (first / 8) i j ≡ is_done plane s 0 i j = grind (arith, nat_tests) in
+pub edges_none : (p : Pass) (places : ℕ → ℕ → Place) (f : ℕ → ℕ → ℕ) (s : ℕ) (samples : List ℕ) →
+    IsPartly p places f s 0 samples → IsPartly p places f s p.first samples
+edges_none p places f s samples old i j h =
+    let t : is_done p s p.first i j ≡ is_done p s 0 i j = grind (arith, nat_tests) in
+    let o = old i j h in
     rw t o
 
-pub edges_all : (plane : Plane) (depth width : ℕ) (places : ℕ → ℕ → Place) (f : ℕ → ℕ → ℕ) (s e i j end old : ℕ) →
-    (end + 11) / 8 ≤ e → i < end →
-    old ≡ partly plane depth width places f s e i j → old ≡ partly plane depth width places f (s + 1) 0 i j
-edges_all Luma depth width places f s e i j end old last lt o =
-    let t : is_done Luma (s + 1) 0 i j ≡ is_done Luma s e i j = grind (arith, nat_tests) in
-    rw t o
-edges_all (Chroma offset) depth width places f s e i j end old last lt o =
-    let t : is_done (Chroma offset) (s + 1) 0 i j ≡ is_done (Chroma offset) s e i j = grind (arith, nat_tests) in
+next_place : (plane : Plane) (s : ℕ) → side plane * (s + 1) ≡ side plane * s + side plane
+next_place Luma s = omega arith
+next_place (Chroma offset) s = omega arith
+
+pub edges_all : (p : Pass) (places : ℕ → ℕ → Place) (f : ℕ → ℕ → ℕ) (s e : ℕ) (samples : List ℕ) → e ≡ p.end →
+    IsPartly p places f s e samples → IsPartly p places f (s + 1) 0 samples
+edges_all p places f s e samples last old i j h =
+    let n = next_place p.plane s in
+    let t : is_done p (s + 1) 0 i j ≡ is_done p s e i j = rw (n, last) (grind (arith, nat_tests)) in
+    let o = old i j h in
     rw t o

@@ -1,5 +1,5 @@
 -- One value laid over another.
-use Rattle.std.proofs.Common.{◌≡◌, ℕ, ◌+◌, ◌-◌, ◌*◌, ◌<◌, ◌≤◌, Bool, true, false, ◌&&◌, ◌||◌, cond, nat_le, nat_lt}
+use Rattle.std.proofs.Common.{◌≡◌, ℕ, ◌+◌, ◌-◌, ◌≤◌, Bool, true, false, ◌&&◌, ◌||◌, cond, nat_le, nat_lt}
 use Rattle.std.proofs.Common.{refl, ◌∙◌, arith}
 use Rattle.std.specs.Prelude.{◌==◌}
 use Rattle.std.proofs.lemmas.Bool.Decides.{nat_tests}
@@ -24,6 +24,9 @@ cond_yes false new v old e t = cc
 pub cond_no : (b : Bool) (new v old : ℕ) → new ≡ cond b v old → b ≡ false → new ≡ old
 cond_no true new v old e t = cc
 cond_no false new v old e t = e
+
+pub cond_by : (b c : Bool) (new v old : ℕ) → new ≡ cond b v old → b ≡ c → new ≡ cond c v old
+cond_by b c new v old e same = rw same at e
 
 -- one more sample of a line
 pub line_more : (a b from k i j : ℕ) (line : Line) (new old start v : ℕ) → from ≤ k → v ≡ nth line k →

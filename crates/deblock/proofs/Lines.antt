@@ -1,6 +1,6 @@
 -- The lines of a place, filtered in part.
-use Rattle.std.proofs.Common.{◌≡◌, ℕ, ◌+◌, ◌-◌, ◌*◌, ◌/◌, ◌%◌, ◌^◌, ◌<◌, ◌≤◌, Bool, true, false, ◌&&◌, ◌||◌, cond}
-use Rattle.std.proofs.Common.{nat_le, nat_lt, refl, ap, sym, ◌∙◌, inl, inr, ◌⊎◌, arith, if◌then◌else◌}
+use Rattle.std.proofs.Common.{◌≡◌, ℕ, ◌+◌, ◌-◌, ◌*◌, ◌/◌, ◌^◌, ◌<◌, ◌≤◌, Bool, true, false, cond}
+use Rattle.std.proofs.Common.{nat_lt, refl, ap, sym, ◌∙◌, inl, inr, arith, if◌then◌else◌}
 use Rattle.std.proofs.lemmas.Bool.{cases_lt}
 use Rattle.std.proofs.lemmas.Bool.Decides.{nat_tests}
 use Rattle.spec_deblocking.specs.declared.line.Line.{Line}
@@ -51,39 +51,19 @@ written_apart : (plane : Plane) (s e from to i j : ℕ) → 0 < e → to ≤ 8 �
     → is_written plane s (8 * e - 4) from to i j ≡ false
 written_apart plane s e from to i j p q t = grind (arith, nat_tests)
 
-first_four : (kept : Bool) (a lo from : ℕ) → from ≡ cond (kept || nat_lt a lo) 4 0 → kept ≡ true → from ≡ 4
-first_four true a lo from e k = e
-first_four false a lo from e k = cc
-
-first_none : (kept : Bool) (a lo from : ℕ) → from ≡ cond (kept || nat_lt a lo) 4 0 → kept ≡ false → lo ≤ a → from ≡ 0
-first_none true a lo from e k l = cc
-first_none false a lo from e k l = let t : nat_lt a lo ≡ false = grind (arith, nat_tests) in e ∙ rw t refl
-
 first_few : (b : Bool) (from : ℕ) → from ≡ cond b 4 0 → from ≤ 4
 first_few true from e = omega (arith, e)
 first_few false from e = omega (arith, e)
 
-end_four : (kept : Bool) (a hi to : ℕ) → to ≡ cond (kept || nat_lt hi (a + 8)) 4 8 → kept ≡ true → to ≡ 4
-end_four true a hi to e k = e
-end_four false a hi to e k = cc
-
-end_eight : (kept : Bool) (a hi to : ℕ) → to ≡ cond (kept || nat_lt hi (a + 8)) 4 8 → kept ≡ false → a + 8 ≤ hi → to ≡ 8
-end_eight true a hi to e k l = cc
-end_eight false a hi to e k l = let t : nat_lt hi (a + 8) ≡ false = grind (arith, nat_tests) in e ∙ rw t refl
+first_is : (kept b : Bool) (from : ℕ) → from ≡ cond kept 4 0 → kept ≡ b → from ≡ cond b 4 0
+first_is kept b from e k = rw k at e
 
 end_some : (b : Bool) (to : ℕ) → to ≡ cond b 4 8 → 4 ≤ to
 end_some true to e = omega (arith, e)
 end_some false to e = omega (arith, e)
 
-pub low_first : (kept : Bool) (a lo from k : ℕ) → from ≡ cond (kept || nat_lt a lo) 4 0 → lo ≤ a + 4 → from ≤ k
-    → lo ≤ a + k
-low_first true a lo from k e l h = omega (arith, e)
-low_first false a lo from k e l h = grind (arith, nat_tests)
-
-pub high_end : (kept : Bool) (a hi to k : ℕ) → to ≡ cond (kept || nat_lt hi (a + 8)) 4 8 → a + 4 ≤ hi → k < to
-    → a + k < hi
-high_end true a hi to k e l h = omega (arith, e)
-high_end false a hi to k e l h = grind (arith, nat_tests)
+end_is : (kept b : Bool) (to : ℕ) → to ≡ cond kept 4 8 → kept ≡ b → to ≡ cond b 4 8
+end_is kept b to e k = rw k at e
 
 kept_sample : (plane : Plane) (depth : ℕ) (places : ℕ → ℕ → Place) (f : ℕ → ℕ → ℕ) (e j k : ℕ) (b : Bool) →
     nat_lt k 4 ≡ b →
@@ -112,22 +92,22 @@ unfolding filtered_line
 line_of plane depth places f e s j p q filter greatest t here ep eq ef eg et = rw (ef, eg, et, ep, eq, ← here) refl
 
 before_laid : (kept : Bool) (plane : Plane) (depth : ℕ) (places : ℕ → ℕ → Place) (f : ℕ → ℕ → ℕ) (e s i j : ℕ)
-    (p : Place) (from to lo : ℕ) (line : Line) (new old : ℕ) →
+    (p : Place) (from to : ℕ) (line : Line) (new old : ℕ) →
     p.kept ≡ kept → 0 < e → IsBeside plane s e i j → i < 8 * e → p ≡ place_before plane places e j →
-    line ≡ filtered_line plane depth places f e j → from ≡ cond (p.kept || nat_lt (8 * e - 4) lo) 4 0 → 4 ≤ to →
-    lo ≤ i → lo % 8 ≡ 0 → old ≡ f i j →
+    line ≡ filtered_line plane depth places f e j → from ≡ cond p.kept 4 0 → 4 ≤ to →
+    old ≡ f i j →
     new ≡ cond (is_written plane s (8 * e - 4) from to i j) (nth line (i - (8 * e - 4))) old →
     new ≡ edge_sample plane depth places f e j (i + 4 - 8 * e)
-before_laid true plane depth places f e s i j p from to lo line new old kp some at lt ep el efrom eto low whole eo n =
-    let four : from ≡ 4 = first_four p.kept (8 * e - 4) lo from efrom kp in
+before_laid true plane depth places f e s i j p from to line new old kp some at lt ep el efrom eto eo n =
+    let four : from ≡ 4 = first_is p.kept true from efrom kp in
     let k : 8 * e - 4 + (i + 4 - 8 * e) ≡ i = omega (arith, at.low) in
     let first : nat_lt (i + 4 - 8 * e) 4 ≡ true = grind (arith, nat_tests) in
     let few : i + 4 - 8 * e < 8 = omega (arith, at.high) in
     let kb : (place_before plane places e j).kept ≡ true = rw ep at kp in
     cond_no _ _ _ _ n (written_early plane s (8 * e - 4) from to i j (omega (arith, four, at.low))) ∙ eo
     ∙ sym (kept_sample plane depth places f e j (i + 4 - 8 * e) true first kb few ∙ ap (λ (x : ℕ). f x j) k)
-before_laid false plane depth places f e s i j p from to lo line new old kp some at lt ep el efrom eto low whole eo n =
-    let none : from ≡ 0 = first_none p.kept (8 * e - 4) lo from efrom kp (omega (arith, at.low)) in
+before_laid false plane depth places f e s i j p from to line new old kp some at lt ep el efrom eto eo n =
+    let none : from ≡ 0 = first_is p.kept false from efrom kp in
     let k : i - (8 * e - 4) ≡ i + 4 - 8 * e = omega (arith, at.low) in
     let first : nat_lt (i + 4 - 8 * e) 4 ≡ true = grind (arith, nat_tests) in
     let kb : (place_before plane places e j).kept ≡ false = rw ep at kp in
@@ -138,22 +118,22 @@ before_laid false plane depth places f e s i j p from to lo line new old kp some
     ∙ sym (open_sample plane depth places f e j (i + 4 - 8 * e) true first kb)
 
 behind_laid : (kept : Bool) (plane : Plane) (depth : ℕ) (places : ℕ → ℕ → Place) (f : ℕ → ℕ → ℕ) (e s i j : ℕ)
-    (q : Place) (from to hi : ℕ) (line : Line) (new old : ℕ) →
+    (q : Place) (from to : ℕ) (line : Line) (new old : ℕ) →
     q.kept ≡ kept → 0 < e → IsBeside plane s e i j → 8 * e ≤ i → q ≡ place_behind plane places e j →
-    line ≡ filtered_line plane depth places f e j → from ≤ 4 → to ≡ cond (q.kept || nat_lt hi (8 * e - 4 + 8)) 4 8 →
-    i < hi → hi % 4 ≡ 0 → old ≡ f i j →
+    line ≡ filtered_line plane depth places f e j → from ≤ 4 → to ≡ cond q.kept 4 8 →
+    old ≡ f i j →
     new ≡ cond (is_written plane s (8 * e - 4) from to i j) (nth line (i - (8 * e - 4))) old →
     new ≡ edge_sample plane depth places f e j (i + 4 - 8 * e)
-behind_laid true plane depth places f e s i j q from to hi line new old kq some at le eq el efrom eto high whole eo n =
-    let four : to ≡ 4 = end_four q.kept (8 * e - 4) hi to eto kq in
+behind_laid true plane depth places f e s i j q from to line new old kq some at le eq el efrom eto eo n =
+    let four : to ≡ 4 = end_is q.kept true to eto kq in
     let k : 8 * e - 4 + (i + 4 - 8 * e) ≡ i = omega (arith, at.low) in
     let first : nat_lt (i + 4 - 8 * e) 4 ≡ false = grind (arith, nat_tests) in
     let few : i + 4 - 8 * e < 8 = omega (arith, at.high) in
     let kb : (place_behind plane places e j).kept ≡ true = rw eq at kq in
     cond_no _ _ _ _ n (written_late plane s (8 * e - 4) from to i j (omega (arith, four))) ∙ eo
     ∙ sym (kept_sample plane depth places f e j (i + 4 - 8 * e) false first kb few ∙ ap (λ (x : ℕ). f x j) k)
-behind_laid false plane depth places f e s i j q from to hi line new old kq some at le eq el efrom eto high whole eo n =
-    let eight : to ≡ 8 = end_eight q.kept (8 * e - 4) hi to eto kq (omega arith) in
+behind_laid false plane depth places f e s i j q from to line new old kq some at le eq el efrom eto eo n =
+    let eight : to ≡ 8 = end_is q.kept false to eto kq in
     let k : i - (8 * e - 4) ≡ i + 4 - 8 * e = omega (arith, at.low) in
     let first : nat_lt (i + 4 - 8 * e) 4 ≡ false = grind (arith, nat_tests) in
     let kb : (place_behind plane places e j).kept ≡ false = rw eq at kq in
@@ -167,23 +147,21 @@ end_few : (b : Bool) (to : ℕ) → to ≡ cond b 4 8 → to ≤ 8
 end_few true to e = omega (arith, e)
 end_few false to e = omega (arith, e)
 
--- the lines of a place across an edge, each side laid where it isn't kept and is there
+-- the lines of a place across an edge, each side laid where it isn't kept
 pub place_laid : (plane : Plane) (depth : ℕ) (places : ℕ → ℕ → Place) (f : ℕ → ℕ → ℕ) (e s i j : ℕ) (p q : Place)
-    (filter : Filter) (greatest t from to lo hi new old : ℕ) →
-    0 < e → lo ≤ i → i < hi → lo % 8 ≡ 0 → hi % 4 ≡ 0 →
+    (filter : Filter) (greatest t from to new : ℕ) →
+    0 < e →
     p ≡ places ((8 * e - 1) / side plane) s → q ≡ places (8 * e / side plane) s →
     filter
     ≡ edge_filter plane depth p q (across f (8 * e - 4) (side plane * s))
     (across f (8 * e - 4) (side plane * s + (side plane - 1))) →
     greatest ≡ 2 ^ depth - 1 → t ≡ tc plane depth p q →
-    from ≡ cond (p.kept || nat_lt (8 * e - 4) lo) 4 0 → to ≡ cond (q.kept || nat_lt hi (8 * e - 4 + 8)) 4 8 →
-    (is_beside plane s e i j ≡ true → old ≡ f i j) →
+    from ≡ cond p.kept 4 0 → to ≡ cond q.kept 4 8 →
     new
     ≡ cond (is_written plane s (8 * e - 4) from to i j)
-    (nth (filtered filter greatest t (across f (8 * e - 4) j)) (i - (8 * e - 4))) old →
-    new ≡ cond (is_beside plane s e i j) (edge_sample plane depth places f e j (i + 4 - 8 * e)) old
-place_laid plane depth places f e s i j p q filter greatest t from to lo hi new old some low high wl wh ep eq ef
-    eg et efrom eto eo n =
+    (nth (filtered filter greatest t (across f (8 * e - 4) j)) (i - (8 * e - 4))) (f i j) →
+    new ≡ cond (is_beside plane s e i j) (edge_sample plane depth places f e j (i + 4 - 8 * e)) (f i j)
+place_laid plane depth places f e s i j p q filter greatest t from to new some ep eq ef eg et efrom eto n =
     cond_intro (is_beside plane s e i j) _ _ _
     (λ (b : is_beside plane s e i j ≡ true).
     let at = beside_of plane s e i j b in
@@ -193,11 +171,11 @@ place_laid plane depth places f e s i j p q filter greatest t from to lo hi new 
     let line = sym (line_of plane depth places f e s j p q filter greatest t here pb qb ef eg et) in
     elim (cases_lt i (8 * e)) [
       | inl lt ↦
-          before_laid p.kept plane depth places f e s i j p from to lo _ new old refl some at lt pb line efrom
-          (end_some _ to eto) low wl (eo b) n
+          before_laid p.kept plane depth places f e s i j p from to _ new _ refl some at lt pb line efrom
+          (end_some _ to eto) refl n
       | inr le ↦
-          behind_laid q.kept plane depth places f e s i j q from to hi _ new old refl some at le qb line
-          (first_few _ from efrom) eto high wh (eo b) n
+          behind_laid q.kept plane depth places f e s i j q from to _ new _ refl some at le qb line
+          (first_few _ from efrom) eto refl n
     ])
     (λ (b : is_beside plane s e i j ≡ false). cond_no _ _ _ _ n
     (written_apart plane s e from to i j some (end_few _ to eto) b))
@@ -206,34 +184,31 @@ written_beside : (plane : Plane) (s e from to i j : ℕ) → 0 < e → to ≤ 8 
     → is_beside plane s e i j ≡ true
 written_beside plane s e from to i j p q t = grind (arith, nat_tests)
 
-unwritten : (plane : Plane) (s e from to i j : ℕ) (f : ℕ → ℕ → ℕ) (line : Line) (old : ℕ) → 0 < e → to ≤ 8 →
-    line ≡ across f (8 * e - 4) j → (is_beside plane s e i j ≡ true → old ≡ f i j) →
-    old ≡ cond (is_written plane s (8 * e - 4) from to i j) (nth line (i - (8 * e - 4))) old
-unwritten plane s e from to i j f line old some few el eo =
+unwritten : (plane : Plane) (s e from to i j : ℕ) (f : ℕ → ℕ → ℕ) (line : Line) → 0 < e → to ≤ 8 →
+    line ≡ across f (8 * e - 4) j →
+    f i j ≡ cond (is_written plane s (8 * e - 4) from to i j) (nth line (i - (8 * e - 4))) (f i j)
+unwritten plane s e from to i j f line some few el =
     cond_intro (is_written plane s (8 * e - 4) from to i j) _ _ _
     (λ (w : is_written plane s (8 * e - 4) from to i j ≡ true).
     let b : is_beside plane s e i j ≡ true = written_beside plane s e from to i j some few w in
     let at = beside_of plane s e i j b in
     let k : 8 * e - 4 + (i - (8 * e - 4)) ≡ i = omega (arith, at.low) in
     let less : i - (8 * e - 4) < 8 = omega (arith, at.high) in
-    eo b
-    ∙ sym (ap (λ (l : Line). nth l (i - (8 * e - 4))) el ∙ nth_is f (8 * e - 4) j (i - (8 * e - 4)) less
+    sym (ap (λ (l : Line). nth l (i - (8 * e - 4))) el ∙ nth_is f (8 * e - 4) j (i - (8 * e - 4)) less
     ∙ ap (λ (x : ℕ). f x j) k))
     (λ (w : is_written plane s (8 * e - 4) from to i j ≡ false). refl)
 
 -- the lines of a place across an edge whose filter changes none
 pub off_laid : (plane : Plane) (depth : ℕ) (places : ℕ → ℕ → Place) (f : ℕ → ℕ → ℕ) (e s i j : ℕ) (p q : Place)
-    (filter : Filter) (lo hi old : ℕ) →
-    0 < e → lo ≤ i → i < hi → lo % 8 ≡ 0 → hi % 4 ≡ 0 →
+    (filter : Filter) →
+    0 < e →
     p ≡ places ((8 * e - 1) / side plane) s → q ≡ places (8 * e / side plane) s →
     filter
     ≡ edge_filter plane depth p q (across f (8 * e - 4) (side plane * s))
     (across f (8 * e - 4) (side plane * s + (side plane - 1))) →
     ((greatest t : ℕ) (line : Line) → filtered filter greatest t line ≡ line) →
-    (is_beside plane s e i j ≡ true → old ≡ f i j) →
-    old ≡ cond (is_beside plane s e i j) (edge_sample plane depth places f e j (i + 4 - 8 * e)) old
-off_laid plane depth places f e s i j p q filter lo hi old some low high wl wh ep eq ef same eo =
+    f i j ≡ cond (is_beside plane s e i j) (edge_sample plane depth places f e j (i + 4 - 8 * e)) (f i j)
+off_laid plane depth places f e s i j p q filter some ep eq ef same =
     place_laid plane depth places f e s i j p q filter (2 ^ depth - 1) (tc plane depth p q)
-    (cond (p.kept || nat_lt (8 * e - 4) lo) 4 0) (cond (q.kept || nat_lt hi (8 * e - 4 + 8)) 4 8) lo hi old old
-    some low high wl wh ep eq ef refl refl refl refl eo
-    (unwritten plane s e _ _ i j f _ old some (end_few (q.kept || nat_lt hi (8 * e - 4 + 8)) _ refl) (same _ _ _) eo)
+    (cond p.kept 4 0) (cond q.kept 4 8) _ some ep eq ef refl refl refl refl
+    (unwritten plane s e _ _ i j f _ some (end_few q.kept _ refl) (same _ _ _))

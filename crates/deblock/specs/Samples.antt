@@ -1,5 +1,5 @@
 -- Which samples and changes stay in range.
-use Rattle.std.specs.Prelude.{ℕ, ◌+◌, ◌-◌, ◌*◌, ◌^◌, ◌≤◌, List, slice_index_or, ℤ, pos, negsuc, ◌≤ℤ◌, neg_ℤ}
+use Rattle.std.specs.Prelude.{ℕ, ◌≤◌, List, slice_index_or, ℤ, pos, negsuc, ◌≤ℤ◌}
 use Rattle.spec_deblocking.specs.declared.line.Line.{Line}
 
 pub record IsDepth (depth : ℕ) : Type 0 where

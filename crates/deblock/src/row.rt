@@ -1,11 +1,12 @@
 //! The edges of a row of coding tree blocks.
 
-ghost use Rattle.std.specs.Prelude.{◌≡◌, ◌<◌, ◌≤◌, ◌+◌, ◌-◌, ◌*◌, ◌/◌, ◌^◌, ℕ, true, length, slice_index_or};
+ghost use Rattle.std.specs.Prelude.{◌≡◌, ◌<◌, ◌≤◌, ◌+◌, ◌-◌, ◌*◌, ◌/◌, ◌^◌, ℕ, cond, length};
 ghost use Rattle.spec_deblocking.specs.Planes.{vertical, horizontal};
 ghost use Rattle.deblock.specs.Samples.{IsBounded};
-ghost use Rattle.deblock.specs.Windows.{at, size, seen, holds, columns_across, lines_across};
-ghost use Rattle.deblock.specs.Passes.{placed, IsPass, IsAlong, partly};
-ghost use Rattle.deblock.specs.Rows.{IsRow, ReadsBeside};
+ghost use Rattle.deblock.specs.Windows.{at, size, seen, columns_across, lines_across};
+ghost use Rattle.spec_deblocking.specs.Places.{side};
+ghost use Rattle.deblock.specs.Passes.{placed, IsPass, IsAlong, IsPartly};
+ghost use Rattle.deblock.specs.Rows.{IsRow, is_beside_row, is_in_row};
 
 use crate::edge::{filter_edge, side};
 use crate::pass::Pass;
@@ -24,61 +25,68 @@ pub struct Row {
     pub width: usize,
     /// Lines of the plane, at most 65536.
     pub height: usize,
-    /// The first line that is read.
+    /// The first line that is there.
     pub first: usize,
-    /// The line behind the last that is read.
+    /// The line behind the last that is there.
     pub end: usize,
-    /// The first line that is filtered.
+    /// The first line of the row.
     pub top: usize,
-    /// The line behind the last that is filtered.
+    /// The line behind the last of the row.
     pub bottom: usize,
 }
 
-/// Filters the vertical edges of a row.
-pub fn vertical_row<V: PlaceView>(view: &V, row: &Row, samples: &[u16], out: &mut [u16])
+/// Filters the vertical edges in the lines of a row. The other lines stay.
+pub fn vertical_row<V: PlaceView>(view: &V, row: &Row, samples: &mut [u16])
     requires row { IsRow row.now }
-    requires samples { length samples.now ≡ row.now.width * (row.now.end - row.now.first) }
-    requires bounded { IsBounded (2 ^ row.now.bit_depth - 1) samples.now }
-    requires room { length out.old ≡ row.now.width * (row.now.bottom - row.now.top) }
-    ensures value { (x y : ℕ) → x < row.now.width → row.now.top ≤ y → y < row.now.bottom
-        → at row.now.width out.new x (y - row.now.top)
-        ≡ vertical row.now.plane row.now.bit_depth row.now.width (V.place_at view.now)
-        (λ i j. at row.now.width samples.now i (j - row.now.first)) x y }
-    ensures bounded { IsBounded (2 ^ row.now.bit_depth - 1) out.new }
+    requires samples { length samples.old ≡ row.now.width * (row.now.end - row.now.first) }
+    requires bounded { IsBounded (2 ^ row.now.bit_depth - 1) samples.old }
+    ensures value { (x y : ℕ) → x < row.now.width → row.now.first ≤ y → y < row.now.end
+        → at row.now.width samples.new x (y - row.now.first)
+        ≡ cond (is_in_row row.now y)
+        (vertical row.now.plane row.now.bit_depth row.now.width (V.place_at view.now)
+        (λ i j. at row.now.width samples.old i (j - row.now.first)) x y)
+        (at row.now.width samples.old x (y - row.now.first)) }
+    ensures bounded { IsBounded (2 ^ row.now.bit_depth - 1) samples.new }
 {
-    copy(samples, row.width * (row.top - row.first), out);
     let pass = Pass {
         plane: row.plane,
         bit_depth: row.bit_depth,
         side: row.width,
-        before: columns_across(row.width, row.first, row.end),
-        behind: columns_across(row.width, row.top, row.bottom),
+        window: columns_across(row.width, row.first, row.end),
+        first: 0,
+        end: (row.width + 11) / 8,
+        along_first: row.top,
+        along_end: row.bottom,
     };
-    filter_row(view, &pass, samples, out);
+    filter_row(view, &pass, samples);
 }
 
-/// Filters the horizontal edges of a row, over samples behind the vertical ones.
-pub fn horizontal_row<V: PlaceView>(view: &V, row: &Row, samples: &[u16], out: &mut [u16])
+/// Filters the horizontal edges at the lines of a row, over samples behind the vertical ones. An edge changes up to
+/// four lines above it too, so the last four lines of a row wait for the row below. The other lines stay.
+pub fn horizontal_row<V: PlaceView>(view: &V, row: &Row, samples: &mut [u16])
     requires row { IsRow row.now }
-    requires beside { ReadsBeside row.now }
-    requires samples { length samples.now ≡ row.now.width * (row.now.end - row.now.first) }
-    requires bounded { IsBounded (2 ^ row.now.bit_depth - 1) samples.now }
-    requires room { length out.old ≡ row.now.width * (row.now.bottom - row.now.top) }
-    ensures value { (x y : ℕ) → x < row.now.width → row.now.top ≤ y → y < row.now.bottom
-        → at row.now.width out.new x (y - row.now.top)
-        ≡ horizontal row.now.plane row.now.bit_depth row.now.height (V.place_at view.now)
-        (λ i j. at row.now.width samples.now i (j - row.now.first)) x y }
-    ensures bounded { IsBounded (2 ^ row.now.bit_depth - 1) out.new }
+    requires above { row.now.first ≤ row.now.top - 4 }
+    requires samples { length samples.old ≡ row.now.width * (row.now.end - row.now.first) }
+    requires bounded { IsBounded (2 ^ row.now.bit_depth - 1) samples.old }
+    ensures value { (x y : ℕ) → x < row.now.width → row.now.first ≤ y → y < row.now.end
+        → at row.now.width samples.new x (y - row.now.first)
+        ≡ cond (is_beside_row row.now y)
+        (horizontal row.now.plane row.now.bit_depth row.now.height (V.place_at view.now)
+        (λ i j. at row.now.width samples.old i (j - row.now.first)) x y)
+        (at row.now.width samples.old x (y - row.now.first)) }
+    ensures bounded { IsBounded (2 ^ row.now.bit_depth - 1) samples.new }
 {
-    copy(samples, row.width * (row.top - row.first), out);
     let pass = Pass {
         plane: row.plane,
         bit_depth: row.bit_depth,
         side: row.height,
-        before: lines_across(row.width, row.first, row.end),
-        behind: lines_across(row.width, row.top, row.bottom),
+        window: lines_across(row.width, row.first, row.end),
+        first: (row.top + 7) / 8,
+        end: (row.bottom + 7) / 8,
+        along_first: 0,
+        along_end: row.width,
     };
-    filter_row(view, &pass, samples, out);
+    filter_row(view, &pass, samples);
 }
 
 /// Lines of a plane, across whose vertical edges are columns.
@@ -107,32 +115,14 @@ fn lines_across(width: usize, first: usize, end: usize) -> Window
     }
 }
 
-/// Copies samples from a place on.
-fn copy(samples: &[u16], from: usize, out: &mut [u16])
-    requires { from + length out.old ≤ length samples.now }
-    ensures value { (k : ℕ) → k < length out.old
-        → slice_index_or out.new k 0 ≡ slice_index_or samples.now (from + k) 0 }
-    ensures bounded { (greatest : ℕ) → IsBounded greatest samples.now → IsBounded greatest out.new }
-{
-    for k in 0..out.len() {
-        out[k] = samples[from + k];
-    }
-}
-
-/// Filters the edges of a row in one direction, over a copy of its samples: by code of its own for luma and for chroma.
+/// Filters the edges of a row in one direction: by code of its own for luma and for chroma.
 #[inline(always)]
-fn filter_row<V: PlaceView>(view: &V, pass: &Pass, samples: &[u16], out: &mut [u16])
+fn filter_row<V: PlaceView>(view: &V, pass: &Pass, out: &mut [u16])
     requires pass { IsPass pass.now }
-    requires samples { length samples.now ≡ size pass.now.before }
-    requires bounded { IsBounded (2 ^ pass.now.bit_depth - 1) samples.now }
-    requires room { length out.old ≡ size pass.now.behind }
-    requires start { IsBounded (2 ^ pass.now.bit_depth - 1) out.old }
-    requires same { (i j : ℕ) → holds pass.now.behind i j ≡ true
-        → seen pass.now.behind out.old i j ≡ seen pass.now.before samples.now i j }
-    ensures value { (i j : ℕ) → holds pass.now.behind i j ≡ true
-        → seen pass.now.behind out.new i j
-        ≡ vertical pass.now.plane pass.now.bit_depth pass.now.side (placed pass.now.behind.turned (V.place_at view.now))
-        (seen pass.now.before samples.now) i j }
+    requires room { length out.old ≡ size pass.now.window }
+    requires bounded { IsBounded (2 ^ pass.now.bit_depth - 1) out.old }
+    ensures value { IsPartly pass.now (placed pass.now.window.turned (V.place_at view.now))
+        (seen pass.now.window out.old) (pass.now.along_end / side pass.now.plane) 0 out.new }
     ensures bounded { IsBounded (2 ^ pass.now.bit_depth - 1) out.new }
 {
     match pass.plane {
@@ -141,59 +131,47 @@ fn filter_row<V: PlaceView>(view: &V, pass: &Pass, samples: &[u16], out: &mut [u
                 plane: Plane::Luma,
                 ..*pass
             };
-            filter_plane(view, &pass, samples, out);
+            filter_plane(view, &pass, out);
         }
         Plane::Chroma { qp_pic_offset } => {
             let pass = Pass {
                 plane: Plane::Chroma { qp_pic_offset },
                 ..*pass
             };
-            filter_plane(view, &pass, samples, out);
+            filter_plane(view, &pass, out);
         }
     }
 }
 
 /// Filters the edges of a row of luma or chroma.
 #[inline(always)]
-fn filter_plane<V: PlaceView>(view: &V, pass: &Pass, samples: &[u16], out: &mut [u16])
+fn filter_plane<V: PlaceView>(view: &V, pass: &Pass, out: &mut [u16])
     requires pass { IsPass pass.now }
-    requires samples { length samples.now ≡ size pass.now.before }
-    requires bounded { IsBounded (2 ^ pass.now.bit_depth - 1) samples.now }
-    requires room { length out.old ≡ size pass.now.behind }
-    requires start { IsBounded (2 ^ pass.now.bit_depth - 1) out.old }
-    requires same { (i j : ℕ) → holds pass.now.behind i j ≡ true
-        → seen pass.now.behind out.old i j ≡ seen pass.now.before samples.now i j }
-    ensures value { (i j : ℕ) → holds pass.now.behind i j ≡ true
-        → seen pass.now.behind out.new i j
-        ≡ vertical pass.now.plane pass.now.bit_depth pass.now.side (placed pass.now.behind.turned (V.place_at view.now))
-        (seen pass.now.before samples.now) i j }
+    requires room { length out.old ≡ size pass.now.window }
+    requires bounded { IsBounded (2 ^ pass.now.bit_depth - 1) out.old }
+    ensures value { IsPartly pass.now (placed pass.now.window.turned (V.place_at view.now))
+        (seen pass.now.window out.old) (pass.now.along_end / side pass.now.plane) 0 out.new }
     ensures bounded { IsBounded (2 ^ pass.now.bit_depth - 1) out.new }
 {
     let lines = side(pass.plane);
-    for s in pass.behind.along_first / lines..pass.behind.along_end / lines {
-        filter_places(view, pass, samples, s, out);
+    for s in pass.along_first / lines..pass.along_end / lines {
+        filter_places(view, pass, s, out);
     }
 }
 
 /// Filters all edges at the lines of a place.
 #[inline(always)]
-fn filter_places<V: PlaceView>(view: &V, pass: &Pass, samples: &[u16], s: usize, out: &mut [u16])
+fn filter_places<V: PlaceView>(view: &V, pass: &Pass, s: usize, out: &mut [u16])
     requires pass { IsPass pass.now }
-    requires samples { length samples.now ≡ size pass.now.before }
-    requires bounded { IsBounded (2 ^ pass.now.bit_depth - 1) samples.now }
-    requires room { length out.old ≡ size pass.now.behind }
+    requires room { length out.old ≡ size pass.now.window }
+    requires bounded { IsBounded (2 ^ pass.now.bit_depth - 1) out.old }
     requires along { IsAlong pass.now s }
-    requires done { (i j : ℕ) → holds pass.now.behind i j ≡ true
-        → seen pass.now.behind out.old i j
-        ≡ partly pass.now.plane pass.now.bit_depth pass.now.side (placed pass.now.behind.turned (V.place_at view.now))
-        (seen pass.now.before samples.now) s 0 i j }
-    ensures done { (i j : ℕ) → holds pass.now.behind i j ≡ true
-        → seen pass.now.behind out.new i j
-        ≡ partly pass.now.plane pass.now.bit_depth pass.now.side (placed pass.now.behind.turned (V.place_at view.now))
-        (seen pass.now.before samples.now) (s + 1) 0 i j }
-    ensures bounded { IsBounded (2 ^ pass.now.bit_depth - 1) out.old → IsBounded (2 ^ pass.now.bit_depth - 1) out.new }
+    ensures done { (f : ℕ → ℕ → ℕ)
+        → IsPartly pass.now (placed pass.now.window.turned (V.place_at view.now)) f s 0 out.old
+        → IsPartly pass.now (placed pass.now.window.turned (V.place_at view.now)) f (s + 1) 0 out.new }
+    ensures bounded { IsBounded (2 ^ pass.now.bit_depth - 1) out.new }
 {
-    for e in pass.behind.across_first / 8..(pass.behind.across_end + 11) / 8 {
-        filter_edge(view, pass, samples, e, s, out);
+    for e in pass.first..pass.end {
+        filter_edge(view, pass, e, s, out);
     }
 }

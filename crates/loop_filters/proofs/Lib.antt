@@ -2,7 +2,9 @@ pub mod Chroma
 pub mod Passes
 pub mod Copied
 pub mod Components
-pub mod Lines
+pub mod Gathered
 pub mod RowParts
+pub mod Lent
 pub mod Final
 pub mod Parts
+pub mod OffsetRows

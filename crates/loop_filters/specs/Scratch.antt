@@ -1,6 +1,6 @@
--- Memory in which components are filtered.
-use Rattle.std.specs.Prelude.{ℕ, ◌*◌, ◌≤◌}
+-- Memory in which the offsets of components are added.
+use Rattle.std.specs.Prelude.{ℕ, ◌≤◌}
 
--- room for each sample of a plane of these sides
-pub record HasRoom (room width height : ℕ) : Type 0 where
-  pub samples : width * height ≤ room
+-- room for lines of a plane of these sides, whatever its height
+abbrev pub HasRoom : ℕ → ℕ → ℕ → Type 0
+HasRoom room width height = width ≤ room

@@ -1,28 +1,14 @@
-//! The samples of a plane, line after line.
+//! Samples that are copied.
 
-ghost use Rattle.std.specs.Prelude.{◌≡◌, ◌<◌, ◌≤◌, ◌*◌, ℕ, length};
-ghost use Rattle.deblock.specs.Samples.{IsBounded};
-ghost use Rattle.deblock.specs.Windows.{at};
-ghost use Rattle.picture_buffer.specs.Planes.{samples_of, plane_width, plane_height};
+ghost use Rattle.std.specs.Prelude.{◌≡◌, ◌≤◌, ◌+◌, ◌-◌, ◌&&◌, ℕ, cond, length, nat_le, nat_lt, slice_index_or};
 
-use crate::component::Component;
-use picture_buffer::Planes;
-
-/// Copies the samples of a component.
-pub fn copy_plane(component: &Component, planes: &Planes, out: &mut [u16])
-    requires component { component.now.c < 3 }
-    requires width { plane_width planes.now component.now.c ≡ component.now.width }
-    requires height { plane_height planes.now component.now.c ≡ component.now.height }
-    requires few { (component.now.width ≤ 8192) × (component.now.height ≤ 8192) }
-    requires room { length out.old ≡ component.now.width * component.now.height }
-    ensures value { (x y : ℕ) → x < component.now.width → y < component.now.height
-        → at component.now.width out.new x y ≡ samples_of planes.now component.now.c x y }
-    ensures bounded { (greatest : ℕ) → ((x y : ℕ) → samples_of planes.now component.now.c x y ≤ greatest)
-        → IsBounded greatest out.new }
+/// Copies `count` samples to place `to` of others.
+pub fn copy_part(samples: &[u16], from: usize, count: usize, out: &mut [u16], to: usize)
+    requires from { from + count ≤ length samples.now }
+    requires to { to + count ≤ length out.old }
+    ensures { (k : ℕ) → slice_index_or out.new k 0
+        ≡ cond (nat_le to k && nat_lt k (to + count)) (slice_index_or samples.now (from + (k - to)) 0)
+        (slice_index_or out.old k 0) }
 {
-    for y in 0..component.height {
-        let line = planes.row(component.c, y as u32);
-        let from = component.width * y;
-        out[from..from + component.width].copy_from_slice(line);
-    }
+    out[to..to + count].copy_from_slice(&samples[from..from + count]);
 }

@@ -10,16 +10,10 @@ use crate::component::Component;
 use deblock::{PlaceView, Row, horizontal_row, vertical_row};
 
 /// Filters the vertical edges of a plane, and then its horizontal ones.
-pub fn filter_edges<V: PlaceView>(
-    view: &V,
-    component: &Component,
-    samples: &mut [u16],
-    between: &mut [u16],
-)
+pub fn filter_edges<V: PlaceView>(view: &V, component: &Component, samples: &mut [u16])
     requires component { IsPlane component.now }
     requires samples { length samples.old ≡ component.now.width * component.now.height }
     requires bounded { IsBounded (2 ^ component.now.depth - 1) samples.old }
-    requires room { length between.old ≡ component.now.width * component.now.height }
     ensures value { (x y : ℕ) → x < component.now.width → y < component.now.height
         → at component.now.width samples.new x y
         ≡ deblocked component.now.plane component.now.depth component.now.width component.now.height
@@ -36,6 +30,6 @@ pub fn filter_edges<V: PlaceView>(
         top: 0,
         bottom: component.height,
     };
-    vertical_row(view, &row, samples, between);
-    horizontal_row(view, &row, between, samples);
+    vertical_row(view, &row, samples);
+    horizontal_row(view, &row, samples);
 }

@@ -6,28 +6,27 @@ ghost use Rattle.spec_loop_filters.specs.Filters.{final_samples};
 ghost use Rattle.loop_filters.specs.Formats.{IsComponent, filters_of};
 
 use crate::component::Component;
-use crate::copying::copy_plane;
 use crate::edges::filter_edges;
 use crate::offsets::lay_offsets;
 use crate::view::FilterView;
 use picture_buffer::Planes;
 use spec_loop_filters::FilterFormat;
 
-/// Takes a component of a picture through its filters, in two slices that have room for its samples.
+/// Takes a component of a picture through its filters, with room for 66 lines and for one.
 pub(crate) fn filter_plane<V: FilterView>(
     view: &V,
     format: &FilterFormat,
     component: &Component,
-    samples: &mut [u16],
-    between: &mut [u16],
+    lines: &mut [u16],
+    last: &mut [u16],
     planes: &mut Planes,
 )
     requires shape { V.shape view.now ≡ format.now }
     requires component { IsComponent format.now component.now }
     requires sides { HasSides planes.old format.now.width format.now.height }
     requires bounded { (x y : ℕ) → samples_of planes.old component.now.c x y ≤ 2 ^ component.now.depth - 1 }
-    requires samples { component.now.width * component.now.height ≤ length samples.old }
-    requires between { component.now.width * component.now.height ≤ length between.old }
+    requires lines { component.now.width * 66 ≤ length lines.old }
+    requires last { component.now.width ≤ length last.old }
     ensures value { (x y : ℕ) → x < component.now.width → y < component.now.height
         → samples_of planes.new component.now.c x y
         ≡ final_samples (filters_of format.now (V.place_at view.now) (V.unit_at view.now))
@@ -36,10 +35,7 @@ pub(crate) fn filter_plane<V: FilterView>(
         → samples_of planes.new i x y ≡ samples_of planes.old i x y }
     ensures sides { HasSides planes.new format.now.width format.now.height }
 {
-    let count = component.width * component.height;
-    let samples = &mut samples[..count];
-    let between = &mut between[..count];
-    copy_plane(component, planes, samples);
-    filter_edges(view, component, samples, between);
-    lay_offsets(view, format, component, samples, between, planes);
+    let samples = planes.samples_mut(component.c);
+    filter_edges(view, component, samples);
+    lay_offsets(view, component, samples, lines, last);
 }

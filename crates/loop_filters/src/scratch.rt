@@ -1,4 +1,4 @@
-//! Memory in which the components of a picture are filtered.
+//! Memory for lines of the components of a picture, while their offsets are added.
 
 ghost use Rattle.std.specs.Prelude.{◌≡◌, ◌<◌, ◌≤◌, ◌-◌, ◌==◌, ◌^◌, ℕ, IfOk, false};
 ghost use Rattle.picture_buffer.specs.Planes.{HasSides, samples_of};
@@ -14,46 +14,49 @@ use spec_loop_filters::FilterFormat;
 use std::alloc::{AllocError, Global};
 use std::marker::Model;
 
-/// Room for the samples of a component before and between its filters, which serves one picture after the other.
-/// Contracts see for how many, and nothing of what stands in it.
+/// The most lines that the offsets of a row of coding tree blocks read: its own 64, one above and one below.
+const MOST_LINES: usize = 66;
+
+/// Room for the deblocked lines that the offsets of a row of coding tree blocks read, and for the last one of the row
+/// before. It serves one picture after the other. Contracts see of how many columns the lines may be, and nothing of
+/// what stands in them.
 #[derive(Drop)]
 pub struct FilterScratch {
-    samples: Vec<u16>,
-    between: Vec<u16>,
+    lines: Vec<u16>,
+    last: Vec<u16>,
 }
 
 impl Model for FilterScratch {
-    ghost use Rattle.std.specs.Prelude.{◌≤◌, ℕ, vec_len};
+    ghost use Rattle.std.specs.Prelude.{◌≤◌, ◌*◌, ℕ, vec_len};
 
     ghost Value = { ℕ };
 
-    ghost view = { λ s. vec_len s.samples };
+    ghost view = { λ s. vec_len s.last };
 
-    ghost invariant = { λ s. vec_len s.samples ≤ vec_len s.between };
+    ghost invariant = { λ s. vec_len s.last * 66 ≤ vec_len s.lines };
 }
 
 impl FilterScratch {
     /// Room for no sample. It takes no memory.
     pub fn new(alloc: Global) -> FilterScratch {
         FilterScratch {
-            samples: Vec::new(alloc),
-            between: Vec::new(alloc),
+            lines: Vec::new(alloc),
+            last: Vec::new(alloc),
         }
     }
 
-    /// Room for pictures of `width` times `height` luma samples: what there was, where it is enough.
-    pub fn fitted(self, alloc: Global, width: u32, height: u32) -> Result<FilterScratch, AllocError>
-        requires columns { width ≤ 8192 }
-        requires rows { height ≤ 8192 }
-        ensures { IfOk result (λ s. HasRoom s width height) }
+    /// Room for pictures of `width` luma columns: what there was, where it is enough.
+    pub fn fitted(self, alloc: Global, width: u32) -> Result<FilterScratch, AllocError>
+        requires { width ≤ 8192 }
+        ensures { IfOk result (λ s. width ≤ s) }
     {
-        let count = width as usize * height as usize;
-        if count <= self.samples.len() {
+        let columns = width as usize;
+        if columns <= self.last.len() {
             return Ok(self);
         }
-        let samples = vec![in alloc; 0; count]?;
-        let between = vec![in alloc; 0; count]?;
-        Ok(FilterScratch { samples, between })
+        let lines = vec![in alloc; 0; columns * MOST_LINES]?;
+        let last = vec![in alloc; 0; columns]?;
+        Ok(FilterScratch { lines, last })
     }
 
     /// Takes a component of a picture through its filters.
@@ -82,8 +85,8 @@ impl FilterScratch {
             view,
             format,
             component,
-            &mut self.samples,
-            &mut self.between,
+            &mut self.lines,
+            &mut self.last,
             planes,
         );
     }

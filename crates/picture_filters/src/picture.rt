@@ -163,10 +163,5 @@ fn fitted(
     ensures { IfOk result
         (λ s. HasRoom s plan.now.sps.format.pic_width_in_luma_samples plan.now.sps.format.pic_height_in_luma_samples) }
 {
-    let format = &plan.sps.fields().format;
-    scratch.fitted(
-        alloc,
-        format.pic_width_in_luma_samples,
-        format.pic_height_in_luma_samples,
-    )
+    scratch.fitted(alloc, plan.sps.fields().format.pic_width_in_luma_samples)
 }

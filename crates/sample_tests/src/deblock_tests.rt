@@ -64,9 +64,9 @@ fn is_step_smoothed() -> bool {
         top: 0,
         bottom: 4,
     };
-    let mut out = [0; 64];
-    vertical_row(&StrongEdges, &row, &four(&STEP), &mut out);
-    out == four(&SMOOTHED)
+    let mut samples = four(&STEP);
+    vertical_row(&StrongEdges, &row, &mut samples);
+    samples == four(&SMOOTHED)
 }
 
 #[test]

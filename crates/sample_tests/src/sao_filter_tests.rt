@@ -75,7 +75,7 @@ fn is_case_filtered(
         places: 4,
         kept: &kept,
     };
-    let mut out = [0; 32];
+    let mut out = LINES;
     sao_row(&row, &LINES, &mut out);
     out == *wanted
 }
@@ -114,8 +114,9 @@ fn is_valley_raised() -> bool {
         places: 2,
         kept: &[],
     };
-    let mut out = [0; 8];
-    sao_row(&row, &[10, 8, 10, 10, 10, 10, 10, 10], &mut out);
+    let lines = [10, 8, 10, 10, 10, 10, 10, 10];
+    let mut out = lines;
+    sao_row(&row, &lines, &mut out);
     out == [10, 10, 9, 10, 10, 10, 10, 10]
 }
 

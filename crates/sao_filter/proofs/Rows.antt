@@ -1,5 +1,5 @@
 -- The lines and the units of a row.
-use Rattle.std.proofs.Common.{◌≡◌, ℕ, ◌+◌, ◌-◌, ◌*◌, ◌/◌, ◌<◌, ◌≤◌, List, cond, nat_le, nat_lt, ◌&&◌, ap, ◌∙◌, arith}
+use Rattle.std.proofs.Common.{true, false, ◌≡◌, ℕ, ◌+◌, ◌-◌, ◌*◌, ◌/◌, ◌<◌, ◌≤◌, List, cond, nat_le, nat_lt, ◌&&◌, ap, ◌∙◌, arith}
 use Rattle.std.specs.Prelude.{min}
 use Rattle.std.proofs.lemmas.Bool.Decides.{nat_tests}
 use Rattle.std.proofs.Math.Nat.{mul-le-mul_left}
@@ -54,18 +54,24 @@ unit_is row i j k low high line =
     ∙ ap (λ (v : ℕ). unit_in (units_of row v) k) down
     ∙ ap (λ (us : List OffsetUnit). unit_in us k) here
 
--- one more block of a row
-pub row_more : (width s k n : ℕ) (now before : List ℕ) (G F : ℕ → ℕ → ℕ) →
+-- one more block of a row, over samples of the deblocked plane f
+pub row_more : (width s k n : ℕ) (now before start : List ℕ) (G F f : ℕ → ℕ → ℕ) →
     ((i j : ℕ) → i < width → j < n
+    → ((nat_le (s * k) i && nat_lt i (s * k + s)) ≡ true → at before (width * j + i) ≡ f i j)
     → at now (width * j + i) ≡ cond (nat_le (s * k) i && nat_lt i (s * k + s)) (G i j) (at before (width * j + i))) →
     ((i j : ℕ) → s * k ≤ i → i < s * k + s → j < n → G i j ≡ F i j) →
-    ((i j : ℕ) → i < width → j < n → i < s * k → at before (width * j + i) ≡ F i j) →
-    (i j : ℕ) → i < width → j < n → i < s * (k + 1) → at now (width * j + i) ≡ F i j
-row_more width s k n now before G F wrote value told i j h line left =
+    ((i j : ℕ) → i < width → j < n → at start (width * j + i) ≡ f i j
+    → at before (width * j + i) ≡ cond (nat_lt i (s * k)) (F i j) (at start (width * j + i))) →
+    (i j : ℕ) → i < width → j < n → at start (width * j + i) ≡ f i j
+    → at now (width * j + i) ≡ cond (nat_lt i (s * (k + 1))) (F i j) (at start (width * j + i))
+row_more width s k n now before start G F f wrote value told i j h line stood =
     let e : s * (k + 1) ≡ s * k + s = grind arith in
-    let w = wrote i j h line in
-    let new : s * k ≤ i → G i j ≡ F i j = λ low. value i j low (omega arith) line in
-    let old : i < s * k → at before (width * j + i) ≡ F i j = λ low. told i j h line low in
+    let old = told i j h line stood in
+    let new : s * k ≤ i → i < s * k + s → G i j ≡ F i j = λ low high. value i j low high line in
+    let yet : (nat_le (s * k) i && nat_lt i (s * k + s)) ≡ true → at before (width * j + i) ≡ f i j = λ t.
+    let none : nat_lt i (s * k) ≡ false = grind (arith, nat_tests) in
+    (rw none at old) ∙ stood in
+    let w = wrote i j h line yet in
     grind (arith, nat_tests)
 
 -- a sample of a line is one of the deblocked plane

@@ -1,4 +1,4 @@
-//! Blocks without offset, and blocks with band offset.
+//! Blocks with band offset.
 
 ghost use Rattle.std.specs.Prelude.{◌≡◌, ◌≤◌, ◌<◌, ◌+◌, ◌-◌, ◌*◌, ℕ, length};
 ghost use Rattle.spec_sample_adaptive_offset.specs.Offsets.{band_moved};
@@ -9,7 +9,7 @@ ghost use Rattle.sao_filter.specs.Units.{IsBlock};
 use crate::block::CodingTreeBlock;
 use crate::changes::band_changes;
 use crate::row::OffsetRow;
-use crate::runs::{Run, band_run, copy_run};
+use crate::runs::{Run, band_run};
 
 /// Where the samples of a line of a block stand.
 #[inline(always)]
@@ -26,20 +26,6 @@ pub fn run_of(width: usize, block: CodingTreeBlock, line: usize) -> Run
         from: width * (line + block.skip) + block.from,
         first: width * line + block.from,
         count: block.to - block.from,
-    }
-}
-
-/// Copies the samples of a block.
-pub fn copy_block(row: &OffsetRow<'_>, lines: &[u16], block: CodingTreeBlock, out: &mut [u16])
-    requires row { IsRow row.now }
-    requires block { IsBlock row.now block }
-    requires lines { HasLines row.now lines.now }
-    requires out { row.now.width * block.lines ≤ length out.old }
-    ensures { LaysLines row.now.width block.lines block.from block.to
-        (λ i j. samples_of row.now lines.now i (top row.now + j)) out.old out.new }
-{
-    for line in 0..block.lines {
-        copy_run(lines, run_of(row.width, block, line), out);
     }
 }
 

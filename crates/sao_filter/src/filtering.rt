@@ -1,14 +1,14 @@
 //! The blocks of a row one after the other.
 
-ghost use Rattle.std.specs.Prelude.{◌≡◌, ◌≤◌, ◌<◌, ◌+◌, ◌-◌, ◌*◌, ◌==◌, ◌&&◌, ℕ, false, cond, nat_le, nat_lt, length};
-ghost use Rattle.std.specs.Prelude.{slice_index_or};
+ghost use Rattle.std.specs.Prelude.{◌≡◌, ◌≤◌, ◌<◌, ◌+◌, ◌-◌, ◌*◌, ◌==◌, ◌&&◌, ℕ, false, true, cond, nat_le, nat_lt};
+ghost use Rattle.std.specs.Prelude.{length, slice_index_or};
 ghost use Rattle.spec_sample_adaptive_offset.specs.Plane.{OffsetPlane, offset_sample, sample_by, unit_at};
 ghost use Rattle.sao_filter.specs.Laying.{LaysLines};
 ghost use Rattle.sao_filter.specs.Row.{HasLines, IsRow, StandsFor, at, kept_at, lines_of, plane_of, samples_of, top};
 ghost use Rattle.sao_filter.specs.Row.{unit_in};
 ghost use Rattle.sao_filter.specs.Units.{IsBlock};
 
-use crate::band::{band_block, copy_block};
+use crate::band::band_block;
 use crate::block::CodingTreeBlock;
 use crate::edge::edge_block;
 use crate::row::OffsetRow;
@@ -31,7 +31,7 @@ fn block_of(row: &OffsetRow<'_>, k: usize) -> CodingTreeBlock
     }
 }
 
-/// The samples of a block, by the parameters of its unit.
+/// The samples of a block, by the parameters of its unit. A block without offset is left as it stands.
 #[tactic(auto, unfolding(spec_sample_adaptive_offset::specs::Plane::sample_by))]
 fn filter_block(row: &OffsetRow<'_>, lines: &[u16], k: usize, out: &mut [u16])
     requires row { IsRow row.now }
@@ -39,6 +39,8 @@ fn filter_block(row: &OffsetRow<'_>, lines: &[u16], k: usize, out: &mut [u16])
     requires lines { HasLines row.now lines.now }
     requires out { row.now.width * lines_of row.now ≤ length out.old }
     ensures { (i j : ℕ) → i < row.now.width → j < lines_of row.now
+        → ((nat_le (row.now.size * k) i && nat_lt i (row.now.size * k + row.now.size)) ≡ true
+        → at out.old (row.now.width * j + i) ≡ samples_of row.now lines.now i (top row.now + j))
         → at out.new (row.now.width * j + i)
         ≡ cond (nat_le (row.now.size * k) i && nat_lt i (row.now.size * k + row.now.size))
         (sample_by (plane_of row.now) (samples_of row.now lines.now) (unit_in row.now.here.now k).offset i
@@ -47,7 +49,7 @@ fn filter_block(row: &OffsetRow<'_>, lines: &[u16], k: usize, out: &mut [u16])
 {
     let block = block_of(row, k);
     match row.here[k].offset {
-        ComponentOffset::Off => copy_block(row, lines, block, out),
+        ComponentOffset::Off => {}
         ComponentOffset::Band(position, offsets) => {
             band_block(row, lines, block, position, &offsets, out)
         },
@@ -63,6 +65,7 @@ fn filter_blocks(row: &OffsetRow<'_>, lines: &[u16], out: &mut [u16])
     requires lines { HasLines row.now lines.now }
     requires out { row.now.width * lines_of row.now ≤ length out.old }
     ensures { (i j : ℕ) → i < row.now.width → j < lines_of row.now
+        → at out.old (row.now.width * j + i) ≡ samples_of row.now lines.now i (top row.now + j)
         → at out.new (row.now.width * j + i)
         ≡ sample_by (plane_of row.now) (samples_of row.now lines.now)
         (unit_at (plane_of row.now) i (top row.now + j)).offset i (top row.now + j) }
@@ -125,18 +128,21 @@ fn keep_samples(row: &OffsetRow<'_>, lines: &[u16], out: &mut [u16])
     }
 }
 
-/// Writes the samples of a row of coding tree blocks of one component after sample adaptive offset, line after line, by
-/// the lines of the deblocked plane: the row's own, with the one above and the one below, where there are such.
+/// Adds the offsets of a row of coding tree blocks of one component to its deblocked samples, line after line, by lines
+/// of the deblocked plane: the row's own, with the one above and the one below, where there are such. Blocks without
+/// offset are left as they stand.
 #[tactic(auto, unfolding(spec_sample_adaptive_offset::specs::Plane::offset_sample))]
 pub fn sao_row(row: &OffsetRow<'_>, lines: &[u16], out: &mut [u16])
     requires row { IsRow row.now }
     requires lines { HasLines row.now lines.now }
     requires out { row.now.width * lines_of row.now ≤ length out.old }
     ensures value { (i j : ℕ) → i < row.now.width → j < lines_of row.now
+        → at out.old (row.now.width * j + i) ≡ samples_of row.now lines.now i (top row.now + j)
         → at out.new (row.now.width * j + i)
         ≡ offset_sample (plane_of row.now) (samples_of row.now lines.now) i (top row.now + j) }
     ensures picture { (plane : OffsetPlane) (f : ℕ → ℕ → ℕ) → StandsFor row.now lines.now plane f
         → (i j : ℕ) → i < row.now.width → j < lines_of row.now
+        → at out.old (row.now.width * j + i) ≡ samples_of row.now lines.now i (top row.now + j)
         → at out.new (row.now.width * j + i) ≡ offset_sample plane f i (top row.now + j) }
 {
     filter_blocks(row, lines, out);

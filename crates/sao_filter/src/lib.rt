@@ -8,6 +8,8 @@ mod edge;
 mod filtering;
 mod row;
 mod runs;
+mod units;
 
 pub use filtering::sao_row;
 pub use row::OffsetRow;
+pub use units::has_offset;

@@ -1,11 +1,11 @@
-use Rattle.std.proofs.Common.{◌≡◌, ℕ, ◌+◌, ◌-◌, ◌*◌, ◌&&◌, nat_le, nat_lt, refl, arith}
+use Rattle.std.proofs.Common.{◌≡◌, ◌+◌, ◌-◌, ◌*◌, ◌&&◌, nat_le, nat_lt, refl, arith}
 use Rattle.spec_deblocking.specs.Lines.{across, nth}
 use Rattle.spec_deblocking.specs.Places.{side}
 use Rattle.spec_deblocking.specs.Filters.{filtered}
+use Rattle.spec_deblocking.proofs.Across.{across_same}
 use Rattle.deblock.specs.Windows.{seen}
-use Rattle.deblock.proofs.Flat.{inside_holds}
 use Rattle.deblock.proofs.Laying.{lines_more, lines_none}
-use Rattle.deblock.proofs.Edges.{reads_inside}
+use Rattle.deblock.proofs.Edges.{line_yet, reads_inside}
 use Rattle.deblock.proofs.edge.filter_lines.Goals as goal
 
 pub read_line-line-requires-clause-inside : goal.read_line-line-requires-clause-inside
@@ -17,35 +17,50 @@ read_line-line-requires-clause-inside c = λ k few.
     (omega (arith, lines)) (omega (arith, lines, c.side-lines.ensures.value, c.loop-n-test.true))
 
 pub filtered-line-requires-clause-line : goal.filtered-line-requires-clause-line
-filtered-line-requires-clause-line c = c.read_line-line.ensures.small c.args.kernel.greatest c.requires.bounded
+filtered-line-requires-clause-line c = c.read_line-line.ensures.small c.args.kernel.greatest c.loop-n.invariant.bounded
 
 pub write_line-requires-clause-inside : goal.write_line-requires-clause-inside
 write_line-requires-clause-inside c = λ k low high.
     let lines : c.side-lines.result * c.args.s ≡ side c.args.pass.now.plane * c.args.s =
     rw c.side-lines.ensures.value refl in
-    inside_holds c.args.pass.now.behind _ _ (c.requires.low k low) (c.requires.high k high)
-    (omega (arith, lines, c.requires.along.low))
-    (omega (arith, lines, c.side-lines.ensures.value, c.requires.along.high, c.loop-n-test.true))
+    reads_inside c.args.pass.now c.args.e c.args.s k _ c.requires.pass c.requires.across c.requires.along
+    c.requires.edge c.requires.within (omega (arith, high, c.requires.to))
+    (omega (arith, lines)) (omega (arith, lines, c.side-lines.ensures.value, c.loop-n-test.true))
 
 pub loop-n-init : goal.loop-n-init
 loop-n-init c = record {
   value = λ i j h. lines_none _ j _ _ _;
-  bounded = λ old. old;
+  bounded = c.requires.bounded;
 }
 
 pub loop-n-preserved : goal.loop-n-preserved
-loop-n-preserved c = record {
-  value = λ i j h. lines_more (c.side-lines.result * c.args.s) c.loop-n.n j
-      (nat_le (8 * c.args.e - 4 + c.args.kernel.from) i && nat_lt i (8 * c.args.e - 4 + c.args.kernel.to))
-      (λ y. nth (filtered c.args.kernel.filter c.args.kernel.greatest c.args.kernel.tc
-      (across (seen c.args.pass.now.before c.args.samples.now) (8 * c.args.e - 4) y))
-      (i - (8 * c.args.e - 4)))
-      _ _ _
-      (rw (c.filtered-line.ensures.value, c.read_line-line.ensures.value) at (c.write_line.ensures.value i j h))
-      (c.loop-n.invariant.value i j h);
-  bounded = λ old. c.write_line.ensures.small c.args.kernel.greatest c.filtered-line.ensures.small
-      (c.loop-n.invariant.bounded old);
-}
+loop-n-preserved c =
+    let lines : c.side-lines.result * c.args.s ≡ side c.args.pass.now.plane * c.args.s =
+    rw c.side-lines.ensures.value refl in
+    let yet : across (seen c.args.pass.now.window c.loop-n.out) (8 * c.args.e - 4)
+    (c.side-lines.result * c.args.s + c.loop-n.n)
+    ≡ across (seen c.args.pass.now.window c.args.out.now) (8 * c.args.e - 4)
+    (c.side-lines.result * c.args.s + c.loop-n.n) =
+    across_same (seen c.args.pass.now.window c.loop-n.out) (seen c.args.pass.now.window c.args.out.now)
+    (8 * c.args.e - 4) (c.side-lines.result * c.args.s + c.loop-n.n)
+    (λ k few. line_yet (c.side-lines.result * c.args.s) c.loop-n.n _ _ _ _ _ refl
+    (c.loop-n.invariant.value _ _
+    (reads_inside c.args.pass.now c.args.e c.args.s k _ c.requires.pass c.requires.across c.requires.along
+    c.requires.edge c.requires.within few
+    (omega (arith, lines)) (omega (arith, lines, c.side-lines.ensures.value, c.loop-n-test.true))))) in
+    record {
+      value = λ i j h. lines_more (c.side-lines.result * c.args.s) c.loop-n.n j
+          (nat_le (8 * c.args.e - 4 + c.args.kernel.from) i && nat_lt i (8 * c.args.e - 4 + c.args.kernel.to))
+          (λ y. nth (filtered c.args.kernel.filter c.args.kernel.greatest c.args.kernel.tc
+          (across (seen c.args.pass.now.window c.args.out.now) (8 * c.args.e - 4) y))
+          (i - (8 * c.args.e - 4)))
+          _ _ _
+          (rw (c.filtered-line.ensures.value, c.read_line-line.ensures.value, yet) at
+          (c.write_line.ensures.value i j h))
+          (c.loop-n.invariant.value i j h);
+      bounded = c.write_line.ensures.small c.args.kernel.greatest c.filtered-line.ensures.small
+          c.loop-n.invariant.bounded;
+    }
 
 pub returns : goal.returns
 returns c =

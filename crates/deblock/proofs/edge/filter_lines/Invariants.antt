@@ -7,12 +7,12 @@ use Rattle.deblock.proofs.edge.filter_lines.Given as goal
 
 abbrev pub invariant-loop-n : goal.invariant-loop-n
 invariant-loop-n l = record {
-  value : (i j : ℕ) → holds l.pass.behind i j ≡ true
-      → seen l.pass.behind l.out i j
+  value : (i j : ℕ) → holds l.pass.window i j ≡ true
+      → seen l.pass.window l.out i j
       ≡ cond ((nat_le l.first j && nat_lt j (l.first + l.n))
       && (nat_le (l.a + l.kernel.from) i && nat_lt i (l.a + l.kernel.to)))
-      (nth (filtered l.kernel.filter l.kernel.greatest l.kernel.tc (across (seen l.pass.before l.samples) l.a j))
+      (nth (filtered l.kernel.filter l.kernel.greatest l.kernel.tc (across (seen l.pass.window l.fn.out) l.a j))
       (i - l.a))
-      (seen l.pass.behind l.fn.out i j);
-  bounded : IsBounded l.kernel.greatest l.fn.out → IsBounded l.kernel.greatest l.out;
+      (seen l.pass.window l.fn.out i j);
+  bounded : IsBounded l.kernel.greatest l.out;
 }

@@ -1,14 +1,12 @@
-use Rattle.std.proofs.Common.{◌≡◌, ℕ, ◌-◌, ◌^◌, true}
+use Rattle.std.proofs.Common.{ℕ, ◌-◌, ◌^◌}
 use Rattle.deblock.specs.Samples.{IsBounded}
-use Rattle.deblock.specs.Windows.{holds, seen}
-use Rattle.deblock.specs.Passes.{placed, partly}
+use Rattle.deblock.specs.Passes.{placed, IsPartly}
 use Rattle.deblock.proofs.row.filter_places.Given as goal
 
 abbrev pub invariant-loop-e : goal.invariant-loop-e
 invariant-loop-e g l = record {
-  done : (i j : ℕ) → holds l.pass.behind i j ≡ true
-      → seen l.pass.behind l.out i j
-      ≡ partly l.pass.plane l.pass.bit_depth l.pass.side (placed l.pass.behind.turned (g.V.PlaceView.place_at l.view))
-      (seen l.pass.before l.samples) l.s l.e i j;
-  bounded : IsBounded (2 ^ l.pass.bit_depth - 1) l.fn.out → IsBounded (2 ^ l.pass.bit_depth - 1) l.out;
+  done : (f : ℕ → ℕ → ℕ)
+      → IsPartly l.pass (placed l.pass.window.turned (g.V.PlaceView.place_at l.view)) f l.s 0 l.fn.out
+      → IsPartly l.pass (placed l.pass.window.turned (g.V.PlaceView.place_at l.view)) f l.s l.e l.out;
+  bounded : IsBounded (2 ^ l.pass.bit_depth - 1) l.out;
 }

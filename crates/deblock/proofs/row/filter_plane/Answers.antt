@@ -1,21 +1,18 @@
-use Rattle.std.proofs.Common.{◌≡◌, ℕ, ◌≤◌, ◌<◌, ◌+◌, ◌/◌, ap, subst, refl, arith}
-use Rattle.spec_deblocking.specs.Places.{side}
+use Rattle.std.proofs.Common.{◌≡◌, ℕ, ◌≤◌, ◌/◌, ap, subst, refl, arith}
 use Rattle.deblock.specs.Windows.{seen}
-use Rattle.deblock.specs.Passes.{placed}
-use Rattle.deblock.proofs.Flat.{inside_of}
-use Rattle.deblock.proofs.Edges.{part_none, part_all}
-use Rattle.deblock.proofs.Rows.{along_of}
+use Rattle.deblock.specs.Passes.{placed, IsPartly}
+use Rattle.deblock.proofs.Edges.{part_none}
+use Rattle.deblock.proofs.Rows.{along_of, ordered_places}
 use Rattle.deblock.proofs.row.filter_plane.Goals as goal
 
 pub loop-s-init : goal.loop-s-init
 loop-s-init g c = record {
-  done = λ i j h. part_none c.args.pass.now.plane c.args.pass.now.bit_depth c.args.pass.now.side
-      (placed c.args.pass.now.behind.turned (g.V.PlaceView.place_at c.args.view.now))
-      (seen c.args.pass.now.before c.args.samples.now)
-      (c.args.pass.now.behind.along_first / c.side-lines.result) i j c.args.pass.now.behind.along_first _
-      c.requires.pass.along_first (ap (λ (n : ℕ). c.args.pass.now.behind.along_first / n) c.side-lines.ensures.value)
-      (inside_of c.args.pass.now.behind i j h).along_first (c.requires.same i j h);
-  bounded = c.requires.start;
+  done = λ i j h. part_none c.args.pass.now
+      (placed c.args.pass.now.window.turned (g.V.PlaceView.place_at c.args.view.now))
+      (seen c.args.pass.now.window c.args.out.now)
+      (c.args.pass.now.along_first / c.side-lines.result) i j _
+      c.requires.pass.along_first (ap (λ (n : ℕ). c.args.pass.now.along_first / n) c.side-lines.ensures.value) refl;
+  bounded = c.requires.bounded;
 }
 
 pub filter_places-requires-clause-along : goal.filter_places-requires-clause-along
@@ -23,13 +20,23 @@ filter_places-requires-clause-along g c =
     along_of c.args.pass.now c.loop-s.s c.requires.pass
     (rw c.side-lines.ensures.value at c.loop-s.auto.s) (rw c.side-lines.ensures.value at c.loop-s-test.true)
 
-pub returns : goal.returns
-returns g c = record {
-  value = λ i j h. part_all c.args.pass.now.plane c.args.pass.now.bit_depth c.args.pass.now.side
-      (placed c.args.pass.now.behind.turned (g.V.PlaceView.place_at c.args.view.now))
-      (seen c.args.pass.now.before c.args.samples.now)
-      c.loop-s.s i j c.args.pass.now.behind.along_end _
-      c.requires.pass.along_end (rw c.side-lines.ensures.value at c.loop-s-test.false)
-      (inside_of c.args.pass.now.behind i j h).along_end (c.loop-s.invariant.done i j h);
-  bounded = c.loop-s.invariant.bounded;
+pub loop-s-preserved : goal.loop-s-preserved
+loop-s-preserved g c = record {
+  done = c.filter_places.ensures.done (seen c.args.pass.now.window c.args.out.now) c.loop-s.invariant.done;
+  bounded = c.filter_places.ensures.bounded;
 }
+
+pub returns : goal.returns
+returns g c =
+    let order : c.args.pass.now.along_first / c.side-lines.result ≤ c.args.pass.now.along_end / c.side-lines.result =
+    rw c.side-lines.ensures.value
+    (ordered_places c.args.pass.now.plane c.args.pass.now.along_first c.args.pass.now.along_end
+    c.requires.pass.along_order) in
+    let last : c.loop-s.s ≡ c.args.pass.now.along_end / c.side-lines.result = omega (arith, order) in
+    record {
+      value = subst (λ (s : ℕ). IsPartly c.args.pass.now
+          (placed c.args.pass.now.window.turned (g.V.PlaceView.place_at c.args.view.now))
+          (seen c.args.pass.now.window c.args.out.now) s 0 c.loop-s.out)
+          (rw c.side-lines.ensures.value at last) c.loop-s.invariant.done;
+      bounded = c.loop-s.invariant.bounded;
+    }

@@ -1,19 +1,13 @@
-use Rattle.std.proofs.Common.{ℕ, arith}
-use Rattle.spec_deblocking.specs.Planes.{vertical, horizontal}
+use Rattle.std.proofs.Common.{arith}
 use Rattle.deblock.specs.Windows.{columns_across}
-use Rattle.deblock.proofs.Flat.{inside_of, inside_holds}
-use Rattle.deblock.proofs.Rows.{copied, row_room}
+use Rattle.deblock.proofs.Flat.{inside_holds}
+use Rattle.deblock.proofs.Laying.{cond_by}
+use Rattle.deblock.proofs.Rows.{row_lines}
 use Rattle.deblock.proofs.row.vertical_row.Goals as goal
-
-pub filter_row-requires-clause-same : goal.filter_row-requires-clause-same
-filter_row-requires-clause-same g c = rw (c.columns_across.ensures, c.columns_across-2.ensures) (λ i j h.
-    let at = inside_of (columns_across c.args.row.now.width c.args.row.now.top c.args.row.now.bottom) i j h in
-    copied c.args.row.now.width c.args.row.now.first c.args.row.now.top c.args.row.now.bottom _ i j c.args.samples.now _
-    c.requires.row.first at.along_first at.along_end at.across_end c.requires.room c.copy.ensures.value)
 
 pub returns-clause-value : goal.returns-clause-value
 returns-clause-value g c = λ x y a b d.
-    let value = rw (c.columns_across.ensures, c.columns_across-2.ensures) at c.filter_row.ensures.value in
-    value x y
-    (inside_holds (columns_across c.args.row.now.width c.args.row.now.top c.args.row.now.bottom) x y
-    (omega arith) a b d)
+    let row = c.args.row.now in
+    let value = rw c.columns_across.ensures at c.filter_row.ensures.value in
+    cond_by _ _ _ _ _ (value x y (inside_holds (columns_across row.width row.first row.end) x y (omega arith) a b d))
+    (row_lines row x y c.requires.row.ends a)

@@ -1,5 +1,5 @@
 use Rattle.std.proofs.Common.{arith}
-use Rattle.deblock.proofs.Flat.{put_seen, put_bounded}
+use Rattle.deblock.proofs.Flat.{put_seen}
 use Rattle.deblock.proofs.window.put.Goals as goal
 
 pub returns-clause-value : goal.returns-clause-value

@@ -1,6 +1,5 @@
-use Rattle.std.proofs.Common.{◌≡◌, ◌<◌, ◌*◌, ◌==◌, ℕ, length, false}
+use Rattle.std.proofs.Common.{◌≡◌, ◌<◌, ◌≤◌, ◌-◌, ◌*◌, ℕ, cond, nat_lt, slice_index_or}
 use Rattle.deblock.specs.Windows.{at}
-use Rattle.picture_buffer.specs.Planes.{HasSides, samples_of}
 use Rattle.spec_loop_filters.specs.Filters.{offset_plane}
 use Rattle.spec_sample_adaptive_offset.specs.Plane.{offset_sample}
 use Rattle.loop_filters.specs.Formats.{filters_of}
@@ -8,12 +7,16 @@ use Rattle.loop_filters.proofs.offsets.lay_offsets.Given as goal
 
 abbrev pub invariant-loop-row : goal.invariant-loop-row
 invariant-loop-row g l = record {
-  room : length l.out ≡ l.component.width * l.component.height;
-  sides : HasSides l.planes l.format.width l.format.height;
-  told : (x y : ℕ) → x < l.component.width → y < l.component.height → y < l.component.size * l.row
-      → samples_of l.planes l.component.c x y
-      ≡ offset_sample
-      (offset_plane (filters_of l.format (g.V.PlaceView.place_at l.view) (g.V.FilterView.unit_at l.view)) l.component.c)
-      (at l.component.width l.deblocked) x y;
-  others : (i x y : ℕ) → (i == l.component.c) ≡ false → samples_of l.planes i x y ≡ samples_of l.fn.planes i x y;
+  told : (x y : ℕ) → x < l.component.width → y < l.component.height
+      → at l.component.width l.samples x y
+      ≡ cond (nat_lt y (l.component.size * l.row))
+      (offset_sample
+      (offset_plane
+      (filters_of (g.V.FilterView.shape l.view) (g.V.PlaceView.place_at l.view) (g.V.FilterView.unit_at l.view))
+      l.component.c)
+      (at l.component.width l.fn.samples) x y)
+      (at l.component.width l.fn.samples x y);
+  last : 0 < l.component.size * l.row → l.component.size * l.row ≤ l.component.height → (x : ℕ)
+      → x < l.component.width
+      → slice_index_or l.last x 0 ≡ at l.component.width l.fn.samples x (l.component.size * l.row - 1);
 }

@@ -1,58 +1,8 @@
-use Rattle.std.proofs.Common.{rules, ◌≡◌, ◌<◌, ◌≤◌, ◌+◌, ◌*◌, ℕ, length, ap, sym, subst, ◌∙◌, refl, arith}
-use Rattle.deblock.specs.Windows.{at}
+use Rattle.std.proofs.Common.{rules, ◌≡◌, ◌<◌, ◌≤◌, ◌+◌, ◌*◌, ℕ, ap, sym, subst, ◌∙◌, refl, arith}
 use Rattle.spec_loop_filters.specs.Filters.{offset_plane}
 use Rattle.loop_filters.specs.Formats.{columns_of, filters_of}
-use Rattle.loop_filters.proofs.RowParts.{block_is_one, few, has_lines, kept_among, lines_inside, row_begins, row_is_one}
-use Rattle.loop_filters.proofs.RowParts.{sample_among}
+use Rattle.loop_filters.proofs.RowParts.{block_is_one, kept_among, row_begins, row_is_one}
 use Rattle.loop_filters.proofs.offsets.offset_row.Goals as goal
-
-pub overflow_mul-from : goal.overflow_mul-from
-overflow_mul-from g c =
-    let k = c.requires.component in
-    let begins =
-    row_begins c.args.component.now.size c.args.row c.args.component.now.rows c.args.component.now.height
-    k.high.1 c.requires.row in
-    let le =
-    lines_inside c.args.component.now.width c.saturating_sub-2.result c.args.component.now.height
-    (omega (arith, begins, c.saturating_sub-2.ensures)) in
-    let all = few c.args.component.now.width c.args.component.now.height k.is_plane.width.1 k.is_plane.height.1 in
-    omega (arith, le, all)
-
-pub offset_bounds-deblocked-from : goal.offset_bounds-deblocked-from
-offset_bounds-deblocked-from g c =
-    let k = c.requires.component in
-    let begins =
-    row_begins c.args.component.now.size c.args.row c.args.component.now.rows c.args.component.now.height
-    k.high.1 c.requires.row in
-    let le =
-    lines_inside c.args.component.now.width c.saturating_sub-2.result c.args.component.now.height
-    (omega (arith, begins, c.saturating_sub-2.ensures)) in
-    let all = few c.args.component.now.width c.args.component.now.height k.is_plane.width.1 k.is_plane.height.1 in
-    omega (arith, le, all)
-
-pub slice_bounds-sao_row-count : goal.slice_bounds-sao_row-count
-slice_bounds-sao_row-count g c =
-    let k = c.requires.component in
-    let begins =
-    row_begins c.args.component.now.size c.args.row c.args.component.now.rows c.args.component.now.height
-    k.high.1 c.requires.row in
-    let le =
-    lines_inside c.args.component.now.width c.saturating_sub-2.result c.args.component.now.height
-    (omega (arith, begins, c.saturating_sub-2.ensures)) in
-    omega (arith, le, c.requires.deblocked)
-
-pub slice_bounds-sao_row-start : goal.slice_bounds-sao_row-start
-slice_bounds-sao_row-start g c =
-    let k = c.requires.component in
-    let begins =
-    row_begins c.args.component.now.size c.args.row c.args.component.now.rows c.args.component.now.height
-    k.high.1 c.requires.row in
-    let le =
-    lines_inside c.args.component.now.width c.saturating_sub-2.result c.args.component.now.height
-    (omega (arith, begins, c.saturating_sub-2.ensures)) in
-    let fits : c.args.component.now.width * c.saturating_sub-2.result ≤ length c.args.deblocked.now =
-    omega (arith, le, c.requires.deblocked) in
-    search rules
 
 pub sao_row-requires-clause-row : goal.sao_row-requires-clause-row
 sao_row-requires-clause-row g c =
@@ -78,24 +28,11 @@ sao_row-requires-clause-row g c =
       places = (k.place_few, search rules);
     }
 
-pub sao_row-requires-clause-lines : goal.sao_row-requires-clause-lines
-sao_row-requires-clause-lines g c =
-    let k = c.requires.component in
-    let begins =
-    row_begins c.args.component.now.size c.args.row c.args.component.now.rows c.args.component.now.height
-    k.high.1 c.requires.row in
-    has_lines c.args.component.now.width c.args.component.now.height (c.args.component.now.size * c.args.row)
-    c.args.component.now.size c.saturating_sub-2.result c.args.deblocked.now c.requires.deblocked
-    c.saturating_sub-2.ensures begins
-
 pub returns : goal.returns
-returns g c =
+returns g c = λ f around i j column line stood.
     let k = c.requires.component in
     let p = c.args.component.now in
     let t : ℕ = c.args.component.now.size * c.args.row in
-    let begins =
-    row_begins c.args.component.now.size c.args.row c.args.component.now.rows c.args.component.now.height
-    k.high.1 c.requires.row in
     let one : (u : ℕ) → c.args.component.now.size * u < c.args.component.now.width
     → u < columns_of (g.V.FilterView.shape c.args.view.now) =
     λ u lt. block_is_one c.args.component.now.size u _ c.args.component.now.width k.wide.0 lt in
@@ -103,7 +40,7 @@ returns g c =
     (offset_plane (filters_of (g.V.FilterView.shape c.args.view.now) (g.V.PlaceView.place_at c.args.view.now)
     (g.V.FilterView.unit_at c.args.view.now))
     c.args.component.now.c)
-    (at c.args.component.now.width c.args.deblocked.now)
+    f
     (record {
       width = sym k.width;
       height = sym k.height;
@@ -124,7 +61,7 @@ returns g c =
           c.args.component.now.places c.args.component.now.size c.args.row c.args.component.now.width
           c.args.component.now.height x j _ _ _ c.kept.result.now (g.V.PlaceView.place_at c.args.view.now) k.plane
           k.place_side k.places k.across k.down k.block c.kept.ensures h l;
-      samples = λ x y h l above below. sample_among c.args.component.now.width c.args.component.now.height t
-          c.saturating_sub-2.result x y c.args.deblocked.now c.requires.deblocked
-          c.saturating_sub-2.ensures begins h l above;
+      samples = around;
     })
+    i j column line
+    (stood ∙ around i (t + j) column (omega (arith, line)) (omega arith) (omega (arith, line)))
