@@ -63,11 +63,11 @@ halted-gives ahead pending (Ok s) =
 halted-gives ahead pending (Err e) =
     record { pictures = cut-all (waiting pending) ∙ sym (append-nil pending); last = refl; stop = refl }
 
-halted-none : (p : Plans) → (halted p).left.pending ≡ []
+pub halted-none : (p : Plans) → (halted p).left.pending ≡ []
 unfolding halted
 halted-none p = cut-none (waiting p.pending)
 
-end-none : (p : Plans) → (at_end p).left.pending ≡ []
+pub end-none : (p : Plans) → (at_end p).left.pending ≡ []
 unfolding at_end
 end-none p =
     let g : Given = going_on p p.next (λ s. after_step p (close s)) in

@@ -1,2 +1,3 @@
 pub mod Runs
 pub mod Calls
+pub mod Stops
