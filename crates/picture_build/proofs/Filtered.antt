@@ -7,8 +7,9 @@ use Rattle.std.proofs.lemmas.Bool.Decides.{nat_tests}
 use Rattle.header_types.specs.declared.sps.PictureFormat.{PictureFormat}
 use Rattle.header_types.specs.SequenceParameterSets.{IsSps}
 use Rattle.plan_types.specs.declared.picture_plan.PicturePlan.{PicturePlan}
-use Rattle.spec_decoded_pictures.specs.Decoded.{decoded_by, picture_decoded, reading_decoded, samples_filtered}
-use Rattle.spec_decoded_pictures.specs.Decoded.{units_decoded}
+use Rattle.spec_decoded_pictures.proofs.OneFold.{one_fold}
+use Rattle.spec_decoded_pictures.specs.Decoded.{DecodedUnits, decoded_by, joined, picture_decoded, reading_decoded}
+use Rattle.spec_decoded_pictures.specs.Decoded.{samples_filtered, units_decoded}
 use Rattle.spec_loop_filters.specs.Filters.{depth_of}
 use Rattle.spec_picture_trees.specs.Picture.{TreeUnit, PictureBroken, picture_read}
 use Rattle.spec_picture_trees.specs.Shapes.{picture_shape}
@@ -26,7 +27,7 @@ use Rattle.picture_filters.specs.Filtering.{data_of}
 use Rattle.picture_trees.specs.Given.{ReadsPicture}
 use Rattle.picture_trees.specs.declared.trees.ReadError.{ReadError}
 use Rattle.picture_trees.specs.declared.trees.ReadError.TheVariants as errors
-use Rattle.picture_build.specs.Building.{Building, BuildsPicture, built_by}
+use Rattle.picture_build.specs.Building.{Building, BuildsPicture, built_by, units_by}
 use Rattle.picture_build.proofs.Built.{AreBuilt, picture_is}
 use Rattle.picture_build.proofs.Planes.{heights, widths}
 
@@ -130,7 +131,7 @@ pub decoded_is : (building : Building) (picture : PictureShape) (format : Pictur
     → format ≡ building.plan.sps.format → field ≡ building.motion.field
     → AreFiltered building.filters.plan (data_of building.filters) building.planes new
     → of_parts format (samples_of new) (motions_of field)
-    ≡ decoded_by building.plan (built_by building) (data_of building.filters)
+    ≡ decoded_by building.plan (units_by building)
 unfolding decoded_by
 decoded_is building picture format new field ep ew eh e before after ef em told =
     let sides : HasSides new (4 * picture.across) (4 * picture.down) =
@@ -173,14 +174,16 @@ built_in_range buffer p building given are whole c x y =
 -- all units are built: behind the loop filters they are the picture
 pub decoded_all : (buffer : List DecodedPicture) (p : PicturePlan) (building : Building) (given : List TreeUnit)
     → AreBuilt buffer building p given
-    → picture_decoded buffer p ≡ Ok (decoded_by building.plan (built_by building) (data_of building.filters))
+    → picture_decoded buffer p ≡ Ok (decoded_by building.plan (units_by building))
 unfolding picture_decoded
 decoded_all buffer p building given are =
     ap (reading_decoded buffer p) are.all.all
     ∙ ap (λ g. Ok (units_decoded buffer p g)) are.all.same
-    ∙ ap (λ b. Ok (decoded_by p b (units_filtered (motions_at buffer) p given))) (sym (are.is.picture are.sound))
-    ∙ ap (λ (f : Behind). Ok (decoded_by p (built_by building) f.gathered)) (sym (are.is.behind are.sound))
-    ∙ ap (λ q. Ok (decoded_by q (built_by building) (data_of building.filters))) (sym are.is.plan)
+    ∙ ap (λ (u : DecodedUnits). Ok (decoded_by p u)) (one_fold buffer p given)
+    ∙ ap (λ b. Ok (decoded_by p (joined b (units_filtered (motions_at buffer) p given))))
+    (sym (are.is.picture are.sound))
+    ∙ ap (λ (f : Behind). Ok (decoded_by p (joined (built_by building) f.gathered))) (sym (are.is.behind are.sound))
+    ∙ ap (λ q. Ok (decoded_by q (units_by building))) (sym are.is.plan)
 
 -- a rule is broken
 decoded_broken : (buffer : List DecodedPicture) (p : PicturePlan) (given : List TreeUnit) (broken : PictureBroken)

@@ -6,6 +6,7 @@ use Rattle.plan_types.specs.declared.picture_plan.PicturePlan.{PicturePlan}
 use Rattle.spec_picture_trees.specs.Picture.{TreeUnit, PictureBroken}
 use Rattle.spec_reconstruction.specs.Sound.{AreSound}
 use Rattle.spec_picture_build.specs.Built.{BuiltPicture, units_built}
+use Rattle.spec_decoded_pictures.specs.Decoded.{DecodedUnits, joined}
 use Rattle.spec_picture_filters.specs.Filtered.{Behind, units_behind}
 use Rattle.spec_picture_build.specs.Format.{unit_format}
 use Rattle.spec_picture_build.specs.References.{DecodedPicture, motions_of as motions_at}
@@ -28,6 +29,10 @@ pub record Building : Type 0 where
 -- the picture so far
 abbrev pub built_by : Building → BuiltPicture
 built_by building = record { samples = samples_of building.planes; motions = motions_of building.motion.field }
+
+-- all that its units so far make of it
+abbrev pub units_by : Building → DecodedUnits
+units_by building = joined (built_by building) (data_of building.filters)
 
 -- its motion, and what its loop filters need
 abbrev pub behind_by : Building → Behind

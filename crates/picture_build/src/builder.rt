@@ -2,11 +2,10 @@
 
 ghost use Rattle.std.specs.Prelude.{◌≡◌, ◌≤◌, ◌*◌, ℕ, IfOk, Some, [], List};
 ghost use Rattle.header_types.specs.SequenceParameterSets.{IsSps};
-ghost use Rattle.picture_build.specs.Building.{IsBuilt, IsSoundUnit, behind_by, built_by};
+ghost use Rattle.picture_build.specs.Building.{IsBuilt, IsSoundUnit, behind_by, built_by, units_by};
 ghost use Rattle.picture_build.specs.Pictures.{buffer_of, decoded_of};
 ghost use Rattle.picture_buffer.specs.Pictures.{HeldPicture};
 ghost use Rattle.picture_buffer.specs.Planes.{samples_of};
-ghost use Rattle.picture_filters.specs.Filtering.{data_of};
 ghost use Rattle.picture_trees.specs.Given.{tree_unit};
 ghost use Rattle.spec_decoded_pictures.specs.Decoded.{decoded_by};
 ghost use Rattle.spec_picture_filters.specs.Filtered.{added_in, with_unit as filtered_with_unit};
@@ -113,7 +112,7 @@ impl<'a, B: Buffer> PictureBuilder<'a, B> {
     /// The picture behind its loop filters, and the memory in which it was filtered.
     pub(crate) fn into_picture(self) -> (Picture, FilterScratch)
         requires { (c x y : ℕ) → samples_of self.planes c x y ≤ greatest_sample self.plan.sps.format c }
-        ensures { decoded_of result.0 ≡ decoded_by self.entry.plan (built_by self.entry) (data_of self.entry.filters) }
+        ensures { decoded_of result.0 ≡ decoded_by self.entry.plan (units_by self.entry) }
     {
         let mut planes = self.planes;
         let mut filters = self.filters;

@@ -14,7 +14,9 @@ use Rattle.spec_picture_filters.specs.Filtered.{filter_format, filtered, loop_fi
 use Rattle.spec_picture_build.specs.Border.{Samples, has_sample}
 use Rattle.spec_picture_build.specs.Built.{picture_built, units_built}
 use Rattle.spec_picture_build.specs.References.{DecodedPicture, greatest_sample}
-use Rattle.spec_decoded_pictures.specs.Decoded.{decoded_by, picture_decoded, reading_decoded, samples_filtered}
+use Rattle.spec_decoded_pictures.proofs.OneFold.{one_fold}
+use Rattle.spec_decoded_pictures.specs.Decoded.{DecodedUnits, decoded_by, picture_decoded, reading_decoded}
+use Rattle.spec_decoded_pictures.specs.Decoded.{samples_filtered}
 use Rattle.spec_decoded_pictures.specs.Decoded.{units_decoded}
 use Rattle.sample_laws.proofs.Means.{case_holds}
 use Rattle.sample_laws.proofs.Pictures.{whole_below}
@@ -70,7 +72,8 @@ module _ (buffer : List DecodedPicture) (p : PicturePlan) (sps : IsSps p.sps) wh
       → IsBelow (units_decoded buffer p progress.given)
   unfolding decoded_by
   units_below progress is =
-      samples_below p _ _ (whole_below buffer p sps (units_built buffer p progress.given) (built_as progress is))
+      subst (λ (u : DecodedUnits). IsBelow (decoded_by p u)) (sym (one_fold buffer p progress.given))
+      (samples_below p _ _ (whole_below buffer p sps (units_built buffer p progress.given) (built_as progress is)))
 
   gives_below : (decoded : DecodedPicture) (r : Result Progress Halt) → picture_read p [] ≡ r
       → reading_decoded buffer p r ≡ Ok decoded → IsBelow decoded

@@ -2,13 +2,22 @@
 
 ghost use Rattle.std.specs.Prelude.{◌≡◌, ℕ, true, List, All};
 ghost use Rattle.plan_types.specs.declared.picture_plan.PicturePlan.{PicturePlan};
-ghost use Rattle.spec_decoded_pictures.specs.Decoded.{units_decoded};
+ghost use Rattle.spec_decoded_pictures.specs.Decoded.{joined, units_decoded, units_folded};
+ghost use Rattle.spec_picture_filters.specs.Filtered.{units_filtered};
 ghost use Rattle.spec_picture_trees.specs.Picture.{TreeUnit};
 ghost use Rattle.spec_picture_trees.specs.Shapes.{picture_shape};
 ghost use Rattle.spec_picture_filters.specs.Disabled.{AreDisabled, HasNoOffset};
 ghost use Rattle.spec_picture_build.specs.Border.{has_sample};
 ghost use Rattle.spec_picture_build.specs.Built.{units_built};
-ghost use Rattle.spec_picture_build.specs.References.{DecodedPicture};
+ghost use Rattle.spec_picture_build.specs.References.{DecodedPicture, motions_of};
+
+/// One fold over the units of a picture gives what the folds for its samples with its motion, and for what its loop
+/// filters need, give each for itself.
+pub fn pictures_are_one_fold()
+    ensures { (buffer : List DecodedPicture) (p : PicturePlan) (units : List TreeUnit)
+        → units_folded buffer p units
+        ≡ joined (units_built buffer p units) (units_filtered (motions_of buffer) p units) }
+{}
 
 /// A picture of which each slice is without deblocking, and each unit without offsets, has the samples that were built.
 pub fn pictures_without_filters_are_as_built()

@@ -4,4 +4,4 @@
 
 mod laws;
 
-pub use laws::pictures_without_filters_are_as_built;
+pub use laws::{pictures_are_one_fold, pictures_without_filters_are_as_built};

@@ -1,10 +1,9 @@
 use Rattle.std.proofs.Common.{◌≡◌, ◌≤◌, ℕ, sym, ap, subst, ◌∙◌, rules}
 use Rattle.header_types.specs.declared.sps.PictureFormat.{PictureFormat}
 use Rattle.picture_buffer.specs.Planes.{samples_of}
-use Rattle.picture_filters.specs.Filtering.{data_of}
 use Rattle.spec_decoded_pictures.specs.Decoded.{decoded_by}
 use Rattle.spec_picture_build.specs.References.{greatest_sample}
-use Rattle.picture_build.specs.Building.{Building, built_by}
+use Rattle.picture_build.specs.Building.{Building, units_by}
 use Rattle.picture_build.specs.Pictures.{decoded_of}
 use Rattle.picture_build.proofs.Filtered.{bounded, decoded_is}
 use Rattle.picture_build.proofs.builder.PictureBuilder.into_picture.Goals as goal
@@ -25,7 +24,7 @@ returns g c =
     } in
     let format : PictureFormat = c.fields.result.now.format in
     let same : format ≡ c.self.inside.plan.now.sps.format = search rules in
-    let Q : Building → Type 0 = λ b. decoded_of c.new-picture.result ≡ decoded_by b.plan (built_by b) (data_of b.filters) in
+    let Q : Building → Type 0 = λ b. decoded_of c.new-picture.result ≡ decoded_by b.plan (units_by b) in
     subst Q c.self.view_is (ap decoded_of c.new-picture.ensures
     ∙ decoded_is building c.self.inside.layout format c.filter.new.planes c.into_field.result c.self.invariant.0
     c.self.invariant.2 c.self.invariant.3 c.self.invariant.7
