@@ -140,7 +140,8 @@ pub available_beside : (p : PicturePlan) (slice address x y i j : ℕ) → IsSps
     → unit_at (picture_shape p.sps p.pps) (unit_places (picture_shape p.sps p.pps)) x y ≡ address
     → ¬ (unit_at (picture_shape p.sps p.pps) (unit_places (picture_shape p.sps p.pps)) i j ≡ address)
     → is_available (picture_shape p.sps p.pps) slice address i j
-    ≡ available (slice_area (picture_shape p.sps p.pps) (in_places (min_tb_log2 p.sps.blocks)) slice) x y (pos i) (pos j)
+    ≡ available (slice_area (picture_shape p.sps p.pps) (in_places (min_tb_log2 p.sps.blocks)) slice) x y (pos i)
+    (pos j)
 available_beside p slice address x y i j sps here there =
     available_by_scan (picture_shape p.sps p.pps) (in_places (min_tb_log2 p.sps.blocks)) slice address x y i j
     (same_width p slice sps) (least_block p sps) here there

@@ -17,7 +17,8 @@ use Rattle.spec_slice_data.specs.declared.syntax.End.{End}
 use Rattle.spec_slice_data.specs.Modes.{upper_left, upper_right, lower_left, lower_right}
 use Rattle.spec_slice_data.specs.Quantization.{grouped}
 use Rattle.spec_picture_trees.specs.Places.{first_column, first_row}
-use Rattle.spec_slice_data.specs.Segment.{Between, PictureShape, SegmentShape, begins_row, is_last, next_unit, syntax_at}
+use Rattle.spec_slice_data.specs.Segment.{Between, PictureShape, SegmentShape, begins_row, is_last, next_unit}
+use Rattle.spec_slice_data.specs.Segment.{syntax_at}
 use Rattle.spec_slice_data.specs.Segment.{unit_at, unit_begins}
 use Rattle.spec_slice_data.specs.Tree.{coding_quadtree, coding_tree_unit, coding_unit, split_cu_flag, split_or_unit}
 use Rattle.spec_slice_data.specs.Tree.{unit_and_end}
@@ -26,7 +27,8 @@ use Rattle.unit_laws.proofs.Bodies.{grouped_same, unit_gives}
 use Rattle.unit_laws.proofs.Formats.{Gives, after_any, always, give_gives, then_gives, when_gives}
 use Rattle.unit_laws.proofs.ScanOrder.{IsAligned, end_at, fourth_at, grown, lower_left_aligned, lower_right_aligned}
 use Rattle.unit_laws.proofs.ScanOrder.{second_at, third_at, upper_left_aligned, upper_right_aligned, whole_aligned}
-use Rattle.unit_laws.specs.Order.{AreInScanOrder, AreScanned, HaveThoseBefore, coding_squares, is_in, is_in_any, no_square}
+use Rattle.unit_laws.specs.Order.{AreInScanOrder, AreScanned, HaveThoseBefore, coding_squares, is_in, is_in_any}
+use Rattle.unit_laws.specs.Order.{no_square}
 use Rattle.unit_laws.specs.Order.{IsWhole, unit_order}
 
 either_first : (a b c : Bool) → (a || (b || c)) ≡ (b || (a || c))
@@ -56,20 +58,18 @@ whole_of min_coding unit n s aligned least =
 
 module _ (min_coding unit right lower : ℕ) where
   -- the coding units so far are in order, and have the places before one in z-scan order
-  record Reaches (place : ℕ) (squares : List Square) : Type 0 where
-    each : All (IsWhole min_coding unit) squares
-    order : AreInScanOrder right lower squares
-    before : HaveThoseBefore right lower squares place
-
-  abbrev UpTo : ℕ → Ctu → Type 0
-  UpTo place ctu = Reaches place (coding_squares ctu.items)
+  pub record Reaches (place : ℕ) (squares : List Square) : Type 0 where
+    pub each : All (IsWhole min_coding unit) squares
+    pub order : AreInScanOrder right lower squares
+    pub before : HaveThoseBefore right lower squares place
 
   -- one more square, which begins where the others end
   order_behind : (squares : List Square) (s : Square) → Reaches (unit_order s.x s.y) squares
       → AreInScanOrder right lower (squares ++ s ∷ [])
   order_behind squares s reaches k below = elim (cases_lt k (length squares)) [
     | inl inside ↦
-        let same : take k (squares ++ s ∷ []) ≡ take k squares = take-append-le k squares (s ∷ []) (omega (arith, inside)) in
+        let same : take k (squares ++ s ∷ []) ≡ take k squares =
+        take-append-le k squares (s ∷ []) (omega (arith, inside)) in
         let at : slice_index_or (squares ++ s ∷ []) k no_square ≡ slice_index_or squares k no_square =
         get_or_append_left squares (s ∷ []) no_square k inside in
         subst (λ q. HaveThoseBefore right lower (take k (squares ++ s ∷ [])) (unit_order q.x q.y)) (sym at)
@@ -84,12 +84,13 @@ module _ (min_coding unit right lower : ℕ) where
         (subst (λ qs. HaveThoseBefore right lower qs (unit_order s.x s.y)) (sym same) reaches.before)
   ]
 
-  one_more : (n : ℕ) (s : Square) (squares : List Square) → IsAligned unit n s → min_coding ≤ n
+  pub one_more : (n : ℕ) (s : Square) (squares : List Square) → IsAligned unit n s → min_coding ≤ n
       → Reaches (unit_order s.x s.y) squares
       → Reaches (unit_order s.x s.y + 4 ^ n) (squares ++ s ∷ [])
   one_more n s squares aligned least reaches = record {
     each = All-append (IsWhole min_coding unit) squares (s ∷ []) reaches.each
-        (All-cons (IsWhole min_coding unit) s [] (whole_of min_coding unit n s aligned least) (All-nil (IsWhole min_coding unit)));
+        (All-cons (IsWhole min_coding unit) s [] (whole_of min_coding unit n s aligned least)
+        (All-nil (IsWhole min_coding unit)));
     order = order_behind squares s reaches;
     before = λ i j i_small j_small inside above.
         any_behind squares s i j
@@ -98,7 +99,7 @@ module _ (min_coding unit right lower : ℕ) where
   }
 
   -- a square that the picture doesn't reach
-  passed : (n : ℕ) (s : Square) (squares : List Square) → IsAligned unit n s
+  pub passed : (n : ℕ) (s : Square) (squares : List Square) → IsAligned unit n s
       → (nat_lt s.x right && nat_lt s.y lower) ≡ false → Reaches (unit_order s.x s.y) squares
       → Reaches (unit_order s.x s.y + 4 ^ n) squares
   passed n s squares aligned outside reaches = record {
@@ -127,24 +128,20 @@ module _ (min_coding unit right lower : ℕ) where
           differ true t f = absurd cc
           differ false t f = absurd cc
 
-gives_same : {P : Ctu → Type 0} {m : Tree Ctu} (Q : Ctu → Type 0) → ((c : Ctu) → Q c → P c) → Gives Q m → Gives P m
+pub gives_same : {P : Ctu → Type 0} {m : Tree Ctu} (Q : Ctu → Type 0) → ((c : Ctu) → Q c → P c) → Gives Q m → Gives P m
 gives_same Q weaker gives = record { gives = λ s t x e. weaker x (gives.gives s t x e) }
 
-module _ (syntax : CtuSyntax) (unit : ℕ) where
-  abbrev Before : ℕ → Ctu → Type 0
-  Before place ctu = UpTo syntax.log2_min_coding unit syntax.right syntax.lower place ctu
-
-  unit_scanned : (n depth : ℕ) (s : Square) (ctu : Ctu) → IsAligned unit n s → syntax.log2_min_coding ≤ n
-      → Before (unit_order s.x s.y) ctu
-      → Gives (Before (unit_order s.x s.y + 4 ^ n)) (coding_unit syntax depth s ctu)
-  unit_scanned n depth s ctu aligned least before =
-      gives_same (λ (c : Ctu). coding_squares c.items ≡ coding_squares ctu.items ++ s ∷ [])
-      (λ c is. subst (Reaches syntax.log2_min_coding unit syntax.right syntax.lower (unit_order s.x s.y + 4 ^ n)) (sym is)
-      (one_more syntax.log2_min_coding unit syntax.right syntax.lower n s (coding_squares ctu.items) aligned least before))
-      (unit_gives syntax depth s ctu)
-
-  next_at : (place other : ℕ) (ctu : Ctu) → place ≡ other → Before place ctu → Before other ctu
-  next_at place other ctu is before = subst (λ k. Before k ctu) is before
+-- the coding quadtree, whose coding units come right behind what comes before them
+module _ (syntax : CtuSyntax) (unit : ℕ) (UpTo : ℕ → Ctu → Type 0)
+    (unit_up : (n depth : ℕ) (s : Square) (ctu : Ctu) → IsAligned unit n s → syntax.log2_min_coding ≤ n
+    → UpTo (unit_order s.x s.y) ctu
+    → Gives (UpTo (unit_order s.x s.y + 4 ^ n)) (coding_unit syntax depth s ctu))
+    (passed_up : (n : ℕ) (s : Square) (ctu : Ctu) → IsAligned unit n s
+    → (nat_lt s.x syntax.right && nat_lt s.y syntax.lower) ≡ false → UpTo (unit_order s.x s.y) ctu
+    → UpTo (unit_order s.x s.y + 4 ^ n) ctu)
+    (grouped_up : (place : ℕ) (s : Square) (ctu : Ctu) → UpTo place ctu → UpTo place (grouped syntax s ctu)) where
+  next_at : (place other : ℕ) (ctu : Ctu) → place ≡ other → UpTo place ctu → UpTo other ctu
+  next_at place other ctu is before = subst (λ k. UpTo k ctu) is before
 
   -- a coding unit of the least size isn't split
   split_gives : (depth : ℕ) (square : Square) (ctu : Ctu)
@@ -156,13 +153,13 @@ module _ (syntax : CtuSyntax) (unit : ℕ) where
       (λ held. always _ (λ split e. ltb-true syntax.log2_min_coding square.log2_size held))
       (λ held. give_gives false (λ e. absurd cc))
 
-  split_scanned : (n : ℕ) (quarter : Square → Ctu → Tree Ctu)
-      → (syntax.log2_min_coding ≤ n → (s : Square) (c : Ctu) → IsAligned unit n s → Before (unit_order s.x s.y) c
-      → Gives (Before (unit_order s.x s.y + 4 ^ n)) (quarter s c))
+  split_up : (n : ℕ) (quarter : Square → Ctu → Tree Ctu)
+      → (syntax.log2_min_coding ≤ n → (s : Square) (c : Ctu) → IsAligned unit n s → UpTo (unit_order s.x s.y) c
+      → Gives (UpTo (unit_order s.x s.y + 4 ^ n)) (quarter s c))
       → (depth : ℕ) (s : Square) (ctu : Ctu) → IsAligned unit (suc n) s → syntax.log2_min_coding ≤ suc n
-      → Before (unit_order s.x s.y) ctu
-      → Gives (Before (unit_order s.x s.y + 4 ^ suc n)) (split_or_unit syntax quarter depth s ctu)
-  split_scanned n quarter every depth s ctu aligned least before =
+      → UpTo (unit_order s.x s.y) ctu
+      → Gives (UpTo (unit_order s.x s.y + 4 ^ suc n)) (split_or_unit syntax quarter depth s ctu)
+  split_up n quarter every depth s ctu aligned least before =
       then_gives (split_gives depth s ctu) (λ split greater. when_gives split
       (λ held.
       let above = greater held in
@@ -172,57 +169,96 @@ module _ (syntax : CtuSyntax) (unit : ℕ) where
       (next_at _ _ first (sym (second_at n s aligned)) first_before)) (λ second second_before.
       then_gives (each (lower_left s) second (lower_left_aligned n s aligned)
       (next_at _ _ second (sym (third_at n s aligned)) second_before)) (λ third third_before.
-      gives_same (Before (unit_order (lower_right s).x (lower_right s).y + 4 ^ n))
+      gives_same (UpTo (unit_order (lower_right s).x (lower_right s).y + 4 ^ n))
       (λ c is. next_at _ _ c (end_at n s aligned) is)
       (each (lower_right s) third (lower_right_aligned n s aligned)
       (next_at _ _ third (sym (fourth_at n s aligned)) third_before))))))
-      (λ held. unit_scanned (suc n) depth s ctu aligned least before))
+      (λ held. unit_up (suc n) depth s ctu aligned least before))
 
-  reached_scanned : (n : ℕ) (s : Square) (ctu : Ctu) (tree : Tree Ctu) → IsAligned unit n s
-      → Before (unit_order s.x s.y) ctu → Gives (Before (unit_order s.x s.y + 4 ^ n)) tree
-      → Gives (Before (unit_order s.x s.y + 4 ^ n)) (where_reached syntax s ctu tree)
-  reached_scanned n s ctu tree aligned before gives =
+  reached_up : (n : ℕ) (s : Square) (ctu : Ctu) (tree : Tree Ctu) → IsAligned unit n s
+      → UpTo (unit_order s.x s.y) ctu → Gives (UpTo (unit_order s.x s.y + 4 ^ n)) tree
+      → Gives (UpTo (unit_order s.x s.y + 4 ^ n)) (where_reached syntax s ctu tree)
+  reached_up n s ctu tree aligned before gives =
       when_gives (nat_lt s.x syntax.right && nat_lt s.y syntax.lower) (λ held. gives)
-      (λ outside. give_gives ctu
-      (passed syntax.log2_min_coding unit syntax.right syntax.lower n s (coding_squares ctu.items) aligned outside before))
+      (λ outside. give_gives ctu (passed_up n s ctu aligned outside before))
+
+  pub quadtree_up : (n depth : ℕ) (s : Square) (ctu : Ctu) → IsAligned unit n s → syntax.log2_min_coding ≤ n
+      → UpTo (unit_order s.x s.y) ctu
+      → Gives (UpTo (unit_order s.x s.y + 4 ^ n)) (coding_quadtree syntax n depth s ctu)
+  unfolding coding_quadtree
+  quadtree_up zero depth s ctu aligned least before =
+      reached_up zero s ctu _ aligned before
+      (unit_up zero depth s (grouped syntax s ctu) aligned least (grouped_up (unit_order s.x s.y) s ctu before))
+  quadtree_up (suc n) depth s ctu aligned least before =
+      reached_up (suc n) s ctu _ aligned before
+      (split_up n (coding_quadtree syntax n (depth + 1)) (λ less t c a b. quadtree_up n (depth + 1) t c a less b) depth
+      s (grouped syntax s ctu) aligned least (grouped_up (unit_order s.x s.y) s ctu before))
+
+-- before the first square, and behind the last
+pub nothing_before : (min_block unit right lower : ℕ) → Reaches min_block unit right lower (unit_order 0 0) []
+unfolding spread
+nothing_before min_block unit right lower = record {
+  each = All-nil (IsWhole min_block unit);
+  order = λ k below. absurd (omega (arith, below));
+  before = λ i j i_small j_small inside above. sym (le-ltb (unit_order i j) 0 (omega arith));
+}
+
+pub scanned : (min_block unit right lower : ℕ) (squares : List Square)
+    → Reaches min_block unit right lower (unit_order 0 0 + 4 ^ unit) squares
+    → AreScanned min_block unit right lower squares
+unfolding spread
+scanned min_block unit right lower squares reaches = record {
+  each = reaches.each;
+  order = reaches.order;
+  all = subst (HaveThoseBefore right lower squares) (zero-add (4 ^ unit)) reaches.before;
+}
+
+-- a coding tree unit, read from the first place on
+module _ (syntax : CtuSyntax) (left above : Sao) (ctu : Ctu) (small : ctu.size ≤ 4)
+    (least : syntax.log2_min_coding ≤ ctu.size) where
+  pub tree_up : (UpTo : ℕ → Ctu → Type 0)
+      → ((n depth : ℕ) (s : Square) (c : Ctu) → IsAligned ctu.size n s → syntax.log2_min_coding ≤ n
+      → UpTo (unit_order s.x s.y) c
+      → Gives (UpTo (unit_order s.x s.y + 4 ^ n)) (coding_unit syntax depth s c))
+      → ((n : ℕ) (s : Square) (c : Ctu) → IsAligned ctu.size n s
+      → (nat_lt s.x syntax.right && nat_lt s.y syntax.lower) ≡ false → UpTo (unit_order s.x s.y) c
+      → UpTo (unit_order s.x s.y + 4 ^ n) c)
+      → ((place : ℕ) (s : Square) (c : Ctu) → UpTo place c → UpTo place (grouped syntax s c))
+      → ((offsets : Sao) → UpTo (unit_order 0 0) (with_sao ctu offsets))
+      → Gives (UpTo (unit_order 0 0 + 4 ^ ctu.size)) (coding_tree_unit syntax left above ctu)
+  unfolding coding_tree_unit
+  tree_up UpTo unit_up passed_up grouped_up first =
+      after_any (λ offsets.
+      quadtree_up syntax ctu.size UpTo unit_up passed_up grouped_up ctu.size 0 (whole_unit ctu.size)
+      (with_sao ctu offsets) (whole_aligned ctu.size small) least (first offsets))
+
+-- ---- coding units
+
+module _ (syntax : CtuSyntax) (unit : ℕ) where
+  abbrev Before : ℕ → Ctu → Type 0
+  Before place ctu =
+      Reaches syntax.log2_min_coding unit syntax.right syntax.lower place (coding_squares ctu.items)
+
+  unit_scanned : (n depth : ℕ) (s : Square) (ctu : Ctu) → IsAligned unit n s → syntax.log2_min_coding ≤ n
+      → Before (unit_order s.x s.y) ctu
+      → Gives (Before (unit_order s.x s.y + 4 ^ n)) (coding_unit syntax depth s ctu)
+  unit_scanned n depth s ctu aligned least before =
+      gives_same (λ (c : Ctu). coding_squares c.items ≡ coding_squares ctu.items ++ s ∷ [])
+      (λ c is.
+      subst (Reaches syntax.log2_min_coding unit syntax.right syntax.lower (unit_order s.x s.y + 4 ^ n)) (sym is)
+      (one_more syntax.log2_min_coding unit syntax.right syntax.lower n s (coding_squares ctu.items) aligned least
+      before))
+      (unit_gives syntax depth s ctu)
 
   grouped_before : (place : ℕ) (s : Square) (ctu : Ctu) → Before place ctu → Before place (grouped syntax s ctu)
   grouped_before place s ctu before =
-      subst (λ items. Reaches syntax.log2_min_coding unit syntax.right syntax.lower place (coding_squares items)) (sym (grouped_same syntax s ctu))
-      before
+      subst (λ items. Reaches syntax.log2_min_coding unit syntax.right syntax.lower place (coding_squares items))
+      (sym (grouped_same syntax s ctu)) before
 
-  quadtree_scanned : (n depth : ℕ) (s : Square) (ctu : Ctu) → IsAligned unit n s → syntax.log2_min_coding ≤ n
-      → Before (unit_order s.x s.y) ctu
-      → Gives (Before (unit_order s.x s.y + 4 ^ n)) (coding_quadtree syntax n depth s ctu)
-  unfolding coding_quadtree
-  quadtree_scanned zero depth s ctu aligned least before =
-      reached_scanned zero s ctu _ aligned before
-      (unit_scanned zero depth s (grouped syntax s ctu) aligned least (grouped_before (unit_order s.x s.y) s ctu before))
-  quadtree_scanned (suc n) depth s ctu aligned least before =
-      reached_scanned (suc n) s ctu _ aligned before
-      (split_scanned n (coding_quadtree syntax n (depth + 1))
-      (λ less t c a b. quadtree_scanned n (depth + 1) t c a less b)
-      depth s (grouped syntax s ctu) aligned least (grouped_before (unit_order s.x s.y) s ctu before))
-
-  nothing_before : (ctu : Ctu) → coding_squares ctu.items ≡ [] → Before (unit_order 0 0) ctu
-  unfolding spread
-  nothing_before ctu none =
-      subst (Reaches syntax.log2_min_coding unit syntax.right syntax.lower 0) (sym none)
-      (record {
-        each = All-nil (IsWhole syntax.log2_min_coding unit);
-        order = λ k below. absurd (omega (arith, below));
-        before = λ i j i_small j_small inside above. sym (le-ltb (unit_order i j) 0 (omega arith));
-      })
-
-  scanned : (squares : List Square)
-      → Reaches syntax.log2_min_coding unit syntax.right syntax.lower (unit_order 0 0 + 4 ^ unit) squares
-      → AreScanned syntax.log2_min_coding unit syntax.right syntax.lower squares
-  unfolding spread
-  scanned squares reaches = record {
-    each = reaches.each;
-    order = reaches.order;
-    all = subst (HaveThoseBefore syntax.right syntax.lower squares) (zero-add (4 ^ unit)) reaches.before;
-  }
+  first_before : (ctu : Ctu) → coding_squares ctu.items ≡ [] → Before (unit_order 0 0) ctu
+  first_before ctu none =
+      subst (Reaches syntax.log2_min_coding unit syntax.right syntax.lower (unit_order 0 0)) (sym none)
+      (nothing_before syntax.log2_min_coding unit syntax.right syntax.lower)
 
 module _ (syntax : CtuSyntax) where
   tree_scanned : (left above : Sao) (ctu : Ctu) → ctu.size ≤ 4 → syntax.log2_min_coding ≤ ctu.size
@@ -230,13 +266,14 @@ module _ (syntax : CtuSyntax) where
       → Gives
       (λ (read : Ctu). AreScanned syntax.log2_min_coding ctu.size syntax.right syntax.lower (coding_squares read.items))
       (coding_tree_unit syntax left above ctu)
-  unfolding coding_tree_unit
   tree_scanned left above ctu small least none =
-      after_any (λ offsets.
       gives_same (Before syntax ctu.size (unit_order 0 0 + 4 ^ ctu.size))
-      (λ c is. scanned syntax ctu.size (coding_squares c.items) is)
-      (quadtree_scanned syntax ctu.size ctu.size 0 (whole_unit ctu.size) (with_sao ctu offsets)
-      (whole_aligned ctu.size small) least (nothing_before syntax ctu.size (with_sao ctu offsets) none)))
+      (λ c is. scanned syntax.log2_min_coding ctu.size syntax.right syntax.lower (coding_squares c.items) is)
+      (tree_up syntax left above ctu small least (Before syntax ctu.size) (unit_scanned syntax ctu.size)
+      (λ n s c aligned outside before.
+      passed syntax.log2_min_coding ctu.size syntax.right syntax.lower n s (coding_squares c.items) aligned outside
+      before)
+      (grouped_before syntax ctu.size) (λ offsets. first_before syntax ctu.size (with_sao ctu offsets) none))
 
   pub unit_and_end_scanned : (left above : Sao) (is_last ends_subset : Bool) (ctu : Ctu) → ctu.size ≤ 4
       → syntax.log2_min_coding ≤ ctu.size → coding_squares ctu.items ≡ []

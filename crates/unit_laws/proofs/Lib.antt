@@ -15,3 +15,4 @@ pub mod InOrder
 pub mod Beside
 pub mod Inside
 pub mod Available
+pub mod Laid

@@ -7,7 +7,8 @@ use Rattle.std.proofs.Math.Nat.{div-add-mod', div-eq_of_lt-le, div-le_self, div-
 use Rattle.std.proofs.Math.Nat.{mul-div_cancel, mul-mod_left, pow-suc}
 use Rattle.std.proofs.Math.Nat.{mul_comm, mul_assoc, mul-add, pow-le-pow_right, mul-le-mul_left}
 use Rattle.std.proofs.lemmas.Nat.{pow_pos}
-use Rattle.std.proofs.lemmas.Bool.{and_from, and_parts, lt-ltb, le-ltb, ltb-true, leb-true, le-leb, lt-leb, eqb-true, eq-eqb}
+use Rattle.std.proofs.lemmas.Bool.{and_from, and_parts, lt-ltb, le-ltb, ltb-true, leb-true, le-leb, lt-leb, eqb-true}
+use Rattle.std.proofs.lemmas.Bool.{eq-eqb}
 use Rattle.std.proofs.lemmas.Bool.{cases_lt, or_left, or_right, or_from, cases_Bool}
 use Rattle.std.proofs.lemmas.List.Sums.{AllPass-from_list_all}
 use Rattle.std.proofs.lemmas.List.FromFn.{length-range_with_len, get_or-range_with_len}
@@ -229,20 +230,24 @@ module _ {unit : ℕ} (n : ℕ) (s : Square) (aligned : IsAligned unit (suc n) s
   right_at : unit_order (upper_right s).x (upper_right s).y ≡ unit_order s.x s.y + 4 ^ n
   right_at =
       let few : n ≤ 3 = omega (arith, aligned.few) in
-      let step = stepped n aligned.a s.x few aligned.x (omega (arith, aligned.across, side_small unit aligned.small)) in
+      let step = stepped n aligned.a s.x few aligned.x
+      (omega (arith, aligned.across, side_small unit aligned.small)) in
       ap (λ k. spread (s.x + k) + 2 * spread s.y) (half n s aligned) ∙ omega (arith, step)
 
   below_at : unit_order (lower_left s).x (lower_left s).y ≡ unit_order s.x s.y + 2 * 4 ^ n
   below_at =
       let few : n ≤ 3 = omega (arith, aligned.few) in
-      let step = stepped n aligned.b s.y few aligned.y (omega (arith, aligned.down, side_small unit aligned.small)) in
+      let step = stepped n aligned.b s.y few aligned.y
+      (omega (arith, aligned.down, side_small unit aligned.small)) in
       ap (λ k. spread s.x + 2 * spread (s.y + k)) (half n s aligned) ∙ omega (arith, step)
 
   last_at : unit_order (lower_right s).x (lower_right s).y ≡ unit_order s.x s.y + 3 * 4 ^ n
   last_at =
       let few : n ≤ 3 = omega (arith, aligned.few) in
-      let across = stepped n aligned.a s.x few aligned.x (omega (arith, aligned.across, side_small unit aligned.small)) in
-      let down = stepped n aligned.b s.y few aligned.y (omega (arith, aligned.down, side_small unit aligned.small)) in
+      let across = stepped n aligned.a s.x few aligned.x
+      (omega (arith, aligned.across, side_small unit aligned.small)) in
+      let down = stepped n aligned.b s.y few aligned.y
+      (omega (arith, aligned.down, side_small unit aligned.small)) in
       ap (λ k. spread (s.x + k) + 2 * spread (s.y + k)) (half n s aligned) ∙ omega (arith, across, down)
 
   pub second_at : unit_order (upper_right s).x (upper_right s).y
@@ -267,7 +272,8 @@ times_sum q a b =
     ap (λ k. q * (a + k)) two ∙ mul-add q a (b + b) ∙ ap (λ k. q * a + k) (mul-add q b b ∙ twice)
 
 -- places in a square come right behind those before it
-module _ {unit : ℕ} (n : ℕ) (s : Square) (aligned : IsAligned unit n s) (i j : ℕ) (i_small : i < 16) (j_small : j < 16) where
+module _ {unit : ℕ} (n : ℕ) (s : Square) (aligned : IsAligned unit n s) (i j : ℕ) (i_small : i < 16)
+    (j_small : j < 16) where
   side : 0 < 2 ^ n
   side = pow_pos n
 
@@ -358,7 +364,8 @@ module _ {unit : ℕ} (n : ℕ) (s : Square) (aligned : IsAligned unit n s) (i j
 
       multiple_small : (c x : ℕ) → x ≡ c * 2 ^ n → x + 2 ^ n ≤ 2 ^ unit → c < 16
       multiple_small c x is room =
-          let most : c * 1 ≤ c * 2 ^ n = mul-le-mul_left c side in omega (arith, most, is, room, side, side_small unit aligned.small)
+          let most : c * 1 ≤ c * 2 ^ n = mul-le-mul_left c side in
+          omega (arith, most, is, room, side, side_small unit aligned.small)
 
   pub grown : nat_lt (unit_order i j) (unit_order s.x s.y + 4 ^ n)
       ≡ (is_in s i j || nat_lt (unit_order i j) (unit_order s.x s.y))

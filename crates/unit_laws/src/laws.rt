@@ -11,12 +11,14 @@ ghost use Rattle.spec_picture_build.specs.Format.{unit_format};
 ghost use Rattle.spec_reconstruction.specs.Sound.{IsFormat, AreSound};
 ghost use Rattle.spec_cabac.specs.Bins.{State, read};
 ghost use Rattle.ctu_records.specs.Tree.{Ctu};
-ghost use Rattle.spec_picture_trees.specs.Places.{first_column, first_row, is_available, unit_at as unit_of, unit_places};
+ghost use Rattle.spec_picture_trees.specs.Places.{first_column, first_row, is_available, unit_at as unit_of};
+ghost use Rattle.spec_picture_trees.specs.Places.{unit_places};
 ghost use Rattle.spec_picture_trees.specs.Shapes.{in_places, picture_shape, segment_syntax};
 ghost use Rattle.block_geometry.specs.CodingTreeBlocks.{is_from};
 ghost use Rattle.spec_slice_data.specs.Segment.{Between, PictureShape, SegmentShape, unit_at};
 ghost use Rattle.spec_slice_data.specs.declared.syntax.CtuSyntax.{CtuSyntax};
 ghost use Rattle.spec_slice_data.specs.declared.syntax.End.{End};
+ghost use Rattle.unit_laws.specs.Laid.{laid_items};
 ghost use Rattle.unit_laws.specs.Order.{AreAvailable, AreScanned, coding_squares, slice_area};
 
 /// Where a picture's sequence parameter set is in range, its slices have formats for which samples are told, and so are
@@ -46,14 +48,16 @@ pub fn coding_units_are_in_scan_order()
         (picture.down - first_row picture address) (coding_squares unit.0.items) }
 {}
 
-/// Where samples and motion are read beside a coding unit, the standard's process of availability in z-scan order (6.4.1)
-/// says the same as the definitions here, by which a place may be read once it was laid before:
+/// Where samples and motion are read beside a coding unit, the standard's process of availability in z-scan order
+/// (6.4.1) says the same as the definitions here, by which a place may be read once it was laid before:
 ///
 /// - `beside`: of another coding tree unit a place is there to be read (`is_available`) exactly where it is available
-///   for a place of this unit: the picture has it, it is of the same slice, and its minimum transform block doesn't come
-///   behind that of the place;
-/// - `inside`: of the same coding tree unit a place that the picture has is one of the coding units read before a coding
-///   unit exactly where it is available for that one's first place.
+///   for a place of this unit: the picture has it, it is of the same slice, and its minimum transform block doesn't
+///   come behind that of the place;
+/// - `inside`: of the same coding tree unit a place that the picture has is one of the coding units read before a
+///   coding unit exactly where it is available for that one's first place;
+/// - `laid`: and it is in one of the squares in which samples were laid before another square, the transform units of a
+///   coding unit in intra mode each for itself, exactly where it is available for that square's first place.
 pub fn availability_is_by_scan_order()
     ensures beside { (p : PicturePlan) (slice address x y i j : ℕ) → IsSps p.sps
         → unit_of (picture_shape p.sps p.pps) (unit_places (picture_shape p.sps p.pps)) x y ≡ address
@@ -67,4 +71,10 @@ pub fn availability_is_by_scan_order()
         → read (unit_at (segment_syntax p s) (picture_shape p.sps p.pps) segment address between) u ≡ Ok (unit, v)
         → AreAvailable (picture_shape p.sps p.pps) (in_places (min_tb_log2 p.sps.blocks)) segment.slice address
         (coding_squares unit.0.items) }
+    ensures laid { (p : PicturePlan) (s : SegmentPlan) (segment : SegmentShape) (address : ℕ) (between : Between)
+        (u v : State) (unit : Ctu × End)
+        → IsSps p.sps → is_from segment.slice address ≡ true
+        → read (unit_at (segment_syntax p s) (picture_shape p.sps p.pps) segment address between) u ≡ Ok (unit, v)
+        → AreAvailable (picture_shape p.sps p.pps) (in_places (min_tb_log2 p.sps.blocks)) segment.slice address
+        (laid_items unit.0.items).squares }
 {}
