@@ -3,4 +3,4 @@
 
 mod laws;
 
-pub use laws::{decoded_pictures_have_all_units, open_prefixes_stay};
+pub use laws::{decoded_pictures_have_all_units, open_prefixes_stay, streams_are_judged_in_order};
