@@ -180,7 +180,8 @@ place_laid plane depth places f e s i j p q filter greatest t from to new some e
     (λ (b : is_beside plane s e i j ≡ false). cond_no _ _ _ _ n
     (written_apart plane s e from to i j some (end_few _ to eto) b))
 
-written_beside : (plane : Plane) (s e from to i j : ℕ) → 0 < e → to ≤ 8 → is_written plane s (8 * e - 4) from to i j ≡ true
+written_beside : (plane : Plane) (s e from to i j : ℕ) → 0 < e → to ≤ 8
+    → is_written plane s (8 * e - 4) from to i j ≡ true
     → is_beside plane s e i j ≡ true
 written_beside plane s e from to i j p q t = grind (arith, nat_tests)
 

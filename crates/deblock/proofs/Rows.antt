@@ -39,13 +39,15 @@ whole_places (Chroma offset) n whole = omega arith
 
 lines_done : (top bottom width i j n : ℕ) → i < width →
     ((nat_le top j && nat_le (8 * 0) (i + 4))
-    && ((nat_lt j bottom && nat_lt (i + 4) (8 * ((width + 11) / 8))) || (nat_lt j (bottom + n) && nat_lt (i + 4) (8 * 0))))
+    && ((nat_lt j bottom && nat_lt (i + 4) (8 * ((width + 11) / 8)))
+    || (nat_lt j (bottom + n) && nat_lt (i + 4) (8 * 0))))
     ≡ (nat_le top j && nat_lt j bottom)
 lines_done top bottom width i j n inside = grind (arith, nat_tests)
 
 edges_done : (top bottom width i j n : ℕ) → j < width →
     ((nat_le 0 j && nat_le (8 * ((top + 7) / 8)) (i + 4))
-    && ((nat_lt j width && nat_lt (i + 4) (8 * ((bottom + 7) / 8))) || (nat_lt j (width + n) && nat_lt (i + 4) (8 * 0))))
+    && ((nat_lt j width && nat_lt (i + 4) (8 * ((bottom + 7) / 8)))
+    || (nat_lt j (width + n) && nat_lt (i + 4) (8 * 0))))
     ≡ (nat_le top (8 * ((i + 4) / 8)) && nat_lt (8 * ((i + 4) / 8)) bottom)
 edges_done top bottom width i j n inside = grind (arith, nat_tests)
 

@@ -51,7 +51,8 @@ inside w h k lt = elim (cases_lt (k / w) h) [
 
 -- where every sample is small, the list's are
 pub bounded_by : (w h greatest : ℕ) (out : List ℕ) (f : ℕ → ℕ → ℕ) → length out ≡ w * h
-    → ((x j : ℕ) → x < w → j < h → at w out x j ≡ f x j) → ((x j : ℕ) → f x j ≤ greatest) → IsBounded greatest out
+    → ((x j : ℕ) → x < w → j < h → at w out x j ≡ f x j) → ((x j : ℕ) → x < w → j < h → f x j ≤ greatest)
+    → IsBounded greatest out
 bounded_by w h greatest out f count told small k = elim (cases_lt k (w * h)) [
   | inl lt ↦
       let some : 0 < w = wide w h k lt in
@@ -59,7 +60,7 @@ bounded_by w h greatest out f count told small k = elim (cases_lt k (w * h)) [
       let column : k % w < w = mod-lt k some in
       let row : k / w < h = inside w h k lt in
       let t = told (k % w) (k / w) column row in
-      let s = small (k % w) (k / w) in
+      let s = small (k % w) (k / w) column row in
       subst (λ q. get_or out q 0 ≤ greatest) e (subst (λ v. v ≤ greatest) (sym t) s)
   | inr past ↦ subst (λ v. v ≤ greatest) (sym (get_or_past out k 0 (omega (arith, count, past)))) (omega arith)
 ]

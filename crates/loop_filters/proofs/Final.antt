@@ -12,6 +12,7 @@ use Rattle.spec_loop_filters.specs.Filters.{LoopFilters, Samples, deblocked_samp
 use Rattle.spec_loop_filters.specs.Filters.{offset_plane, plane_of, width_of}
 use Rattle.loop_filters.specs.declared.component.Component.{Component}
 use Rattle.loop_filters.specs.Formats.{IsComponent}
+use Rattle.loop_filters.specs.Rows.{deblocked_of}
 
 -- samples of the plane alone count
 pub whole_deblocked : (plane : Plane) (depth w h : ℕ) (places : ℕ → ℕ → Place) (f g : ℕ → ℕ → ℕ) (x y : ℕ) → w % 4 ≡ 0 →
@@ -47,41 +48,34 @@ same_plane p q d e w v h k places f x y plane depth width height =
     ∙ ap (λ (n : ℕ). deblocked q e n h places f x y) width
     ∙ ap (λ (n : ℕ). deblocked q e v n places f x y) height
 
--- a component that is copied and deblocked, by the samples of the picture
-deblocked_is : (filters : LoopFilters) (component : Component) (samples : Samples) (copied filtered : List ℕ)
+-- a component that is deblocked, by the samples of the picture
+deblocked_is : (filters : LoopFilters) (component : Component) (samples : Samples) (lent : List ℕ)
     → IsComponent filters.format component
-    → ((x y : ℕ) → x < component.width → y < component.height → at component.width copied x y ≡ samples component.c x y)
-    → ((x y : ℕ) → x < component.width → y < component.height
-    → at component.width filtered x y
-    ≡ deblocked component.plane component.depth component.width component.height filters.places
-    (at component.width copied) x y)
+    → ((x y : ℕ) → x < component.width → y < component.height → at component.width lent x y ≡ samples component.c x y)
     → (x y : ℕ) → x < component.width → y < component.height
-    → at component.width filtered x y ≡ deblocked_samples filters samples component.c x y
+    → deblocked_of component filters.places (at component.width lent) x y
+    ≡ deblocked_samples filters samples component.c x y
 unfolding deblocked_samples
-deblocked_is filters component samples copied filtered is first second x y a b =
-    second x y a b
-    ∙ whole_deblocked component.plane component.depth component.width component.height filters.places
-    (at component.width copied) (samples component.c) x y is.is_plane.columns is.is_plane.lines first a b
+deblocked_is filters component samples lent is same x y a b =
+    whole_deblocked component.plane component.depth component.width component.height filters.places
+    (at component.width lent) (samples component.c) x y is.is_plane.columns is.is_plane.lines same a b
     ∙ same_plane component.plane (plane_of filters.format component.c) component.depth
     (depth_of filters.format component.c) component.width (width_of filters.format component.c) component.height
     (height_of filters.format component.c) filters.places (samples component.c) x y is.plane is.depth is.width is.height
 
--- and then laid with its offsets
-pub final_is : (filters : LoopFilters) (component : Component) (samples : Samples) (copied filtered : List ℕ)
+-- and then has its offsets
+pub final_is : (filters : LoopFilters) (component : Component) (samples : Samples) (lent : List ℕ)
     → IsComponent filters.format component
-    → ((x y : ℕ) → x < component.width → y < component.height → at component.width copied x y ≡ samples component.c x y)
-    → ((x y : ℕ) → x < component.width → y < component.height
-    → at component.width filtered x y
-    ≡ deblocked component.plane component.depth component.width component.height filters.places
-    (at component.width copied) x y)
+    → ((x y : ℕ) → x < component.width → y < component.height → at component.width lent x y ≡ samples component.c x y)
     → (x y : ℕ) → x < component.width → y < component.height
-    → offset_sample (offset_plane filters component.c) (at component.width filtered) x y
+    → offset_sample (offset_plane filters component.c)
+    (deblocked_of component filters.places (at component.width lent)) x y
     ≡ final_samples filters samples component.c x y
 unfolding final_samples
-final_is filters component samples copied filtered is first second x y a b =
-    whole_offset (offset_plane filters component.c) (at component.width filtered)
+final_is filters component samples lent is same x y a b =
+    whole_offset (offset_plane filters component.c) (deblocked_of component filters.places (at component.width lent))
     (deblocked_samples filters samples component.c) x y
-    (λ i j hi hj. deblocked_is filters component samples copied filtered is first second i j
+    (λ i j hi hj. deblocked_is filters component samples lent is same i j
     (subst (λ n. i < n) (sym is.width) hi) (subst (λ n. j < n) (sym is.height) hj))
     (subst (λ n. x < n) is.width a) (subst (λ n. y < n) is.height b)
 

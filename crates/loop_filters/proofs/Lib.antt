@@ -8,3 +8,4 @@ pub mod Lent
 pub mod Final
 pub mod Parts
 pub mod OffsetRows
+pub mod Stages

@@ -1,9 +1,8 @@
 -- Rows of coding tree blocks that have their offsets.
-use Rattle.std.proofs.Common.{◌≡◌, ℕ, ◌+◌, ◌-◌, ◌*◌, ◌/◌, ◌<◌, ◌≤◌, ◌&&◌, Bool, true, false, cond, nat_le, nat_lt, List}
+use Rattle.std.proofs.Common.{◌≡◌, ℕ, ◌+◌, ◌-◌, ◌*◌, ◌/◌, ◌<◌, ◌≤◌, Bool, true, false, cond, List}
 use Rattle.std.proofs.Common.{get_or, length, inl, inr, refl, ap, sym, ◌∙◌, arith, if◌then◌else◌}
 use Rattle.std.proofs.Math.Nat.{mul-div-le}
 use Rattle.std.proofs.lemmas.Bool.{cases_lt}
-use Rattle.std.proofs.lemmas.Bool.Decides.{nat_tests}
 use Rattle.ctu_records.specs.declared.offset.ComponentOffset.{ComponentOffset}
 use Rattle.ctu_records.specs.declared.offset.ComponentOffset.TheVariants.{Off}
 use Rattle.spec_sample_adaptive_offset.specs.declared.unit.OffsetUnit.{OffsetUnit}
@@ -13,7 +12,7 @@ use Rattle.sao_filter.proofs.Beside.{block_is}
 use Rattle.deblock.specs.Windows.{at}
 use Rattle.loop_filters.specs.declared.component.Component.{Component}
 use Rattle.loop_filters.specs.Rows.{StandsAround}
-use Rattle.loop_filters.proofs.RowParts.{block_is_one, times_next}
+use Rattle.loop_filters.proofs.RowParts.{block_is_one}
 
 if_same : (b : Bool) (v w : ℕ) → w ≡ v → (if b then v else w) ≡ v
 if_same true v w e = refl
@@ -66,39 +65,3 @@ around_row component row f samples last lines stands own above x y column line l
           ∙ ap (λ (k : ℕ). at component.width lines x k) (sym first)
       | inr le ↦ sym (own x y column line le high ∙ stands.own x y column line le high)
     ]
-
--- one more row
-pub offsets_more : (component : Component) (row : ℕ) (D F : ℕ → ℕ → ℕ) (before now : List ℕ)
-    → ((x y : ℕ) → x < component.width → y < component.height
-    → at component.width before x y ≡ cond (nat_lt y (component.size * row)) (F x y) (D x y))
-    → ((x y : ℕ) → x < component.width → y < component.height
-    → at component.width now x y
-    ≡ cond (nat_le (component.size * row) y && nat_lt y (component.size * row + component.size)) (F x y)
-    (at component.width before x y))
-    → (x y : ℕ) → x < component.width → y < component.height
-    → at component.width now x y ≡ cond (nat_lt y (component.size * (row + 1))) (F x y) (D x y)
-offsets_more component row D F before now told value x y column line =
-    let e = times_next component.size row in
-    let old = told x y column line in
-    let new = value x y column line in
-    grind (arith, nat_tests)
-
--- a row that is deblocked below the rows before it
-pub stands_next : (component : Component) (row : ℕ) (D F : ℕ → ℕ → ℕ) (samples last : List ℕ)
-    → ((x y : ℕ) → x < component.width → y < component.height
-    → at component.width samples x y ≡ cond (nat_lt y (component.size * row)) (F x y) (D x y))
-    → (0 < component.size * row → (x : ℕ) → x < component.width → get_or last x 0 ≡ D x (component.size * row - 1))
-    → StandsAround component row D samples last
-stands_next component row D F samples last told above = record {
-  own = λ x y column line low high.
-      let old = told x y column line in
-      let none : nat_lt y (component.size * row) ≡ false = grind (arith, nat_tests) in
-      rw none at old;
-  above = above;
-}
-
-pub no_rows : (s y v old : ℕ) → old ≡ cond (nat_lt y (s * 0)) v old
-no_rows s y v old =
-    let zero : s * 0 ≡ 0 = grind arith in
-    let none : nat_lt y (s * 0) ≡ false = grind (arith, nat_tests) in
-    rw none refl

@@ -51,6 +51,7 @@ pub record IsComponent (format : FilterFormat) (component : Component) : Type 0 
   pub places : component.places ≡ format.width / 4
   pub rows : component.rows ≡ rows_of format
   pub size_few : (8 ≤ component.size) × (component.size ≤ 64)
+  pub grid : component.size % 8 ≡ 0
   pub wide : (component.width ≤ component.size * columns_of format)
       × (component.size * columns_of format < component.width + component.size)
   pub high : (component.height ≤ component.size * component.rows)

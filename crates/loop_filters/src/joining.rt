@@ -6,8 +6,7 @@ ghost use Rattle.spec_loop_filters.specs.Filters.{final_samples};
 ghost use Rattle.loop_filters.specs.Formats.{IsComponent, filters_of};
 
 use crate::component::Component;
-use crate::edges::filter_edges;
-use crate::offsets::lay_offsets;
+use crate::rows::filter_rows;
 use crate::view::FilterView;
 use picture_buffer::Planes;
 use spec_loop_filters::FilterFormat;
@@ -36,6 +35,5 @@ pub(crate) fn filter_plane<V: FilterView>(
     ensures sides { HasSides planes.new format.now.width format.now.height }
 {
     let samples = planes.samples_mut(component.c);
-    filter_edges(view, component, samples);
-    lay_offsets(view, component, samples, lines, last);
+    filter_rows(view, component, samples, lines, last);
 }

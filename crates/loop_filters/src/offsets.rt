@@ -128,26 +128,3 @@ pub fn offset_lines<V: FilterView>(
         copy_part(samples, width * (end - 1), width, last, 0);
     }
 }
-
-/// Adds the offsets of a deblocked plane to its samples.
-pub fn lay_offsets<V: FilterView>(
-    view: &V,
-    component: &Component,
-    samples: &mut [u16],
-    lines: &mut [u16],
-    last: &mut [u16],
-)
-    requires component { IsComponent (V.shape view.now) component.now }
-    requires samples { length samples.old ≡ component.now.width * component.now.height }
-    requires lines { component.now.width * 66 ≤ length lines.old }
-    requires last { component.now.width ≤ length last.old }
-    ensures { (x y : ℕ) → x < component.now.width → y < component.now.height
-        → at component.now.width samples.new x y
-        ≡ offset_sample
-        (offset_plane (filters_of (V.shape view.now) (V.place_at view.now) (V.unit_at view.now)) component.now.c)
-        (at component.now.width samples.old) x y }
-{
-    for row in 0..component.rows {
-        offset_lines(view, component, row, samples, lines, last);
-    }
-}

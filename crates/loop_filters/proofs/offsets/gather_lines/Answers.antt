@@ -12,9 +12,11 @@ returns-then-top-gt0-clause-own c = λ x y column line low high.
     own_stays c.args.component.now.width c.args.top x y c.args.last.now c.copy_part-then-top-gt0.new.out
     c.copy_part.new.out c.if-top-gt0.true low c.copy_part-then-top-gt0.ensures
     ∙ own_line c.args.component.now.width c.args.top c.min-behind.result c.min.result x y c.args.samples.now
-    c.copy_part.new.out c.args.lines.now c.min.ensures column low (omega (arith, c.min-behind.ensures)) c.copy_part.ensures
+    c.copy_part.new.out c.args.lines.now c.min.ensures column low (omega (arith, c.min-behind.ensures))
+    c.copy_part.ensures
 
 pub returns-else-top-gt0-clause-own : goal.returns-else-top-gt0-clause-own
 returns-else-top-gt0-clause-own c = λ x y column line low high.
     own_line c.args.component.now.width c.args.top c.min-behind.result c.min.result x y c.args.samples.now
-    c.copy_part.new.out c.args.lines.now c.min.ensures column low (omega (arith, c.min-behind.ensures)) c.copy_part.ensures
+    c.copy_part.new.out c.args.lines.now c.min.ensures column low (omega (arith, c.min-behind.ensures))
+    c.copy_part.ensures
