@@ -1,0 +1,6 @@
+use Rattle.spec_made.specs.Draws.{inter_unit_of}
+use Rattle.made_pictures.proofs.Drawing.{Left}
+use Rattle.made_pictures.proofs.draws.all_inter_units.Given as goal
+
+abbrev pub invariant-loop-i : goal.invariant-loop-i
+invariant-loop-i l = Left inter_unit_of 48 l.i l.fn.generator l.generator l.units.items
