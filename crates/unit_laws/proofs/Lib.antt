@@ -16,3 +16,4 @@ pub mod Beside
 pub mod Inside
 pub mod Available
 pub mod Laid
+pub mod Parts

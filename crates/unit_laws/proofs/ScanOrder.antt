@@ -28,7 +28,7 @@ tested p n computed k below =
     subst (λ (i : ℕ). p i ≡ true) at (all k 0 inside)
 
 -- a test of two numbers, both below 16
-tested_pair : (p : ℕ → ℕ → Bool) → list_all (λ j. p (j / 16) (j % 16)) (range_with_len 0 256) ≡ true → (a b : ℕ)
+pub tested_pair : (p : ℕ → ℕ → Bool) → list_all (λ j. p (j / 16) (j % 16)) (range_with_len 0 256) ≡ true → (a b : ℕ)
     → a < 16 → b < 16 → p a b ≡ true
 tested_pair p computed a b few small =
     let at = tested (λ j. p (j / 16) (j % 16)) 256 computed (16 * a + b) (omega arith) in
@@ -46,7 +46,7 @@ cut_all : list_all (λ j. cut_ok (j / 16) (j % 16)) (range_with_len 0 256) ≡ t
 unfolding cut_ok spread
 cut_all = refl
 
-implied : (a b : Bool) → a ≡ true → (not a || b) ≡ true → b ≡ true
+pub implied : (a b : Bool) → a ≡ true → (not a || b) ≡ true → b ≡ true
 implied true b e h = h
 implied false b e h = absurd cc
 

@@ -1,6 +1,6 @@
 //! Laws of the definitions.
 
-ghost use Rattle.std.specs.Prelude.{◌≡◌, ℕ, ◌-◌, ◌≤◌, pos, true, List, [], Ok, Err};
+ghost use Rattle.std.specs.Prelude.{◌≡◌, ℕ, ◌-◌, ◌^◌, ◌<◌, ◌≤◌, pos, true, List, [], Ok, Err};
 ghost use Rattle.std.specs.List.{All};
 ghost use Rattle.block_geometry.specs.Availability.{available};
 ghost use Rattle.header_types.specs.SequenceParameterSets.{IsSps, min_tb_log2};
@@ -18,7 +18,10 @@ ghost use Rattle.block_geometry.specs.CodingTreeBlocks.{is_from};
 ghost use Rattle.spec_slice_data.specs.Segment.{Between, PictureShape, SegmentShape, unit_at};
 ghost use Rattle.spec_slice_data.specs.declared.syntax.CtuSyntax.{CtuSyntax};
 ghost use Rattle.spec_slice_data.specs.declared.syntax.End.{End};
+ghost use Rattle.ctu_records.specs.declared.prediction.PartMode.{PartMode};
+ghost use Rattle.spec_slice_data.specs.Inter.{part_count};
 ghost use Rattle.unit_laws.specs.Laid.{laid_items};
+ghost use Rattle.unit_laws.specs.Parts.{AreLaidBefore, least_side};
 ghost use Rattle.unit_laws.specs.Order.{AreAvailable, AreScanned, coding_squares, slice_area};
 
 /// Where a picture's sequence parameter set is in range, its slices have formats for which samples are told, and so are
@@ -77,4 +80,13 @@ pub fn availability_is_by_scan_order()
         → read (unit_at (segment_syntax p s) (picture_shape p.sps p.pps) segment address between) u ≡ Ok (unit, v)
         → AreAvailable (picture_shape p.sps p.pps) (in_places (min_tb_log2 p.sps.blocks)) segment.slice address
         (laid_items unit.0.items).squares }
+{}
+
+/// Between the prediction units of a coding unit the standard's process (6.4.2) says the same: each place beside a part
+/// that a spatial candidate is taken from, and that stands in the coding unit, was laid before the part exactly where
+/// it is available. So it is in coding units of every part mode, of 8x8 to 64x64 luma samples, or of 16x16 ones on
+/// where the parts are not of one size.
+pub fn parts_are_available_as_they_are_laid()
+    ensures { (mode : PartMode) (log2 part : ℕ) → least_side mode ≤ log2 → log2 ≤ 4 → part < part_count mode
+        → AreLaidBefore (2 ^ log2) mode part }
 {}

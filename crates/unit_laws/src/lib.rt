@@ -5,5 +5,6 @@
 mod laws;
 
 pub use laws::{
-    availability_is_by_scan_order, coding_units_are_in_scan_order, units_that_are_read_are_sound,
+    availability_is_by_scan_order, coding_units_are_in_scan_order,
+    parts_are_available_as_they_are_laid, units_that_are_read_are_sound,
 };
