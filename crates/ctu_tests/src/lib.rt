@@ -6,6 +6,8 @@ mod cabac_contexts_tests;
 #[cfg(test)]
 mod cabac_engine_tests;
 #[cfg(test)]
+mod cabac_writer_tests;
+#[cfg(test)]
 mod coding_quadtree_tests;
 #[cfg(test)]
 mod residual_syntax_tests;
