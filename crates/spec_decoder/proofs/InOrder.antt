@@ -21,7 +21,7 @@ use Rattle.spec_picture_plan.specs.Steps.{kind_step, slice_judged, slice_step, s
 use Rattle.spec_picture_plan.specs.UnitKinds.{is_rasl, kind_of_type}
 use Rattle.spec_picture_plan.specs.declared.unit_kind.UnitKind.{UnitKind}
 use Rattle.spec_picture_plan.specs.declared.unit_kind.UnitKind.TheVariants as unit
-use Rattle.spec_decoder.specs.Decoder.{Decoded, decoded, decoded_from, decoded_picture, ended, entered, finished}
+use Rattle.spec_decoder.specs.Decoder.{Decoded, decoded, decoded_from, decoded_picture, entered, finished}
 use Rattle.spec_decoder.specs.Decoder.{kept_from}
 use Rattle.spec_decoder.specs.Decoder.{out_at, put_out, with_picture}
 use Rattle.spec_decoder.specs.Trail.{Data, Event, Judge, Keep, Output, closed_events, closed_first, closes, end_events}
@@ -86,11 +86,8 @@ kind_parts : (s : Between) (u : NalUnit) (k : UnitKind)
     → kind_step s u k ≡ closed_first (kind_closes s u k) s (kind_judged u k)
 unfolding slice_step
 kind_parts s u unit.Slice = slice_parts s u (is_dropped s u) (goes_on (first_flag (bits u.payload))) refl
-kind_parts s u unit.SequenceSet = refl
-kind_parts s u unit.PictureSet = refl
-kind_parts s u unit.SequenceEnd = refl
 kind_parts s u unit.Border = close_as s
-kind_parts s u unit.Other = refl
+kind_parts s u kind = refl
 
 layer_parts : (s : Between) (u : NalUnit) (k : UnitKind) (above : Bool)
     → (if above then record { closed = []; next = Ok s } else kind_step s u k)

@@ -1,8 +1,7 @@
 -- Each picture that is decoded has all its coding tree units.
-use Rattle.std.proofs.Common.{◌≡◌, [], Ok}
+use Rattle.std.proofs.Common.{[]}
 use Rattle.plan_types.specs.declared.picture_plan.PicturePlan.{PicturePlan}
 use Rattle.plan_laws.specs.Plans.{IsPlan}
-use Rattle.spec_picture_trees.specs.Picture.{Progress, picture_read}
 use Rattle.spec_picture_trees.proofs.Sharing.{units_of_picture, units_of_segments}
 use Rattle.spec_decoder.specs.Decoder.{HasAllUnits}
 

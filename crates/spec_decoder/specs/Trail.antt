@@ -60,11 +60,8 @@ is_dropped s u = is_rasl u.nal_type && s.drops_rasl
 -- whether a unit of a kind closes the open picture: a slice segment does where it is dropped, or doesn't go on with it
 abbrev pub kind_closes : Between → NalUnit → UnitKind → Bool
 kind_closes s u unit.Slice = is_dropped s u || not (goes_on (first_flag (bits u.payload)))
-kind_closes s u unit.SequenceSet = true
-kind_closes s u unit.PictureSet = true
-kind_closes s u unit.SequenceEnd = true
-kind_closes s u unit.Border = true
 kind_closes s u unit.Other = false
+kind_closes s u kind = true
 
 -- whether a unit as it was told does; one that is refused does too, one of a layer above the base doesn't
 abbrev pub closes : Between → Told → Bool

@@ -2,8 +2,7 @@
 use Rattle.std.specs.Prelude.{Bool, false, List, [], ◌∷◌, ◌++◌, if◌then◌else◌}
 use Rattle.std.specs.List.{fold}
 use Rattle.ctu_records.specs.declared.item.Item.{Item}
-use Rattle.ctu_records.specs.declared.item.Item.TheVariants.{Unit, Luma, Chroma, Prediction, Pcm, Sample, Transform}
-use Rattle.ctu_records.specs.declared.item.Item.TheVariants.{Delta, Block, Level}
+use Rattle.ctu_records.specs.declared.item.Item.TheVariants.{Unit, Pcm, Transform}
 use Rattle.ctu_records.specs.declared.item.Square.{Square}
 
 -- the squares so far, and whether the coding unit that was begun last is in intra mode

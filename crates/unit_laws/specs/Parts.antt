@@ -2,7 +2,7 @@
 use Rattle.std.specs.Prelude.{◌≡◌, ℕ, zero, suc, ◌+◌, ◌-◌, ◌*◌, ◌==◌, Bool, true, false, not, ◌&&◌, ◌||◌}
 use Rattle.std.specs.Prelude.{nat_le, nat_lt, List, [], ◌∷◌, All}
 use Rattle.ctu_records.specs.declared.prediction.PartMode.{PartMode}
-use Rattle.ctu_records.specs.declared.prediction.PartMode.TheVariants.{Whole, TwoNxN, Nx2N, NxN, TwoNxnU, TwoNxnD}
+use Rattle.ctu_records.specs.declared.prediction.PartMode.TheVariants.{TwoNxnU, TwoNxnD}
 use Rattle.ctu_records.specs.declared.prediction.PartMode.TheVariants.{NLx2N, NRx2N}
 use Rattle.ctu_records.specs.declared.prediction.Rectangle.{Rectangle}
 use Rattle.ctu_records.specs.Prediction.{is_inside, part_of, rectangle}
@@ -43,14 +43,11 @@ is_part_available side mode part place =
 
 -- the least binary logarithm of the side of a coding unit of a mode, in places
 abbrev pub least_side : PartMode → ℕ
-least_side Whole = 1
-least_side TwoNxN = 1
-least_side Nx2N = 1
-least_side NxN = 1
 least_side TwoNxnU = 2
 least_side TwoNxnD = 2
 least_side NLx2N = 2
 least_side NRx2N = 2
+least_side other = 1
 
 -- each candidate of a part that stands in the coding unit was laid before exactly where it is available
 abbrev pub AreLaidBefore : ℕ → PartMode → ℕ → Type 0
