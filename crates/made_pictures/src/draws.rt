@@ -75,6 +75,7 @@ fn inter_unit(generator: &mut Lcg64Xsh32) -> InterUnit
 pub fn pcm_units(alloc: Global, generator: &mut Lcg64Xsh32) -> Result<Vec<PcmUnit>, AllocError>
     ensures value { IfOk result (λ units. units.items ≡ (pcm_units_of generator.old).0) }
     ensures behind { OnOk result (generator.new ≡ (pcm_units_of generator.old).1) }
+    ensures count { IfOk result (λ units. length units.items ≡ 48) }
 {
     let mut units = Vec::new(alloc);
     for i in 0..48usize {
@@ -112,6 +113,7 @@ fn coded_first(unit: InterUnit) -> InterUnit
 pub fn inter_units(alloc: Global, generator: &mut Lcg64Xsh32) -> Result<Vec<InterUnit>, AllocError>
     ensures value { IfOk result (λ units. units.items ≡ (inter_units_of generator.old).0) }
     ensures behind { OnOk result (generator.new ≡ (inter_units_of generator.old).1) }
+    ensures count { IfOk result (λ units. length units.items ≡ 48) }
 {
     let mut units = all_inter_units(alloc, generator)?;
     units[0] = coded_first(units[0]);

@@ -93,7 +93,7 @@ impl BinWriter {
 }
 
 /// Reading a byte tells its range, so this tells that of all bytes; it costs nothing when it runs.
-fn are_bytes(bytes: &[u8])
+pub fn are_bytes(bytes: &[u8])
     ensures { AreBytes bytes.now }
 {
     for i in 0..bytes.len() {

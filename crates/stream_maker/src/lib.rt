@@ -1,0 +1,14 @@
+//! Streams that are made of a seed.
+#![tactic(auto)]
+
+mod escaping;
+mod headers;
+mod output;
+mod slices;
+mod stream;
+
+pub use output::make;
+pub use stream::made_bytes;
+
+#[cfg(test)]
+mod tests;
