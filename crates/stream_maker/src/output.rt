@@ -1,6 +1,6 @@
 //! Writing of made streams.
 
-ghost use Rattle.std.specs.Prelude.{◌≡◌, ◌≢◌};
+ghost use Rattle.std.specs.Prelude.{◌≡◌, ◌≢◌, ◌⊎◌};
 ghost use Rattle.hv_base.specs.declared.outcome.Outcome.TheVariants as Outcome;
 ghost use Rattle.hv_io.specs.Streams.{Gains, GainsPrefix, Rose};
 ghost use Rattle.spec_made.specs.Stream.{made};
@@ -12,6 +12,7 @@ use std::alloc::Global;
 
 /// Writes the stream of a seed with so many pictures: `Ok`, `Memory` or `WriteFault`.
 pub fn make<O: Sink>(alloc: Global, seed: u64, pictures: u32, out: &mut O) -> Outcome
+    ensures ends { (result ≡ Outcome.Ok) ⊎ ((result ≡ Outcome.Memory) ⊎ (result ≡ Outcome.WriteFault)) }
     ensures ok { result ≡ Outcome.Ok → Gains (O.contents out.old) (O.contents out.new) (made seed pictures) }
     ensures front { result ≡ Outcome.WriteFault
         → GainsPrefix (O.contents out.old) (O.contents out.new) (made seed pictures) }
