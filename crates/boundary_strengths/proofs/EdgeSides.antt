@@ -4,8 +4,8 @@ use Rattle.picture_buffer.specs.declared.place_motion.PlaceMotion.{PlaceMotion}
 use Rattle.spec_boundary_strengths.specs.declared.place.UnitPlace.{UnitPlace}
 use Rattle.spec_boundary_strengths.specs.Strengths.{strength}
 
-edge_same : (f f' t t' p p' : Bool) → f ≡ f' → t ≡ t' → p ≡ p' → (f && (t || p)) ≡ (f' && (t' || p'))
-edge_same f f' t t' p p' ef et ep = rw (ef, et, ep) refl
+edge_same : (f t t' p p' : Bool) → t ≡ t' → p ≡ p' → (f && (t || p)) ≡ (f && (t' || p'))
+edge_same f t t' p p' et ep = rw (et, ep) refl
 
 chosen : (b : Bool) (r s : ℕ) → b ≡ true → r ≡ s → r ≡ (if b then s else 0)
 chosen b r s e told = rw e told
@@ -19,16 +19,16 @@ pub strength_same : (r : ℕ) (coded t t' b b' c c' : Bool) (p p' q q' : Option 
 strength_same r coded t t' b b' c c' p p' q q' er ec et eb ef ep eq = rw (← ep, ← eq, ← et, ← eb, ← ef, ← ec) er
 
 -- where there is an edge
-pub with_edge : (e f f' t t' p p' : Bool) (r s : ℕ) → e ≡ true → e ≡ (f && (t || p)) → f ≡ f' → t ≡ t' → p ≡ p' → r ≡ s
-    → r ≡ (if f' && (t' || p') then s else 0)
-with_edge e f f' t t' p p' r s here is ef et ep told =
-    chosen _ r s (sym (edge_same f f' t t' p p' ef et ep) ∙ (sym is ∙ here)) told
+pub with_edge : (e f t t' p p' : Bool) (r s : ℕ) → e ≡ true → e ≡ (f && (t || p)) → t ≡ t' → p ≡ p' → r ≡ s
+    → r ≡ (if f && (t' || p') then s else 0)
+with_edge e f t t' p p' r s here is et ep told =
+    chosen _ r s (sym (edge_same f t t' p p' et ep) ∙ (sym is ∙ here)) told
 
 -- where there is none
-pub without_edge : (e f f' t t' p p' : Bool) (s : ℕ) → e ≡ false → e ≡ (f && (t || p)) → f ≡ f' → t ≡ t' → p ≡ p'
-    → 0 ≡ (if f' && (t' || p') then s else 0)
-without_edge e f f' t t' p p' s none is ef et ep =
-    passed _ s (sym (edge_same f f' t t' p p' ef et ep) ∙ (sym is ∙ none))
+pub without_edge : (e f t t' p p' : Bool) (s : ℕ) → e ≡ false → e ≡ (f && (t || p)) → t ≡ t' → p ≡ p'
+    → 0 ≡ (if f && (t' || p') then s else 0)
+without_edge e f t t' p p' s none is et ep =
+    passed _ s (sym (edge_same f t t' p p' et ep) ∙ (sym is ∙ none))
 
 abbrev place_of : ℕ → ℕ → Bool → ℤ → Bool → UnitPlace
 place_of left top coded qp kept =

@@ -28,8 +28,13 @@ pub(crate) fn left_strength<V: PlaceMotions>(
 {
     let transform = marks.transform_left[16 * y + x];
     let prediction = marks.prediction_left[16 * y + x];
-    let filtered = is_filtered(sides.deblocking_disabled, sides.filter_left, x);
-    if is_edge(filtered, transform, prediction) {
+    if is_edge(
+        transform,
+        prediction,
+        sides.deblocking_disabled,
+        sides.filter_left,
+        x,
+    ) {
         let before = coded_around(marks, sides, x, y + 1);
         let behind = coded_around(marks, sides, x + 1, y + 1);
         let p = view.motion(x, y + 1);
@@ -55,8 +60,13 @@ pub(crate) fn top_strength<V: PlaceMotions>(
 {
     let transform = marks.transform_top[16 * y + x];
     let prediction = marks.prediction_top[16 * y + x];
-    let filtered = is_filtered(sides.deblocking_disabled, sides.filter_top, y);
-    if is_edge(filtered, transform, prediction) {
+    if is_edge(
+        transform,
+        prediction,
+        sides.deblocking_disabled,
+        sides.filter_top,
+        y,
+    ) {
         let before = coded_around(marks, sides, x + 1, y);
         let behind = coded_around(marks, sides, x + 1, y + 1);
         let p = view.motion(x + 1, y);
@@ -74,11 +84,11 @@ fn is_filtered(disabled: bool, side: bool, line: usize) -> bool
     !disabled && line % 2 == 0 && (if line == 0 { side } else { true })
 }
 
-/// Whether there is an edge that is filtered.
-fn is_edge(filtered: bool, transform: bool, prediction: bool) -> bool
-    ensures { result ≡ (filtered && (transform || prediction)) }
+/// Whether there is an edge that is filtered. Most places have none, so that is asked first.
+fn is_edge(transform: bool, prediction: bool, disabled: bool, side: bool, line: usize) -> bool
+    ensures { result ≡ (is_filtered disabled side line && (transform || prediction)) }
 {
-    filtered && (transform || prediction)
+    (transform | prediction) && is_filtered(disabled, side, line)
 }
 
 /// Whether it is a transform edge where one side is coded.

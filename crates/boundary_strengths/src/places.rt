@@ -72,5 +72,5 @@ fn qp_y(qp: u8, offset: u8) -> i8
     requires { offset ≤ 48 }
     ensures { qp ≤ 127 → result ≡ pos qp -ℤ pos offset }
 {
-    (i32::from(qp) - i32::from(offset)).clamp(-128, 127) as i8
+    qp.min(127) as i8 - offset as i8
 }

@@ -10,7 +10,7 @@ returns-then-is_edge g c pcm_disabled items marked =
     let motion = g.V.PlaceMotions.motion_at c.args.view.now in
     let before = c.coded_around-before.ensures pcm_disabled items motion marked in
     let behind = c.coded_around-behind.ensures pcm_disabled items motion marked in
-    with_edge _ _ _ _ _ _ _ _ _ c.if-is_edge.true c.is_edge.ensures c.is_filtered-filtered.ensures transform prediction
+    with_edge _ _ _ _ _ _ _ _ c.if-is_edge.true c.is_edge.ensures transform prediction
     (strength_same _ _ _ _ _ _ _ _ _ _ _ _ c.strength.ensures c.is_coded.ensures transform before behind
     c.motion-p.ensures c.motion-q.ensures)
 
@@ -19,5 +19,5 @@ unfolding top_strength
 returns-else-is_edge g c pcm_disabled items marked =
     let transform = marked.transform_top c.args.x c.args.y c.requires.x c.requires.y in
     let prediction = marked.prediction_top c.args.x c.args.y c.requires.x c.requires.y in
-    without_edge _ _ _ _ _ _ _ _ c.if-is_edge.false c.is_edge.ensures c.is_filtered-filtered.ensures
+    without_edge _ _ _ _ _ _ _ c.if-is_edge.false c.is_edge.ensures
     transform prediction
