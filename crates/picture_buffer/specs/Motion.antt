@@ -1,8 +1,10 @@
 -- The motion of a picture by column and row of places, each a block of 4x4 luma samples (8.5.3.2).
-use Rattle.std.specs.Prelude.{◌≡◌, ℕ, ◌+◌, ◌*◌, ◌≤◌, ◌&&◌, nat_lt, List, length, slice_index_or, Option, None}
+use Rattle.std.specs.Prelude.{◌≡◌, ℕ, ◌+◌, ◌*◌, ◌&&◌, nat_lt, List, slice_index_or, Option, None, map}
 use Rattle.std.specs.Prelude.{if◌then◌else◌}
+use Rattle.place_grid.specs.Cells.{Cells}
 use Rattle.picture_buffer.specs.declared.packed.PackedMotion.{PackedMotion}
 use Rattle.picture_buffer.specs.declared.place_motion.PlaceMotion.{PlaceMotion}
+use Rattle.picture_buffer.specs.Packed.{unpacked}
 
 -- a picture's places, row after row: None where a place is predicted in intra mode
 pub record FieldPlaces : Type 0 where
@@ -10,11 +12,13 @@ pub record FieldPlaces : Type 0 where
   pub down : ℕ
   pub places : List (Option PlaceMotion)
 
--- a field of sides up to 2048 has a value at each place
-pub record IsField (across down : ℕ) (places : List PackedMotion) : Type 0 where
-  pub columns : across ≤ 2048
-  pub rows : down ≤ 2048
-  pub count : length places ≡ across * down
+-- the motion of places that are packed
+abbrev pub unpacked_places : Cells PackedMotion → FieldPlaces
+unpacked_places grid = record {
+  across = grid.across;
+  down = grid.down;
+  places = map unpacked grid.cells;
+}
 
 -- the motion of a place; None outside the picture
 unfoldable pub motions_of : FieldPlaces → ℕ → ℕ → Option PlaceMotion

@@ -112,6 +112,7 @@ impl Planes {
             _ => self.cr.lay(x, y, samples),
         }
     }
+
     /// The samples of component `c`, row after row, for writing.
     pub fn samples_mut(&mut self, c: usize) -> &mut [u16]
         requires { c < 3 }

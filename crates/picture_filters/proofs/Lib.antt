@@ -1,5 +1,3 @@
-pub mod Grids
-pub mod Kept
 pub mod Places
 pub mod Units
 pub mod Lines

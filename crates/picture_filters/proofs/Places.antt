@@ -1,39 +1,61 @@
 -- What is known of places.
-use Rattle.std.proofs.Common.{◌≡◌, refl, ℕ, ◌+◌, ◌*◌, ◌<◌, ◌==◌, ◌&&◌, cond, Bool, true, false, List, length, slice_set}
-use Rattle.std.proofs.Common.{ap, sym, ◌∙◌}
-use Rattle.std.proofs.lemmas.List.{length-set}
+use Rattle.std.proofs.Common.{◌≡◌, refl, ℕ, ◌+◌, ◌-◌, ◌*◌, ◌<◌, ◌≤◌, ◌==◌, ◌&&◌, cond, min}
+use Rattle.std.proofs.Common.{Bool, true, false, List, length, get_or, inl, inr, ap, subst, sym, ◌∙◌, arith}
+use Rattle.std.proofs.lemmas.Bool.{cases_lt}
+use Rattle.std.proofs.lemmas.Bool.Decides.{nat_tests}
+use Rattle.std.proofs.lemmas.List.{get_or_past}
+use Rattle.std.proofs.Math.Nat.{mul-le-mul_left}
+use Rattle.place_grid.specs.Cells.{Cells, HasCells, cell}
 use Rattle.picture_filters.specs.declared.filter_place.FilterPlace.{FilterPlace}
-use Rattle.picture_filters.specs.Kept.{FieldFlags, HasFlags, kept_of}
-use Rattle.picture_filters.specs.Places.{IsField, first_place, places_of}
-use Rattle.picture_filters.proofs.Grids.{put_at}
-
-pub place_put : (across down x y : ℕ) (places : List FilterPlace) (place : FilterPlace) → length places ≡ across * down
-    → x < across → y < down
-    → (i j : ℕ)
-    → places_of (record { across = across; down = down; places = slice_set places (across * y + x) place }) i j
-    ≡ cond (i == x && j == y) place (places_of (record { across = across; down = down; places = places }) i j)
-unfolding places_of
-place_put across down x y places place count hx hy = put_at across down x y places place first_place count hx hy
+use Rattle.picture_filters.specs.Places.{FieldPlaces, IsField, places_of}
 
 chosen : (b : Bool) (p q : FilterPlace) (k : Bool) → k ≡ q.place.kept → cond b p.place.kept k ≡ (cond b p q).place.kept
 chosen true p q k e = refl
 chosen false p q k e = e
 
 -- the flags go with the places
-pub field_put : (across down x y : ℕ) (places : List FilterPlace) (place : FilterPlace) (old new : FieldFlags)
-    → IsField across down places old → x < across → y < down
-    → ((a d : ℕ) → HasFlags old a d → HasFlags new a d)
-    → ((i j : ℕ) → kept_of new i j ≡ cond (i == x && j == y) place.place.kept (kept_of old i j))
-    → IsField across down (slice_set places (across * y + x) place) new
-field_put across down x y places place old new field hx hy sides flags =
-    let same : HasFlags new across down =
-    sides across down (record { columns = field.kept_columns; rows = field.kept_rows }) in
-    record {
-      columns = field.columns;
-      rows = field.rows;
-      count = length-set places (across * y + x) place ∙ field.count;
-      kept_columns = same.columns;
-      kept_rows = same.rows;
-      kept = λ i j. flags i j ∙ chosen (i == x && j == y) place _ _ (field.kept i j)
-          ∙ ap (λ (p : FilterPlace). p.place.kept) (sym (place_put across down x y places place field.count hx hy i j));
-    }
+pub field_put : (x y : ℕ) (place : FilterPlace) (old new : FieldPlaces) (before flags : Cells Bool)
+    → IsField old before → HasCells new old.across old.down → HasCells flags before.across before.down
+    → ((i j : ℕ) → places_of new i j ≡ cond (i == x && j == y) place (places_of old i j))
+    → ((i j : ℕ) → cell false flags i j ≡ cond (i == x && j == y) place.place.kept (cell false before i j))
+    → IsField new flags
+field_put x y place old new before flags field sides same put told = record {
+  columns = same.columns ∙ (field.columns ∙ sym sides.columns);
+  rows = same.rows ∙ (field.rows ∙ sym sides.rows);
+  kept = λ i j. told i j
+      ∙ (chosen (i == x && j == y) place _ _ (field.kept i j) ∙ ap (λ (p : FilterPlace). p.place.kept) (sym (put i j)));
+}
+
+below_last : (flags : Cells Bool) (x y : ℕ) → flags.down ≤ y → cell false flags x y ≡ false
+unfolding cell
+below_last flags x y le = grind (arith, nat_tests)
+
+kept_in : (places : FieldPlaces) (flags : Cells Bool) (kept : List Bool) (side row first : ℕ) → IsField places flags
+    → first ≡ min (side * row) flags.down → length kept ≡ flags.across * min side (flags.down - first)
+    → ((x j : ℕ) → x < flags.across → j < side → first + j < flags.down
+    → get_or kept (flags.across * j + x) false ≡ cell false flags x (first + j))
+    → (x j : ℕ) → x < flags.across → j < side
+    → get_or kept (flags.across * j + x) false ≡ (places_of places x (side * row + j)).place.kept
+kept_in places flags kept side row first field f count told x j hx hj = elim (cases_lt (side * row + j) flags.down) [
+  | inl lt ↦
+      let same : first ≡ side * row = omega (arith, f, lt) in
+      told x j hx hj (omega (arith, same, lt))
+      ∙ (ap (λ (n : ℕ). cell false flags x (n + j)) same ∙ field.kept x (side * row + j))
+  | inr le ↦
+      let few : min side (flags.down - first) ≤ j = omega (arith, f, le) in
+      let past : flags.across * min side (flags.down - first) ≤ flags.across * j =
+      mul-le-mul_left flags.across few in
+      get_or_past kept (flags.across * j + x) false (omega (arith, count, past))
+      ∙ (sym (below_last flags x (side * row + j) le) ∙ field.kept x (side * row + j))
+]
+
+-- the flags of a row of blocks are those of its places
+pub kept_row : (places : FieldPlaces) (flags : Cells Bool) (kept : List Bool) (side row first : ℕ)
+    → IsField places flags → first ≡ min (side * row) flags.down → length kept ≡ flags.across * min side (flags.down - first)
+    → ((x j : ℕ) → x < flags.across → j < side → first + j < flags.down
+    → get_or kept (flags.across * j + x) false ≡ cell false flags x (first + j))
+    → (x j : ℕ) → x < places.across → j < side
+    → get_or kept (places.across * j + x) false ≡ (places_of places x (side * row + j)).place.kept
+kept_row places flags kept side row first field f count told x j hx hj =
+    subst (λ (n : ℕ). x < n → get_or kept (n * j + x) false ≡ (places_of places x (side * row + j)).place.kept)
+    field.columns (λ lt. kept_in places flags kept side row first field f count told x j lt hj) hx

@@ -3,17 +3,15 @@
 #![tactic(auto)]
 
 mod beside;
-mod cells;
 mod filter_place;
 mod format;
-mod kept_field;
 mod layers;
 mod motion_near;
 mod offsets;
 mod picture;
 mod place_field;
 mod planned;
-mod unit_field;
+mod unit_rows;
 mod view;
 
 pub use picture::PictureFilters;

@@ -6,9 +6,10 @@ ghost use Rattle.header_types.specs.SequenceParameterSets.{height_in_ctbs};
 ghost use Rattle.picture_filters.specs.Filtering.{IsUnit};
 ghost use Rattle.spec_picture_filters.specs.Units.{units_laid};
 
-use crate::unit_field::UnitField;
+use crate::unit_rows::put_unit;
 use ctu_records::{ComponentOffset, Sao};
 use picture_layout::CodingTreeUnit;
+use place_grid::Grid;
 use plan_types::{PicturePlan, SegmentPlan};
 use spec_sample_adaptive_offset::OffsetUnit;
 
@@ -19,7 +20,7 @@ pub(crate) fn lay_offsets(
     segment: &SegmentPlan,
     unit: &CodingTreeUnit,
     sao: Sao,
-    units: &mut UnitField,
+    units: &mut Grid<OffsetUnit>,
 )
     requires unit { IsUnit plan.now segment.now unit.now }
     requires sides { HasUnits units.old unit.now.layout.width (height_in_ctbs plan.now.sps) }
@@ -30,11 +31,9 @@ pub(crate) fn lay_offsets(
     let _ = plan;
     let column = unit.layout.column(unit.address) as usize;
     let row = unit.layout.row(unit.address) as usize;
-    if row < units.rows() as usize {
-        units.put(0, column, row, unit_read(segment, unit, sao.luma));
-        units.put(1, column, row, unit_read(segment, unit, sao.cb));
-        units.put(2, column, row, unit_read(segment, unit, sao.cr));
-    }
+    put_unit(units, 0, column, row, unit_read(segment, unit, sao.luma));
+    put_unit(units, 1, column, row, unit_read(segment, unit, sao.cb));
+    put_unit(units, 2, column, row, unit_read(segment, unit, sao.cr));
 }
 
 /// A component of a unit.

@@ -22,13 +22,15 @@ use crate::motion_near::MotionNear;
 use crate::offsets::lay_offsets;
 use crate::place_field::PlaceField;
 use crate::planned::filter_planned;
-use crate::unit_field::UnitField;
+use crate::unit_rows::unit_rows;
 use boundary_strengths::unit_places;
 use ctu_records::Records;
 use loop_filters::FilterScratch;
 use picture_buffer::{MotionField, Planes};
 use picture_layout::{CodingTreeUnit, Layout, slice_address};
+use place_grid::Grid;
 use plan_types::{PicturePlan, SegmentPlan};
+use spec_sample_adaptive_offset::OffsetUnit;
 use std::alloc::{AllocError, Global};
 use std::marker::Model;
 
@@ -38,7 +40,7 @@ pub struct PictureFilters<'a> {
     plan: &'a PicturePlan,
     layout: Layout,
     places: PlaceField,
-    units: UnitField,
+    units: Grid<OffsetUnit>,
     /// Memory in which samples are filtered.
     scratch: FilterScratch,
 }
@@ -76,7 +78,7 @@ impl<'a> PictureFilters<'a> {
     {
         let layout = Layout::new(plan);
         let places = PlaceField::new(alloc, layout.across(), layout.down())?;
-        let units = UnitField::new(alloc, plan.sps.width_in_ctbs(), plan.sps.height_in_ctbs())?;
+        let units = unit_rows(alloc, plan.sps.width_in_ctbs(), plan.sps.height_in_ctbs())?;
         let scratch = fitted(alloc, plan, scratch)?;
         Ok(PictureFilters {
             plan,
@@ -149,7 +151,10 @@ impl<'a> PictureFilters<'a> {
     }
 
     /// The memory in which the picture was filtered, for the next one.
-    pub fn into_scratch(self) -> FilterScratch {
+    pub fn into_scratch(self) -> FilterScratch
+        ensures { HasRoom result self.entry.plan.sps.format.pic_width_in_luma_samples
+            self.entry.plan.sps.format.pic_height_in_luma_samples }
+    {
         self.scratch
     }
 }

@@ -4,19 +4,16 @@ ghost use Rattle.std.specs.Prelude.{◌≡◌, ℕ, ◌+◌, ◌-◌, ◌*◌, �
 ghost use Rattle.std.specs.Prelude.{slice_index_or, IfOk, false, if◌then◌else◌};
 ghost use Rattle.picture_filters.specs.Places.{HasPlaces, first_place, places_of};
 
-use crate::cells::cell;
 use crate::filter_place::{FIRST_PLACE, FilterPlace};
-use crate::kept_field::KeptField;
+use place_grid::Grid;
 use std::alloc::{AllocError, Global};
 use std::marker::Model;
 
-/// What is known of a picture's places, in rows of `across`, and beside it whether their samples stay.
+/// What is known of a picture's places, and beside it whether their samples stay.
 #[derive(Drop)]
 pub(crate) struct PlaceField {
-    across: u32,
-    down: u32,
-    places: Vec<FilterPlace>,
-    kept: KeptField,
+    places: Grid<FilterPlace>,
+    kept: Grid<bool>,
 }
 
 impl Model for PlaceField {
@@ -24,29 +21,24 @@ impl Model for PlaceField {
 
     ghost Value = { FieldPlaces };
 
-    ghost view = { λ f. record { across = f.across; down = f.down; places = f.places.items } };
+    ghost view = { λ f. f.places };
 
-    ghost invariant = { λ f. IsField f.across f.down f.places.items f.kept };
+    ghost invariant = { λ f. IsField f.places f.kept };
 }
 
 impl PlaceField {
     /// A field of a picture of so many places across and down: edges without strength, QpY 0, no kept samples, and no
     /// coefficient.
-    #[tactic(auto, unfolding(crate::specs::Places::places_of, crate::specs::Grids::cell))]
+    #[tactic(auto, unfolding(crate::specs::Places::places_of))]
     pub(crate) fn new(alloc: Global, across: u32, down: u32) -> Result<PlaceField, AllocError>
         requires columns { across ≤ 2048 }
         requires rows { down ≤ 2048 }
         ensures sides { IfOk result (λ f. HasPlaces f across down) }
         ensures places { IfOk result (λ f. (x y : ℕ) → places_of f x y ≡ first_place) }
     {
-        let places = vec![in alloc; FIRST_PLACE; across as usize * down as usize]?;
-        let kept = KeptField::new(alloc, across, down)?;
-        Ok(PlaceField {
-            across,
-            down,
-            places,
-            kept,
-        })
+        let places = Grid::new(alloc, across, down, FIRST_PLACE)?;
+        let kept = Grid::new(alloc, across, down, false)?;
+        Ok(PlaceField { places, kept })
     }
 
     /// What is known of a place; nothing outside the picture.
@@ -54,7 +46,7 @@ impl PlaceField {
     pub(crate) fn at(&self, x: usize, y: usize) -> FilterPlace
         ensures { result ≡ places_of self.now x y }
     {
-        cell(self.across, self.down, &self.places, FIRST_PLACE, x, y)
+        self.places.at(x, y, FIRST_PLACE)
     }
 
     /// What is known of a place.
@@ -66,8 +58,7 @@ impl PlaceField {
         ensures places { (i j : ℕ)
             → places_of self.new i j ≡ (if i == x && j == y then place else places_of self.old i j) }
     {
-        let cell = self.across as usize * y + x;
-        self.places[cell] = place;
+        self.places.put(x, y, place);
         self.kept.put(x, y, place.place.kept);
     }
 
@@ -81,6 +72,7 @@ impl PlaceField {
             → slice_index_or result.now (self.now.across * j + x) false
             ≡ (places_of self.now x (side * row + j)).place.kept }
     {
-        self.kept.row(row, side)
+        let first = side.saturating_mul(row).min(self.kept.down() as usize);
+        self.kept.rows(first, side)
     }
 }

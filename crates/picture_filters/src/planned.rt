@@ -12,18 +12,19 @@ ghost use Rattle.spec_picture_filters.specs.Filtered.{filter_format, filtered};
 
 use crate::format::filter_format;
 use crate::place_field::PlaceField;
-use crate::unit_field::UnitField;
 use crate::view::PictureView;
 use loop_filters::{FilterScratch, filter_picture};
 use picture_buffer::Planes;
+use place_grid::Grid;
 use plan_types::PicturePlan;
+use spec_sample_adaptive_offset::OffsetUnit;
 
 /// Takes the samples of a planned picture through its loop filters, by what is known of its places and units.
 #[tactic(auto, unfolding(spec_picture_filters::specs::Filtered::filtered))]
 pub(crate) fn filter_planned(
     plan: &PicturePlan,
     places: &PlaceField,
-    units: &UnitField,
+    units: &Grid<OffsetUnit>,
     scratch: &mut FilterScratch,
     planes: &mut Planes,
 )

@@ -6,9 +6,10 @@ ghost use Rattle.picture_filters.specs.Units.{HasUnits, units_of};
 ghost use Rattle.loop_filters.specs.Formats.{columns_of, rows_of};
 
 use crate::place_field::PlaceField;
-use crate::unit_field::UnitField;
+use crate::unit_rows::unit_row;
 use deblock::PlaceView;
 use loop_filters::FilterView;
+use place_grid::Grid;
 use spec_deblocking::Place;
 use spec_loop_filters::FilterFormat;
 use spec_sample_adaptive_offset::OffsetUnit;
@@ -19,7 +20,7 @@ use std::marker::Model;
 pub(crate) struct PictureView<'a> {
     format: FilterFormat,
     places: &'a PlaceField,
-    units: &'a UnitField,
+    units: &'a Grid<OffsetUnit>,
 }
 
 impl<'a> Model for PictureView<'a> {
@@ -43,7 +44,7 @@ impl<'a> PictureView<'a> {
     pub(crate) fn new(
         format: FilterFormat,
         places: &'a PlaceField,
-        units: &'a UnitField,
+        units: &'a Grid<OffsetUnit>,
     ) -> PictureView<'a>
         requires size { format.ctb_size ≤ 64 }
         requires places { HasPlaces places.now (format.width / 4) (format.height / 4) }
@@ -72,7 +73,7 @@ impl<'a> FilterView for PictureView<'a> {
     ghost unit_at = { λ v. units_of v.units };
 
     fn units(&self, c: usize, row: usize) -> &[OffsetUnit] {
-        self.units.row(c, row)
+        unit_row(self.units, c, row)
     }
 
     fn kept(&self, row: usize) -> &[bool] {

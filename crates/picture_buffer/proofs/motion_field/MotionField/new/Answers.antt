@@ -1,7 +1,6 @@
 use Rattle.std.proofs.Common.{refl}
-use Rattle.picture_buffer.proofs.Places.{none_packed}
+use Rattle.picture_buffer.proofs.Places.{none_at}
 use Rattle.picture_buffer.proofs.motion_field.MotionField.new.Goals as goal
 
 pub returns-clause-places : goal.returns-clause-places
-returns-clause-places c =
-    none_packed c.args.across c.args.down _ c.in_ok-places.places.items _ (c.in_ok-places.ensures.items_if_clones_equal (λ y e. e)) refl
+returns-clause-places c = none_at c.in_ok-places.places _ refl (c.in_ok-places.ensures.cells (λ copy e. e))
