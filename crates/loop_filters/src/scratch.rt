@@ -38,7 +38,9 @@ impl Model for FilterScratch {
 
 impl FilterScratch {
     /// Room for no sample. It takes no memory.
-    pub fn new(alloc: Global) -> FilterScratch {
+    pub fn new(alloc: Global) -> FilterScratch
+        ensures { result ≡ 0 }
+    {
         FilterScratch {
             lines: Vec::new(alloc),
             last: Vec::new(alloc),

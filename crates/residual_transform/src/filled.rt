@@ -8,6 +8,7 @@ pub fn filled_rows<const SIZE: usize>(d: &[i32]) -> usize
     requires room { length d.now ≡ SIZE * SIZE }
     ensures count { result ≤ SIZE }
     ensures value { (i : ℕ) → SIZE * result ≤ i → at d.now i ≡ pos 0 }
+    ensures least { (rows : ℕ) → ((i : ℕ) → SIZE * rows ≤ i → at d.now i ≡ pos 0) → result ≤ rows }
 {
     for k in 0..SIZE {
         let row = SIZE - 1 - k;
@@ -22,7 +23,8 @@ pub fn filled_rows<const SIZE: usize>(d: &[i32]) -> usize
 #[inline(always)]
 pub fn is_zero<const COUNT: usize>(numbers: &[i32], start: usize) -> bool
     requires room { start + COUNT ≤ length numbers.now }
-    ensures { result ≡ true → (k : ℕ) → k < COUNT → at numbers.now (start + k) ≡ pos 0 }
+    ensures zero { result ≡ true → (k : ℕ) → k < COUNT → at numbers.now (start + k) ≡ pos 0 }
+    ensures only { ((k : ℕ) → k < COUNT → at numbers.now (start + k) ≡ pos 0) → result ≡ true }
 {
     let mut zero = true;
     for k in 0..COUNT {
@@ -37,6 +39,8 @@ pub fn filled_columns<const SIZE: usize>(d: &[i32], rows: usize) -> usize
     requires rows { rows ≤ SIZE }
     ensures count { result ≤ SIZE }
     ensures value { (x y : ℕ) → result ≤ x → x < SIZE → y < rows → at d.now (SIZE * y + x) ≡ pos 0 }
+    ensures least { (columns : ℕ)
+        → ((x y : ℕ) → columns ≤ x → x < SIZE → y < rows → at d.now (SIZE * y + x) ≡ pos 0) → result ≤ columns }
 {
     for k in 0..SIZE {
         let column = SIZE - 1 - k;
@@ -53,7 +57,8 @@ fn is_zero_column<const SIZE: usize>(d: &[i32], rows: usize, column: usize) -> b
     requires room { length d.now ≡ SIZE * SIZE }
     requires rows { rows ≤ SIZE }
     requires column { column < SIZE }
-    ensures { result ≡ true → (y : ℕ) → y < rows → at d.now (SIZE * y + column) ≡ pos 0 }
+    ensures zero { result ≡ true → (y : ℕ) → y < rows → at d.now (SIZE * y + column) ≡ pos 0 }
+    ensures only { ((y : ℕ) → y < rows → at d.now (SIZE * y + column) ≡ pos 0) → result ≡ true }
 {
     for y in 0..rows {
         if d[SIZE * y + column] != 0 {

@@ -9,7 +9,8 @@ use spec_sample_adaptive_offset::OffsetUnit;
 
 /// Whether a component of some units has offsets.
 pub fn has_offset(units: &[OffsetUnit]) -> bool
-    ensures { result ≡ false → (k : ℕ) → k < length units.now → (unit_in units.now k).offset ≡ Off }
+    ensures none { result ≡ false → (k : ℕ) → k < length units.now → (unit_in units.now k).offset ≡ Off }
+    ensures only { ((k : ℕ) → k < length units.now → (unit_in units.now k).offset ≡ Off) → result ≡ false }
 {
     for k in 0..units.len() {
         if !is_off(units[k].offset) {
@@ -21,7 +22,8 @@ pub fn has_offset(units: &[OffsetUnit]) -> bool
 
 /// Whether a component has no offsets.
 fn is_off(offset: ComponentOffset) -> bool
-    ensures { result ≡ true → offset ≡ Off }
+    ensures off { result ≡ true → offset ≡ Off }
+    ensures only { offset ≡ Off → result ≡ true }
 {
     match offset {
         ComponentOffset::Off => true,

@@ -107,4 +107,4 @@ returns-else-has_offset-clause-value g c = λ f stands x y column line.
     (offset_plane (filters_of (g.V.FilterView.shape c.args.view.now) (g.V.PlaceView.place_at c.args.view.now)
     (g.V.FilterView.unit_at c.args.view.now)) c.args.component.now.c)
     c.args.component.now.size c.args.row _ c.args.component.now.width c.units.result.now f x y (sym k.size) k.wide.0
-    c.units.ensures.count c.units.ensures.units (c.has_offset.ensures c.if-has_offset.false) column low high))
+    c.units.ensures.count c.units.ensures.units (c.has_offset.ensures.none c.if-has_offset.false) column low high))

@@ -7,5 +7,5 @@ loop-k-preserved g c =
     let none : c.is_zero.result ≡ true = search rules in
     record {
       told = one_row_fewer g.row.SIZE c.loop-k.k c.args.d.now (search rules) c.loop-k.invariant.told
-          (c.is_zero.ensures none);
+          (c.is_zero.ensures.zero none);
     }
