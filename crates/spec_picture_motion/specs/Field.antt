@@ -64,12 +64,17 @@ collocated_of None = None
 collocated_of (Some place) =
     Some (record { list_0 = collocated_vector place.list_0; list_1 = collocated_vector place.list_1 })
 
--- what the collocated picture has at the blocks of 4x4 places from the first one of the unit at an address on, as far
--- as the block behind the unit's: no candidate of the unit stands past it
+-- what a picture has at the blocks of 4x4 places from the first one of the unit at an address on
+abbrev pub blocks_from : PictureShape → ℕ → Motions → Beneath
+blocks_from picture address motions column row =
+    collocated_of (motions (first_column picture address + 4 * column) (first_row picture address + 4 * row))
+
+-- what the collocated picture has at those of them that candidates of the unit stand in: in the rows of the unit, as
+-- far as the column behind it, where the bottom right of a block may lie (8.5.3.2.8)
 unfoldable pub beneath_unit : PictureShape → ℕ → Motions → Beneath
 beneath_unit picture address motions column row =
-    if nat_lt column 5 && nat_lt row 4
-    then collocated_of (motions (first_column picture address + 4 * column) (first_row picture address + 4 * row))
+    if nat_le (4 * column) (unit_places picture) && nat_lt (4 * row) (unit_places picture)
+    then blocks_from picture address motions column row
     else None
 
 -- the vectors of a slice with the pictures that they point to
