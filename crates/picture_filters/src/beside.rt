@@ -7,17 +7,18 @@ ghost use Rattle.spec_picture_trees.specs.Shapes.{qp_bd_offset};
 ghost use Rattle.spec_picture_filters.specs.Units.{coded_near, is_left_filtered, is_reached, is_top_filtered};
 ghost use Rattle.spec_picture_filters.specs.Units.{pcm_disabled};
 
+use crate::given::CodedBeside;
 use crate::place_field::PlaceField;
 use boundary_strengths::UnitSides;
 use picture_layout::CodingTreeUnit;
 use plan_types::{PicturePlan, SegmentPlan};
 
-/// What is known beside a unit of a segment.
+/// What is known beside a unit of a segment, with the places that are coded there.
 pub(crate) fn unit_sides(
     plan: &PicturePlan,
     segment: &SegmentPlan,
     unit: &CodingTreeUnit,
-    places: &PlaceField,
+    coded: &CodedBeside,
 ) -> UnitSides
     requires { IsUnit plan.now segment.now unit.now }
     ensures left { result.filter_left ≡ is_left_filtered plan.now segment.now unit.now.address }
@@ -27,13 +28,13 @@ pub(crate) fn unit_sides(
     ensures pcm { result.pcm_loop_filter_disabled ≡ pcm_disabled plan.now.sps.tools.pcm }
     ensures offset { result.qp_bd_offset ≡ qp_bd_offset plan.now.sps }
     ensures small { result.qp_bd_offset ≤ 48 }
-    ensures coded_left { IsCodedLeft unit.now (coded_part (places_of places.now)) result.coded_left }
-    ensures coded_above { IsCodedAbove unit.now (coded_part (places_of places.now)) result.coded_above }
+    ensures coded_left { result.coded_left ≡ coded.now.left }
+    ensures coded_above { result.coded_above ≡ coded.now.above }
 {
     let slice = &segment.header.fields().slice;
     UnitSides {
-        coded_left: coded_left(unit, places),
-        coded_above: coded_above(unit, places),
+        coded_left: coded.left,
+        coded_above: coded.above,
         filter_left: is_left_filtered(plan, segment, unit),
         filter_top: is_top_filtered(plan, segment, unit),
         deblocking_disabled: slice.deblocking.slice_deblocking_filter_disabled_flag,
@@ -94,6 +95,17 @@ fn qp_bd_offset(plan: &PicturePlan) -> u8
     ensures small { result ≤ 48 }
 {
     6 * plan.sps.fields().format.bit_depth_luma_minus8 as u8
+}
+
+/// Which places beside a unit are coded, by those of the picture.
+pub(crate) fn coded_beside(unit: &CodingTreeUnit, places: &PlaceField) -> CodedBeside
+    ensures left { IsCodedLeft unit.now (coded_part (places_of places.now)) result.left }
+    ensures above { IsCodedAbove unit.now (coded_part (places_of places.now)) result.above }
+{
+    CodedBeside {
+        left: coded_left(unit, places),
+        above: coded_above(unit, places),
+    }
 }
 
 /// Whether the places on the left of a unit are coded, from the upper one down.

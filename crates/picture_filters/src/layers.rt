@@ -14,15 +14,6 @@ use slice_types::SliceDeblocking;
 use spec_boundary_strengths::UnitPlace;
 use spec_deblocking::Place;
 
-/// A place of which nothing is read.
-pub(crate) const NO_PLACE: UnitPlace = UnitPlace {
-    left_strength: 0,
-    top_strength: 0,
-    coded: false,
-    qp_y: 0,
-    kept: false,
-};
-
 /// The places of a unit, in 16 rows of 16, over those of the picture.
 pub(crate) fn lay_places(
     unit: &CodingTreeUnit,

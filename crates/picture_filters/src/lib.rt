@@ -5,6 +5,7 @@
 mod beside;
 mod filter_place;
 mod format;
+mod given;
 mod layers;
 mod motion_near;
 mod offsets;
@@ -14,4 +15,5 @@ mod planned;
 mod unit_rows;
 mod view;
 
+pub use given::{CodedBeside, UnitFilters, unit_filters};
 pub use picture::PictureFilters;

@@ -16,14 +16,14 @@ ghost use Rattle.spec_picture_filters.specs.Data.{no_data};
 ghost use Rattle.spec_picture_filters.specs.Filtered.{filter_format, filtered};
 ghost use Rattle.spec_picture_filters.specs.Units.{read_added};
 
-use crate::beside::unit_sides;
-use crate::layers::{NO_PLACE, lay_places};
+use crate::beside::coded_beside;
+use crate::given::unit_filters;
+use crate::layers::lay_places;
 use crate::motion_near::MotionNear;
 use crate::offsets::lay_offsets;
 use crate::place_field::PlaceField;
 use crate::planned::filter_planned;
 use crate::unit_rows::unit_rows;
-use boundary_strengths::unit_places;
 use ctu_records::Records;
 use loop_filters::FilterScratch;
 use picture_buffer::{MotionField, Planes};
@@ -103,16 +103,14 @@ impl<'a> PictureFilters<'a> {
             ≡ read_added self.old.plan segment.now address records.now (motions_of motion.now) (data_of self.old) }
     {
         let unit = self.unit_of(segment, address);
-        let sides = unit_sides(self.plan, segment, &unit, &self.places);
+        let coded = coded_beside(&unit, &self.places);
         let near = MotionNear {
             unit: &unit,
             field: motion,
         };
-        let mut read = [NO_PLACE; 256];
-        unit_places(records, &sides, &near, &mut read);
-        let deblocking = segment.header.fields().slice.deblocking;
-        lay_places(&unit, deblocking, &read, &mut self.places);
-        lay_offsets(self.plan, segment, &unit, records.sao(), &mut self.units);
+        let given = unit_filters(self.plan, segment, &unit, records, &coded, &near);
+        lay_places(&unit, given.deblocking, &given.places, &mut self.places);
+        lay_offsets(&unit, &given.offsets, &mut self.units);
     }
 
     /// A unit of a segment.

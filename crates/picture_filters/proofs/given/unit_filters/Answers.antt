@@ -1,0 +1,28 @@
+use Rattle.std.proofs.Common.{rules, ℕ, Bool, List, Option, ap, subst, sym, ◌∙◌}
+use Rattle.boundary_strengths.specs.Held.{beside_of}
+use Rattle.picture_buffer.specs.declared.place_motion.PlaceMotion.{PlaceMotion}
+use Rattle.spec_boundary_strengths.specs.Places.{unit_place}
+use Rattle.picture_filters.specs.Filtering.{IsCodedAbove, IsCodedLeft}
+use Rattle.picture_filters.proofs.Same.{read_is}
+use Rattle.picture_filters.proofs.Units.{component_is}
+use Rattle.picture_filters.proofs.given.unit_filters.Goals as goal
+
+pub returns : goal.returns
+returns g c = λ each small motions known e left above.
+    let p = c.args.plan.now in
+    let s = c.args.segment.now in
+    let unit = c.args.unit.now in
+    let ctu = c.args.records.now in
+    let sides = c.unit_sides-sides in
+    record {
+      places = λ x y few low. c.unit_places.ensures each small x y _ few low
+          ∙ (ap (λ (m : ℕ → ℕ → Option PlaceMotion). unit_place (beside_of sides.result m)
+          sides.result.pcm_loop_filter_disabled sides.result.qp_bd_offset ctu.items x y) e
+          ∙ read_is p s unit ctu.items motions known sides.result x y c.requires sides.ensures.left sides.ensures.top
+          sides.ensures.disabled sides.ensures.pcm sides.ensures.offset
+          (subst (λ (f : List Bool). IsCodedLeft unit known f) (sym sides.ensures.coded_left) left)
+          (subst (λ (f : List Bool). IsCodedAbove unit known f) (sym sides.ensures.coded_above) above) few low);
+      deblocking = search rules;
+      offsets = λ k lt. component_is p s unit.slice ctu.sao c.sao.result k _ c.requires.slice c.sao.ensures
+          (c.unit_offsets.ensures k lt);
+    }
