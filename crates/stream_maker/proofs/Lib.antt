@@ -1,4 +1,6 @@
 pub mod Lists
 pub mod Codes
 pub mod Rows
+pub mod Hashes
 pub mod Pictures
+pub mod Writings

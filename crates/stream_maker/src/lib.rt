@@ -8,7 +8,6 @@ mod slices;
 mod stream;
 
 pub use output::make;
-pub use stream::made_bytes;
 
 #[cfg(test)]
 mod tests;

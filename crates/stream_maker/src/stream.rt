@@ -1,14 +1,15 @@
 //! Streams: parameter sets, and pictures each with its hashes.
 
 ghost use Rattle.std.specs.Prelude.{◌≡◌, ◌%◌, ◌<◌, ◌++◌, OnOk, IfOk};
+ghost use Rattle.md5.specs.Md5.{md5};
 ghost use Rattle.spec_made.specs.Written.{unit_behind_code};
-ghost use Rattle.spec_made.specs.Stream.{hash_unit, idr_made, inter_made, picture_made, set_units, start_of, made};
+ghost use Rattle.spec_made.specs.Stream.{hash_unit, idr_made, inter_made, picture_made, set_units, start_of};
 
 use crate::escaping::append_unit;
 use crate::headers::{idr_header, inter_header};
 use crate::slices::{SliceData, inter_data, pcm_data};
+use hash_sei::plane_md5;
 use made_pictures::{Picture, inter_units, motion, pcm_units};
-use md5::{Digest, Md5};
 use rand_core::SeedableRng;
 use rand_pcg::Lcg64Xsh32;
 use std::alloc::{AllocError, Global};
@@ -24,7 +25,7 @@ const PICTURE_PAYLOAD: [u8; 4] = [192, 113, 130, 18];
 
 /// Between two pictures: the generator, and the two pictures that others may refer to.
 #[derive(Drop)]
-struct Making {
+pub(crate) struct Making {
     generator: Lcg64Xsh32,
     older: Picture,
     last: Picture,
@@ -54,6 +55,13 @@ fn append_slice(
     append_unit(out, nal_type, payload.as_slice())
 }
 
+/// The hash of a plane.
+fn hash_of(plane: &[u8]) -> [u8; 16]
+    ensures { result ≡ md5 plane.now }
+{
+    plane_md5(plane.iter().map(|sample| u16::from(*sample)), 8)
+}
+
 /// Appends the hashes of a picture.
 #[tactic(auto, using(crate::proofs::Lists::appended), unfolding(spec_made::specs::Stream::hash_unit))]
 fn append_hashes(alloc: Global, out: &mut Vec<u8>, picture: &Picture) -> Result<(), AllocError>
@@ -61,9 +69,9 @@ fn append_hashes(alloc: Global, out: &mut Vec<u8>, picture: &Picture) -> Result<
 {
     let mut payload = Vec::new(alloc);
     payload.extend_from_slice(&[132, 49, 0])?;
-    payload.extend_from_slice(&Md5::digest(picture.luma()))?;
-    payload.extend_from_slice(&Md5::digest(picture.cb()))?;
-    payload.extend_from_slice(&Md5::digest(picture.cr()))?;
+    payload.extend_from_slice(&hash_of(picture.luma()))?;
+    payload.extend_from_slice(&hash_of(picture.cb()))?;
+    payload.extend_from_slice(&hash_of(picture.cr()))?;
     payload.push(128)?;
     append_unit(out, 40, payload.as_slice())
 }
@@ -126,7 +134,7 @@ fn append_inter(
 
 /// Appends the picture of a number.
 #[tactic(auto, unfolding(spec_made::specs::Stream::picture_made))]
-fn append_picture(
+pub(crate) fn append_picture(
     alloc: Global,
     out: &mut Vec<u8>,
     making: Making,
@@ -147,7 +155,7 @@ fn append_picture(
 
 /// Appends both parameter sets.
 #[tactic(auto, using(crate::proofs::Lists::appended), unfolding(spec_made::specs::Stream::set_units, spec_made::specs::Headers::sequence_payload, spec_made::specs::Headers::picture_payload))]
-fn append_sets(out: &mut Vec<u8>) -> Result<(), AllocError>
+pub(crate) fn append_sets(out: &mut Vec<u8>) -> Result<(), AllocError>
     ensures { OnOk result (out.new.items ≡ out.old.items ++ set_units) }
 {
     append_unit(out, 33, &SEQUENCE_PAYLOAD)?;
@@ -156,7 +164,7 @@ fn append_sets(out: &mut Vec<u8>) -> Result<(), AllocError>
 }
 
 /// What stands before the first picture.
-fn start(alloc: Global, seed: u64) -> Result<Making, AllocError>
+pub(crate) fn start(alloc: Global, seed: u64) -> Result<Making, AllocError>
     ensures { IfOk result (λ start. start ≡ start_of seed) }
 {
     let older = Picture::black(alloc)?;
@@ -166,18 +174,4 @@ fn start(alloc: Global, seed: u64) -> Result<Making, AllocError>
         older,
         last,
     })
-}
-
-/// The bytes of the stream of a seed.
-#[tactic(auto, unfolding(spec_made::specs::Stream::made))]
-pub fn made_bytes(alloc: Global, seed: u64, pictures: u32) -> Result<Vec<u8>, AllocError>
-    ensures { IfOk result (λ bytes. bytes.items ≡ made seed pictures) }
-{
-    let mut out = Vec::new(alloc);
-    append_sets(&mut out)?;
-    let mut making = start(alloc, seed)?;
-    for j in 0..pictures {
-        making = append_picture(alloc, &mut out, making, j)?;
-    }
-    Ok(out)
 }
