@@ -1,3 +1,4 @@
 pub mod Hexadecimal
+pub mod Makings
 pub mod Numbers
 pub mod WordsLaws

@@ -1,3 +1,5 @@
 pub mod LineText
+pub mod Making
+pub mod Requests
 pub mod Telling
 pub mod Words

@@ -1,5 +1,5 @@
 -- The command line: which words are taken, and what they ask for.
-use Rattle.std.specs.Prelude.{ℕ, Bool, true, false, List, [], ◌∷◌, ◌++◌, not, map, codes, bytes_eq}
+use Rattle.std.specs.Prelude.{ℕ, ◌-◌, ◌^◌, Bool, true, false, List, [], ◌∷◌, ◌++◌, not, map, codes, bytes_eq}
 use Rattle.std.specs.Prelude.{Option, Some, None, option_map, option_and_then, if◌then◌else◌, string_bytes}
 use Rattle.std.specs.Prelude.{String}
 use Rattle.std.specs.Global.{Global}
@@ -11,10 +11,17 @@ use Rattle.clap.specs.ValueTests.{is_unsigned_in}
 use Rattle.clap.specs.declared.builder.action.ArgAction.TheVariants.{SetTrue}
 use Rattle.clap.specs.declared.builder.value_parser.ValueParser.TheVariants as vp
 use Rattle.decoder.specs.declared.options.Options.{Options}
+use Rattle.command_line.specs.declared.request.Request.{Request}
+use Rattle.command_line.specs.declared.request.Request.TheVariants.{Decode, Make}
+use Rattle.command_line.specs.declared.request.MakeOptions.{MakeOptions}
 
--- the option of a name whose value is a whole number from 1 to most
-abbrev pub number_rule : List ℕ → ℕ → Rule
-number_rule name most = record (new_rule name) { long = Some name; parser = Some (vp.Unsigned 1 most) }
+-- the option of a name whose value is a whole number from least to most
+abbrev pub number_rule : List ℕ → ℕ → ℕ → Rule
+number_rule name least most = record (new_rule name) { long = Some name; parser = Some (vp.Unsigned least most) }
+
+-- one that has to be given
+abbrev pub required_rule : List ℕ → ℕ → ℕ → Rule
+required_rule name least most = record (number_rule name least most) { required = true }
 
 -- the option of a name that has no value
 abbrev pub flag_rule : List ℕ → Rule
@@ -25,25 +32,34 @@ unfoldable pub decode_command : App
 decode_command =
     with_rule
     (with_rule
-    (with_rule (new_app (codes "decode")) (number_rule (codes "workers") 64))
-    (number_rule (codes "ahead") 16))
+    (with_rule (new_app (codes "decode")) (number_rule (codes "workers") 1 64))
+    (number_rule (codes "ahead") 1 16))
     (flag_rule (codes "no-hash"))
+
+-- the command make and its options, a seed of 64 bits among them
+unfoldable pub make_command : App
+make_command =
+    with_rule
+    (with_rule (new_app (codes "make")) (required_rule (codes "seed") 0 (2 ^ 64 - 1)))
+    (required_rule (codes "pictures") 1 1000)
 
 -- the program's command line: words with no program's name before them, of which the first is a command
 unfoldable pub program_command : App
 program_command = with_subcommand
+    (with_subcommand
     (on_top (λ s. record s { no_binary_name = true; subcommand_required = true }) (new_app (codes "hevcdec")))
-    decode_command.top
+    decode_command.top)
+    make_command.top
 
--- the number from 1 to most that clap reads from a text: decimal digits behind at most one plus
-abbrev pub number_in : ℕ → List ℕ → Option ℕ
-number_in most text =
-    if is_unsigned_in 1 most text then Some (digits_value 10 (without_leading_plus text)) else None
+-- the number from least to most that clap reads from a text: decimal digits behind at most one plus
+abbrev pub number_in : ℕ → ℕ → List ℕ → Option ℕ
+number_in least most text =
+    if is_unsigned_in least most text then Some (digits_value 10 (without_leading_plus text)) else None
 
--- what the option of a number says: 4 where it isn't given
+-- what the option of a number from 1 on says: 4 where it isn't given
 abbrev pub number_given : ℕ → Option (List ℕ) → Option ℕ
 number_given most None = Some 4
-number_given most (Some text) = number_in most text
+number_given most (Some text) = number_in 1 most text
 
 -- whether the flag no-hash is given
 abbrev pub is_set : Option (List ℕ) → Bool
@@ -59,23 +75,36 @@ options_of rows =
       hash = not (is_set (first_of (codes "no-hash") rows));
     })) (number_given 16 (first_of (codes "ahead") rows))) (number_given 64 (first_of (codes "workers") rows))
 
+-- what the matches of make ask for: both numbers are given there
+abbrev pub making_of : List Row → Option MakeOptions
+making_of rows =
+    option_and_then (λ seed. option_and_then (λ pictures. Some (record { seed = seed; pictures = pictures }))
+    (option_and_then (number_in 1 1000) (first_of (codes "pictures") rows)))
+    (option_and_then (number_in 0 (2 ^ 64 - 1)) (first_of (codes "seed") rows))
+
+-- what a command and its matches ask for
+abbrev pub request_of : List ℕ × List Row → Option Request
+request_of p =
+    if bytes_eq p.0 (codes "make") then option_map Make (making_of p.1)
+    else option_map Decode (options_of p.1)
+
 -- why the words are refused before their numbers are looked at; nothing where they aren't
 unfoldable pub faults_of : List (List ℕ) → Kinds
 faults_of words = fault_of program_command words
 
--- the matches of the command that the words name
-unfoldable pub matches_of : List (List ℕ) → Option (List Row)
-matches_of words = option_map (λ p. p.1) (subcommand_of program_command words)
+-- the command that the words name, and its matches
+unfoldable pub matches_of : List (List ℕ) → Option (List ℕ × List Row)
+matches_of words = subcommand_of program_command words
 
-abbrev pub unless_refused : Kinds → Option Options → Option Options
-unless_refused [] options = options
-unless_refused (kind ∷ kinds) options = None
+abbrev pub unless_refused : Kinds → Option Request → Option Request
+unless_refused [] request = request
+unless_refused (kind ∷ kinds) request = None
 
 -- what the words ask for; nothing where they are a faulty command line
-abbrev pub words_taken : List (String Global) → Option Options
+abbrev pub words_taken : List (String Global) → Option Request
 words_taken words =
     unless_refused (faults_of (map string_bytes words))
-    (option_and_then options_of (matches_of (map string_bytes words)))
+    (option_and_then request_of (matches_of (map string_bytes words)))
 
 -- the line that a faulty command line is answered by
 abbrev pub usage_line : List ℕ

@@ -6,10 +6,14 @@ ghost use Rattle.hv_base.specs.Text.{status_of, outcome_line};
 ghost use Rattle.decoder.specs.Headline.{Headline, IsComplete, change_of};
 ghost use Rattle.decoder.specs.Options.{IsInRange};
 ghost use Rattle.decoder.specs.declared.options.Options.{Options};
+ghost use Rattle.command_line.specs.declared.request.MakeOptions.{MakeOptions};
+ghost use Rattle.command_line.specs.declared.request.Request.TheVariants.{Decode, Make};
+ghost use Rattle.command_line.specs.Making.{Makes, stream_of};
 ghost use Rattle.command_line.specs.Telling.{IsUntouched, Tells};
 ghost use Rattle.command_line.specs.Words.{usage_line, words_taken};
 
 use crate::line::{tell, tell_line};
+use crate::request::{MakeOptions, Request};
 use crate::words::{USAGE, WordsError, parse_words};
 use decoder::{Options, decode};
 use hv_base::{Outcome, Status};
@@ -17,12 +21,17 @@ use hv_io::{Gate, Sink, Source};
 use std::alloc::Global;
 use std::sync::Wait;
 use std::thread::Threads;
+use stream_maker::make;
 
-/// Runs the program on its words, those after its name: reads the stream of `src`, writes its pictures to `out`, tells
-/// on `err` how it ended unless all went well, and answers the exit status.
+/// Runs the program on its words, those after its name: does what they ask for, tells on `err` how it ended unless all
+/// went well, and answers the exit status.
 ///
-/// The command that is taken is `decode`, with the options `--workers N` (1 to 64), `--ahead N` (1 to 16) and
-/// `--no-hash`. The pictures are I420: the planes Y, Cb and Cr of each picture, a byte a sample, in output order.
+/// `decode` reads the stream of `src` and writes its pictures to `out`, with the options `--workers N` (1 to 64),
+/// `--ahead N` (1 to 16) and `--no-hash`. The pictures are I420: the planes Y, Cb and Cr of each picture, a byte a
+/// sample, in output order.
+///
+/// `make` writes a stream to `out`, and reads nothing: that of `--seed N` (of 64 bits) with `--pictures K` (1 to 1000).
+/// Both are required.
 pub fn run<R: Threads + Wait + Sync, S: Source, O: Sink, E: Sink, G: Gate + Sync>(
     _rt: &R,
     alloc: Global,
@@ -43,15 +52,24 @@ pub fn run<R: Threads + Wait + Sync, S: Source, O: Sink, E: Sink, G: Gate + Sync
     ensures memory_told { words_taken words.now ≡ None → result.0 ≡ 4
         → Tells (change_of E.contents E.faults err.old err.new) (outcome_line Outcome.Memory) }
 
-    // Else there is an outcome that the status and the line tell, and for which the headline holds.
-    ensures decodes { (options : Options) → words_taken words.now ≡ Some options
+    // To decode a stream: there is an outcome that the status and the line tell, and for which the headline holds.
+    ensures decodes { (options : Options) → words_taken words.now ≡ Some (Decode options)
         → (o : Outcome) × (result.0 ≡ status_of o)
         × Headline (change_of S.left S.faults src.old src.new) (change_of O.contents O.faults out.old out.new) o
         × IsComplete (change_of S.left S.faults src.old src.new) (change_of O.contents O.faults out.old out.new) o
         × Tells (change_of E.contents E.faults err.old err.new) (outcome_line o) }
+
+    // To make one: nothing was read, and there is an outcome that the status and the line tell, all went well or memory
+    // or a write failed, and the stream was written, or a front of it.
+    ensures makes { (options : MakeOptions) → words_taken words.now ≡ Some (Make options)
+        → IsUntouched (change_of S.left S.faults src.old src.new)
+        × (o : Outcome) × (result.0 ≡ status_of o)
+        × Makes (change_of O.contents O.faults out.old out.new) (stream_of options) o
+        × Tells (change_of E.contents E.faults err.old err.new) (outcome_line o) }
 {
     match parse_words(alloc, words) {
-        Ok(options) => run_decode(alloc, options, src, out, err),
+        Ok(Request::Decode(options)) => run_decode(alloc, options, src, out, err),
+        Ok(Request::Make(options)) => run_make(alloc, options, out, err),
         Err(WordsError::Usage) => {
             tell_line(err, USAGE);
             Status(1)
@@ -78,6 +96,22 @@ fn run_decode<S: Source, O: Sink, E: Sink>(
         × Tells (change_of E.contents E.faults err.old err.new) (outcome_line o) }
 {
     let outcome = decode(alloc, options, src, out);
+    tell(outcome, err);
+    outcome.status()
+}
+
+/// Makes a stream, and tells how that ended.
+fn run_make<O: Sink, E: Sink>(
+    alloc: Global,
+    options: MakeOptions,
+    out: &mut O,
+    err: &mut E,
+) -> Status
+    ensures { (o : Outcome) × (result.0 ≡ status_of o)
+        × Makes (change_of O.contents O.faults out.old out.new) (stream_of options) o
+        × Tells (change_of E.contents E.faults err.old err.new) (outcome_line o) }
+{
+    let outcome = make(alloc, options.seed, options.pictures, out);
     tell(outcome, err);
     outcome.status()
 }

@@ -5,16 +5,17 @@ ghost use Rattle.std.specs.Prelude.{option_map};
 ghost use Rattle.clap.specs.Words.{app_of, first_of, found_of, kind_of, rows_of, rule_of, subcommand_rows_of};
 ghost use Rattle.clap.specs.declared.builder.command.Command.TheViews.{out-Command};
 ghost use Rattle.decoder.specs.Options.{IsInRange};
-ghost use Rattle.command_line.specs.Words.{decode_command, flag_rule, is_set, number_given, number_in};
-ghost use Rattle.command_line.specs.Words.{number_rule, options_of, program_command, words_taken};
+ghost use Rattle.command_line.specs.Requests.{AsksInRange};
+ghost use Rattle.command_line.specs.Words.{decode_command, flag_rule, is_set, make_command, making_of, number_given};
+ghost use Rattle.command_line.specs.Words.{number_in, number_rule, options_of, program_command, request_of};
+ghost use Rattle.command_line.specs.Words.{required_rule, words_taken};
 
+use crate::request::{MakeOptions, Request};
 use clap::builder::ValueParser;
 use clap::error::ErrorKind;
 use clap::{Arg, ArgAction, ArgMatches, Command, Error};
+use decoder::Options;
 use std::alloc::{AllocError, Global};
-
-/// What the words ask for.
-pub use decoder::Options;
 
 /// What a faulty command line is answered by.
 pub(crate) const USAGE: &str = "usage: hevcdec decode|hash|list|make [options]\n";
@@ -25,6 +26,8 @@ const DEFAULT: u32 = 4;
 const MOST_WORKERS: u32 = 64;
 /// The most pictures that are decoded at once.
 const MOST_AHEAD: u32 = 16;
+/// The most pictures that are made.
+const MOST_PICTURES: u64 = 1000;
 
 /// Why the words weren't read.
 #[derive(Clone, Copy, Debug, PartialEq, Eq)]
@@ -49,14 +52,14 @@ impl From<AllocError> for WordsError {
 /// What the words ask for: those after the program's name.
 ///
 /// `Usage` exactly where they are a faulty command line, if there is memory.
-pub(crate) fn parse_words(alloc: Global, words: &[String]) -> Result<Options, WordsError>
-    ensures taken { IfOk result (λ o. words_taken words.now ≡ Some o) }
+pub(crate) fn parse_words(alloc: Global, words: &[String]) -> Result<Request, WordsError>
+    ensures taken { IfOk result (λ r. words_taken words.now ≡ Some r) }
     ensures refused { result ≡ Err WordsError.Usage → words_taken words.now ≡ None }
-    ensures in_range { IfOk result IsInRange }
+    ensures in_range { IfOk result AsksInRange }
 {
     let command = program_command(alloc)?;
     match command.try_get_matches_from(words) {
-        Ok(matches) => options_or_usage(&matches),
+        Ok(matches) => request_or_usage(&matches),
         Err(error) => Err(cause_of(&error)),
     }
 }
@@ -73,14 +76,13 @@ fn cause_of(error: &Error) -> WordsError
 }
 
 /// What the matches of the command line ask for.
-fn options_or_usage(matches: &ArgMatches<'_>) -> Result<Options, WordsError>
-    ensures taken { IfOk result (λ o.
-        option_and_then options_of (option_map (λ p. p.1) (subcommand_rows_of matches.now)) ≡ Some o) }
+fn request_or_usage(matches: &ArgMatches<'_>) -> Result<Request, WordsError>
+    ensures taken { IfOk result (λ r. option_and_then request_of (subcommand_rows_of matches.now) ≡ Some r) }
     ensures refused { result ≡ Err WordsError.Usage →
-        option_and_then options_of (option_map (λ p. p.1) (subcommand_rows_of matches.now)) ≡ None }
-    ensures in_range { IfOk result IsInRange }
+        option_and_then request_of (subcommand_rows_of matches.now) ≡ None }
+    ensures in_range { IfOk result AsksInRange }
 {
-    subcommand_options(matches).ok_or(WordsError::Usage)
+    requested(matches).ok_or(WordsError::Usage)
 }
 
 /// The program's command line.
@@ -89,10 +91,12 @@ fn program_command<'a>(alloc: Global) -> Result<Command<'a>, AllocError>
     ensures { IfOk result (λ c. app_of c ≡ program_command) }
 {
     let decode = decode_command(alloc)?;
+    let make = make_command(alloc)?;
     Command::new(alloc, "hevcdec")
         .no_binary_name(true)
         .subcommand_required(true)
-        .subcommand(decode)
+        .subcommand(decode)?
+        .subcommand(make)
 }
 
 /// The command `decode`.
@@ -101,8 +105,8 @@ fn decode_command<'a>(alloc: Global) -> Result<Command<'a>, AllocError>
     ensures app { IfOk result (λ c. app_of c ≡ decode_command) }
     ensures local { IfOk result (λ c. (out-Command c).has_globals ≡ false) }
 {
-    let workers = number_option(alloc, "workers", 64);
-    let ahead = number_option(alloc, "ahead", 16);
+    let workers = number_option(alloc, "workers", 1, 64);
+    let ahead = number_option(alloc, "ahead", 1, 16);
     let no_hash = flag(alloc, "no-hash");
     Command::new(alloc, "decode")
         .arg(workers)?
@@ -110,14 +114,33 @@ fn decode_command<'a>(alloc: Global) -> Result<Command<'a>, AllocError>
         .arg(no_hash)
 }
 
-/// An option whose value is a whole number from 1 to `most`.
-fn number_option<'a>(alloc: Global, name: &'a str, most: u64) -> Arg<'a>
-    ensures rule { rule_of result ≡ number_rule name.entry.now most }
+/// The command `make`.
+#[tactic(auto, unfolding(crate::specs::Words::make_command))]
+fn make_command<'a>(alloc: Global) -> Result<Command<'a>, AllocError>
+    ensures app { IfOk result (λ c. app_of c ≡ make_command) }
+    ensures local { IfOk result (λ c. (out-Command c).has_globals ≡ false) }
+{
+    let seed = required_option(alloc, "seed", 0, u64::MAX);
+    let pictures = required_option(alloc, "pictures", 1, MOST_PICTURES);
+    Command::new(alloc, "make").arg(seed)?.arg(pictures)
+}
+
+/// An option whose value is a whole number from `least` to `most`.
+fn number_option<'a>(alloc: Global, name: &'a str, least: u64, most: u64) -> Arg<'a>
+    ensures rule { rule_of result ≡ number_rule name.entry.now least most }
     ensures local { result.global ≡ false }
 {
     Arg::new(alloc, name)
         .long(name)
-        .value_parser(ValueParser::unsigned(1, most))
+        .value_parser(ValueParser::unsigned(least, most))
+}
+
+/// One that has to be given.
+fn required_option<'a>(alloc: Global, name: &'a str, least: u64, most: u64) -> Arg<'a>
+    ensures rule { rule_of result ≡ required_rule name.entry.now least most }
+    ensures local { result.global ≡ false }
+{
+    number_option(alloc, name, least, most).required(true)
 }
 
 /// An option that has no value.
@@ -128,13 +151,29 @@ fn flag<'a>(alloc: Global, name: &'a str) -> Arg<'a>
     Arg::new(alloc, name).long(name).action(ArgAction::SetTrue)
 }
 
-/// What the matches of the command ask for.
-fn subcommand_options(matches: &ArgMatches<'_>) -> Option<Options>
-    ensures value { result ≡ option_and_then options_of (option_map (λ p. p.1) (subcommand_rows_of matches.now)) }
-    ensures in_range { IfSome result IsInRange }
+/// What the command and its matches ask for.
+fn requested(matches: &ArgMatches<'_>) -> Option<Request>
+    ensures value { result ≡ option_and_then request_of (subcommand_rows_of matches.now) }
+    ensures in_range { IfSome result AsksInRange }
 {
-    let (_, decode) = matches.subcommand()?;
-    options_of(decode)
+    let (name, options) = matches.subcommand()?;
+    if name == "make" {
+        Some(Request::Make(making_of(options)?))
+    } else {
+        Some(Request::Decode(options_of(options)?))
+    }
+}
+
+/// What the matches of `make` ask for.
+fn making_of(make: &ArgMatches<'_>) -> Option<MakeOptions>
+    ensures { result ≡ making_of (rows_of (found_of make.now)) }
+{
+    let seed = number_in(0, u64::MAX, text_of(make, "seed")?)?;
+    let pictures = number_in(1, MOST_PICTURES, text_of(make, "pictures")?)?;
+    Some(MakeOptions {
+        seed,
+        pictures: pictures as u32,
+    })
 }
 
 /// What the matches of `decode` ask for.
@@ -176,18 +215,24 @@ fn number_given(most: u32, text: Option<&str>) -> Option<u32>
     ensures in_range { IfSome result (λ n. (1 ≤ n) × (n ≤ most)) }
 {
     match text {
-        Some(text) => number_in(most, text),
+        Some(text) => Some(number_in(1, u64::from(most), text)? as u32),
         None => Some(DEFAULT),
     }
 }
 
-/// The number from 1 to `most` that a text spells: decimal digits behind at most one plus.
-fn number_in(most: u32, text: &str) -> Option<u32>
-    ensures value { result ≡ number_in most text.now }
-    ensures in_range { IfSome result (λ n. (1 ≤ n) × (n ≤ most)) }
+/// The number from `least` to `most` that a text spells: decimal digits behind at most one plus.
+fn number_in(least: u64, most: u64, text: &str) -> Option<u64>
+    ensures value { result ≡ number_in least most text.now }
+    ensures in_range { IfSome result (λ n. (least ≤ n) × (n ≤ most)) }
 {
-    match text.parse::<u32>() {
-        Ok(n) => { if 1 <= n && n <= most { Some(n) } else { None } }
+    match text.parse::<u64>() {
+        Ok(n) => {
+            if least <= n && n <= most {
+                Some(n)
+            } else {
+                None
+            }
+        }
         Err(_) => None,
     }
 }

@@ -1,4 +1,4 @@
-//! The program `hevcdec`: it decodes H.265 video from its standard input to its standard output.
+//! The program `hevcdec`: it decodes H.265 video from standard input to standard output, or makes a test stream.
 #![tactic(auto)]
 
 use command_line::run;

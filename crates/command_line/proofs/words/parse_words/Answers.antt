@@ -7,14 +7,14 @@ returns-in-Ok-clause-taken c =
     let law =
     taken _ (map string_bytes c.args.words.now) c.in-Ok.matches c.in_ok-command.ensures c.in-Ok.ensures.kinds
     c.in-Ok.ensures.matches in
-    rw law c.options_or_usage.ensures.taken
+    rw law c.request_or_usage.ensures.taken
 
 pub returns-in-Ok-clause-refused : goal.returns-in-Ok-clause-refused
 returns-in-Ok-clause-refused c =
     let law =
     taken _ (map string_bytes c.args.words.now) c.in-Ok.matches c.in_ok-command.ensures c.in-Ok.ensures.kinds
     c.in-Ok.ensures.matches in
-    rw law c.options_or_usage.ensures.refused
+    rw law c.request_or_usage.ensures.refused
 
 pub returns-in-Err-clause-refused : goal.returns-in-Err-clause-refused
 returns-in-Err-clause-refused c = λ e.
