@@ -111,15 +111,15 @@ two_and_six units i inside =
     ∙ sym (append_assoc a (b ++ []) (parts_from units (i + 2) 6 (before_words true))
     ∙ ap (λ l. a ++ l) (append_assoc b [] (parts_from units (i + 2) 6 (before_words true))))
 
-pub row_joined : (units : List PcmUnit) (r : ℕ) (contexts two behind last : List ℕ) → r < 6
+pub row_joined_by : (ended : List ℕ → List ℕ) (units : List PcmUnit) (r : ℕ) (contexts behind last : List ℕ) → r < 6
     → behind ≡ contexts_behind_parts (parts_from units (8 * r) 2 []) contexts
     → last ≡ contexts_behind_parts (parts_from units (8 * r + 2) 6 (before_words true)) behind
     → ((part_bytes (parts_from units (8 * r) 2 []) contexts
     ++ part_bytes (parts_from units (8 * r + 2) 6 (before_words true)) behind)
-    ++ section_bytes (end_words (8 * r + 7)) last)
-    ≡ row_bytes units r contexts
-unfolding row_bytes
-row_joined units r contexts two behind last inside is_behind is_last =
+    ++ ended last)
+    ≡ part_bytes (parts_from units (8 * r) 8 []) contexts
+    ++ ended (contexts_behind_parts (parts_from units (8 * r) 8 []) contexts)
+row_joined_by ended units r contexts behind last inside is_behind is_last =
     let a : List Part = parts_from units (8 * r) 2 [] in
     let b : List Part = parts_from units (8 * r + 2) 6 (before_words true) in
     let all : parts_from units (8 * r) 8 [] ≡ a ++ b = two_and_six units (8 * r) (omega arith) in
@@ -129,5 +129,16 @@ row_joined units r contexts two behind last inside is_behind is_last =
     let end : last ≡ contexts_behind_parts (parts_from units (8 * r) 8 []) contexts =
     is_last ∙ ap (contexts_behind_parts b) is_behind ∙ sym (contexts-append a b contexts)
     ∙ ap (λ l. contexts_behind_parts l contexts) (sym all) in
-    ap (λ l. l ++ section_bytes (end_words (8 * r + 7)) last) bytes
-    ∙ ap (λ c. part_bytes (parts_from units (8 * r) 8 []) contexts ++ section_bytes (end_words (8 * r + 7)) c) end
+    ap (λ l. l ++ ended last) bytes
+    ∙ ap (λ c. part_bytes (parts_from units (8 * r) 8 []) contexts ++ ended c) end
+
+pub row_joined : (units : List PcmUnit) (r : ℕ) (contexts two behind last : List ℕ) → r < 6
+    → behind ≡ contexts_behind_parts (parts_from units (8 * r) 2 []) contexts
+    → last ≡ contexts_behind_parts (parts_from units (8 * r + 2) 6 (before_words true)) behind
+    → ((part_bytes (parts_from units (8 * r) 2 []) contexts
+    ++ part_bytes (parts_from units (8 * r + 2) 6 (before_words true)) behind)
+    ++ section_bytes (end_words (8 * r + 7)) last)
+    ≡ row_bytes units r contexts
+unfolding row_bytes
+row_joined units r contexts two behind last inside is_behind is_last =
+    row_joined_by (section_bytes (end_words (8 * r + 7))) units r contexts behind last inside is_behind is_last

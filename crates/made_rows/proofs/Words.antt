@@ -90,6 +90,14 @@ row_words s m units i =
     sym (with_words_append s (words_from m units i 2) (words_from m units (i + 2) 6))
     ∙ ap (with_words s) (sym (words_later m units i 2 6))
 
+-- two units, then five, and the last without what follows it
+pub row_front : (s : Writing) (m : Motion) (units : List InterUnit) (i : ℕ)
+    → with_words (with_words s (words_from m units i 2)) (words_from m units (i + 2) 5)
+    ≡ with_words s (words_from m units i 7)
+row_front s m units i =
+    sym (with_words_append s (words_from m units i 2) (words_from m units (i + 2) 5))
+    ∙ ap (with_words s) (sym (words_later m units i 2 5))
+
 pub none_from : (m : Motion) (units : List InterUnit) (s whole : Writing) (first k n : ℕ) → n ≤ k
     → with_words s (words_from m units (first + k) (n - k)) ≡ whole → s ≡ whole
 unfolding words_from

@@ -90,6 +90,15 @@ impl BinWriter {
         are_bytes(bytes.as_slice());
         Ok(bytes)
     }
+
+    /// Answers the bytes of all bins, with no terminate bin of 1 behind them.
+    pub fn leave(self) -> Result<Vec<u8>, AllocError>
+        ensures { IfOk result (λ bytes. bytes.items ≡ bytes_of (flushed_bits self.0)) }
+    {
+        let bytes = self.encoder.flush()?;
+        are_bytes(bytes.as_slice());
+        Ok(bytes)
+    }
 }
 
 /// Reading a byte tells its range, so this tells that of all bytes; it costs nothing when it runs.

@@ -16,6 +16,7 @@ ghost use Rattle.std.specs.Prelude.{IfOk};
 ghost use Rattle.cabac_writer.specs.Pulses.{contexts_behind};
 ghost use Rattle.spec_made.specs.Written.{section_bytes};
 ghost use Rattle.spec_made.specs.InterRows.{quarter_words, end_words, words_at, words_from};
+ghost use Rattle.spec_made.specs.Bends.{bare_words};
 ghost use Rattle.made_rows.specs.Small.{AreSmall, AreSmallIn};
 
 use crate::bin_writer::BinWriter;
@@ -205,7 +206,7 @@ fn count_of(left: bool, above: bool) -> usize
 }
 
 /// The difference of a vector that is its predictor, in as many lists.
-fn later_motion(motion: Motion) -> Motion
+pub fn later_motion(motion: Motion) -> Motion
     ensures value { result ≡ later_motion motion }
     ensures small { AreSmall result }
 {
@@ -336,9 +337,9 @@ fn first_motion(motion: Motion, i: usize) -> Motion
     if i == 0 { motion } else { later_motion(motion) }
 }
 
-/// The unit of a number and what follows it.
-#[tactic(auto, using(crate::proofs::Words::with_words_append), unfolding(spec_made::specs::InterRows::words_at))]
-fn write_at(
+/// The unit of a number.
+#[tactic(auto, unfolding(spec_made::specs::Bends::bare_words))]
+pub(crate) fn write_bare(
     writer: &mut BinWriter,
     motion: Motion,
     units: &[InterUnit],
@@ -346,7 +347,7 @@ fn write_at(
 ) -> Result<(), AllocError>
     requires inside { i < length units.now }
     requires small { AreSmall motion }
-    ensures { OnOk result (writer.new ≡ with_words writer.old (words_at motion units.now i)) }
+    ensures { OnOk result (writer.new ≡ with_words writer.old (bare_words motion units.now i)) }
 {
     let first = first_motion(motion, i);
     let later = later_motion(motion);
@@ -357,13 +358,28 @@ fn write_at(
         left_of(units, i),
         above_of(units, i),
         unit_of(units, i),
-    )?;
+    )
+}
+
+/// The unit of a number and what follows it.
+#[tactic(auto, using(crate::proofs::Words::with_words_append), unfolding(spec_made::specs::InterRows::words_at, spec_made::specs::Bends::bare_words))]
+fn write_at(
+    writer: &mut BinWriter,
+    motion: Motion,
+    units: &[InterUnit],
+    i: usize,
+) -> Result<(), AllocError>
+    requires inside { i < length units.now }
+    requires small { AreSmall motion }
+    ensures { OnOk result (writer.new ≡ with_words writer.old (words_at motion units.now i)) }
+{
+    write_bare(writer, motion, units, i)?;
     write_end(writer, i)?;
     Ok(())
 }
 
 /// So many units from one on, and what follows each.
-fn write_from(
+pub(crate) fn write_from(
     writer: &mut BinWriter,
     motion: Motion,
     units: &[InterUnit],

@@ -218,7 +218,7 @@ fn append_unit(
 }
 
 /// Appends so many units from one on, and answers the contexts behind them.
-fn append_from(
+pub(crate) fn append_from(
     alloc: Global,
     row: &mut Vec<u8>,
     contexts: [u8; 154],

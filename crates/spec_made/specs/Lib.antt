@@ -5,3 +5,5 @@ pub mod PcmRows
 pub mod Planes
 pub mod Headers
 pub mod Stream
+pub mod Bends
+pub mod Flat

@@ -3,4 +3,5 @@ pub mod Codes
 pub mod Rows
 pub mod Hashes
 pub mod Pictures
+pub mod Plain
 pub mod Writings

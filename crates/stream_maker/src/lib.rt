@@ -7,7 +7,8 @@ mod output;
 mod slices;
 mod stream;
 
-pub use output::make;
+pub use output::{make, make_bent, make_flat};
+pub use spec_made::{Bend, BendKind};
 
 #[cfg(test)]
 mod tests;

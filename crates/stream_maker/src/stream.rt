@@ -3,15 +3,19 @@
 ghost use Rattle.std.specs.Prelude.{◌≡◌, ◌%◌, ◌<◌, ◌++◌, OnOk, IfOk};
 ghost use Rattle.md5.specs.Md5.{md5};
 ghost use Rattle.spec_made.specs.Written.{unit_behind_code};
-ghost use Rattle.spec_made.specs.Stream.{hash_unit, idr_made, inter_made, picture_made, set_units, start_of};
+ghost use Rattle.spec_made.specs.Stream.{hash_unit, set_units, start_of};
+ghost use Rattle.spec_made.specs.Flat.{idr_by, inter_by, motion_told, picture_by};
+ghost use Rattle.made_rows.specs.Small.{AreSmall};
 
 use crate::escaping::append_unit;
 use crate::headers::{idr_header, inter_header};
 use crate::slices::{SliceData, inter_data, pcm_data};
 use hash_sei::plane_md5;
 use made_pictures::{Picture, inter_units, motion, pcm_units};
+use made_rows::later_motion;
 use rand_core::SeedableRng;
 use rand_pcg::Lcg64Xsh32;
+use spec_made::{Bend, Motion};
 use std::alloc::{AllocError, Global};
 use std::marker::Model;
 
@@ -76,15 +80,38 @@ fn append_hashes(alloc: Global, out: &mut Vec<u8>, picture: &Picture) -> Result<
     append_unit(out, 40, payload.as_slice())
 }
 
-/// Appends an IDR picture.
-#[tactic(auto, using(crate::proofs::Lists::appended), unfolding(spec_made::specs::Stream::idr_made))]
-fn append_idr(alloc: Global, out: &mut Vec<u8>, making: Making) -> Result<Making, AllocError>
-    ensures bytes { OnOk result (out.new.items ≡ out.old.items ++ (idr_made making).0) }
-    ensures behind { IfOk result (λ behind. behind ≡ (idr_made making).1) }
+/// How pictures differ from those of a seed.
+#[derive(Drop)]
+pub(crate) struct Turned<'a> {
+    /// Whether all vectors, which are drawn, are 0.
+    pub(crate) flat: bool,
+    /// Which rows are spoiled.
+    pub(crate) bends: &'a [Bend],
+}
+
+impl<'a> Model for Turned<'a> {
+    ghost use Rattle.spec_made.specs.Flat.{Turned as Told};
+
+    ghost Value = { Told };
+
+    ghost view = { λ t. record { flat = t.flat; bends = t.bends.now } };
+}
+
+/// Appends the IDR picture of a number.
+#[tactic(auto, using(crate::proofs::Lists::appended), unfolding(spec_made::specs::Flat::idr_by))]
+fn append_idr(
+    alloc: Global,
+    out: &mut Vec<u8>,
+    turned: &Turned<'_>,
+    j: u32,
+    making: Making,
+) -> Result<Making, AllocError>
+    ensures bytes { OnOk result (out.new.items ≡ out.old.items ++ (idr_by turned.now j making).0) }
+    ensures behind { IfOk result (λ behind. behind ≡ (idr_by turned.now j making).1) }
 {
     let mut generator = making.generator;
     let units = pcm_units(alloc, &mut generator)?;
-    let data = pcm_data(alloc, units.as_slice())?;
+    let data = pcm_data(alloc, turned.bends, j, units.as_slice())?;
     let header = idr_header(alloc, data.offsets.as_slice())?;
     append_slice(out, 19, header, &data)?;
     let picture = Picture::of_units(alloc, units.as_slice())?;
@@ -96,23 +123,35 @@ fn append_idr(alloc: Global, out: &mut Vec<u8>, making: Making) -> Result<Making
     })
 }
 
-/// Appends a P picture, where both references aren't used, or a B picture.
-#[tactic(auto, using(crate::proofs::Lists::appended), unfolding(spec_made::specs::Stream::inter_made))]
+/// The vectors that are told of a picture, by those that are drawn.
+fn motion_told(flat: bool, drawn: Motion) -> Motion
+    requires { AreSmall drawn }
+    ensures value { result ≡ motion_told flat drawn }
+    ensures small { AreSmall result }
+{
+    if flat { later_motion(drawn) } else { drawn }
+}
+
+/// Appends the P or B picture of a number: a P picture where both references aren't used.
+#[tactic(auto, using(crate::proofs::Lists::appended), unfolding(spec_made::specs::Flat::inter_by))]
 fn append_inter(
     alloc: Global,
     out: &mut Vec<u8>,
-    making: Making,
-    poc: u32,
+    turned: &Turned<'_>,
+    j: u32,
     both: bool,
+    poc: u32,
+    making: Making,
 ) -> Result<Making, AllocError>
     requires { poc < 256 }
-    ensures bytes { OnOk result (out.new.items ≡ out.old.items ++ (inter_made both poc making).0) }
-    ensures behind { IfOk result (λ behind. behind ≡ (inter_made both poc making).1) }
+    ensures bytes { OnOk result (out.new.items ≡ out.old.items ++ (inter_by turned.now j both poc making).0) }
+    ensures behind { IfOk result (λ behind. behind ≡ (inter_by turned.now j both poc making).1) }
 {
     let mut generator = making.generator;
-    let motion = motion(&mut generator, both);
+    let drawn = motion(&mut generator, both);
+    let motion = motion_told(turned.flat, drawn);
     let units = inter_units(alloc, &mut generator)?;
-    let data = inter_data(alloc, motion, units.as_slice())?;
+    let data = inter_data(alloc, turned.bends, j, motion, units.as_slice())?;
     let header = inter_header(alloc, motion.second, poc, data.offsets.as_slice())?;
     append_slice(out, if both { 0 } else { 1 }, header, &data)?;
     let picture = Picture::predicted(alloc, &making.older, &making.last, motion)?;
@@ -133,23 +172,24 @@ fn append_inter(
 }
 
 /// Appends the picture of a number.
-#[tactic(auto, unfolding(spec_made::specs::Stream::picture_made))]
+#[tactic(auto, unfolding(spec_made::specs::Flat::picture_by))]
 pub(crate) fn append_picture(
     alloc: Global,
     out: &mut Vec<u8>,
-    making: Making,
+    turned: &Turned<'_>,
     j: u32,
+    making: Making,
 ) -> Result<Making, AllocError>
-    ensures bytes { OnOk result (out.new.items ≡ out.old.items ++ (picture_made (j % 8) making).0) }
-    ensures behind { IfOk result (λ behind. behind ≡ (picture_made (j % 8) making).1) }
+    ensures bytes { OnOk result (out.new.items ≡ out.old.items ++ (picture_by turned.now j making).0) }
+    ensures behind { IfOk result (λ behind. behind ≡ (picture_by turned.now j making).1) }
 {
     let g = j % 8;
     if g == 0 {
-        append_idr(alloc, out, making)
+        append_idr(alloc, out, turned, j, making)
     } else if g % 2 == 1 {
-        append_inter(alloc, out, making, g + 1, false)
+        append_inter(alloc, out, turned, j, false, g + 1, making)
     } else {
-        append_inter(alloc, out, making, g - 1, true)
+        append_inter(alloc, out, turned, j, true, g - 1, making)
     }
 }
 

@@ -1,5 +1,6 @@
-use Rattle.std.proofs.Common.{refl, rules, drop}
-use Rattle.spec_made.specs.PcmRows.{pcm_row, pcm_contexts_at}
+use Rattle.std.proofs.Common.{◌∙◌, ◌++◌, ap, refl, rules, drop}
+use Rattle.spec_made.specs.PcmRows.{pcm_contexts_at}
+use Rattle.spec_made.specs.Bends.{bend_at, pcm_row_by}
 use Rattle.stream_maker.proofs.Rows.{rows_step}
 use Rattle.stream_maker.proofs.slices.pcm_data.Goals as goal
 
@@ -14,10 +15,12 @@ loop-r-init c = record {
 pub loop-r-preserved : goal.loop-r-preserved
 loop-r-preserved c = record {
   rows =
-      rows_step (pcm_row c.args.units.now) c.loop-r.r c.len-before.result c.in_ok-offset_behind.field-0
+      rows_step (λ r. pcm_row_by (bend_at c.args.bends.now c.args.picture r) c.args.units.now r) c.loop-r.r c.len-before.result c.in_ok-offset_behind.field-0
       c.loop-r.bytes.items c.append_pcm_row.new.bytes.items
       (drop c.len-before.result c.append_pcm_row.new.bytes.items) c.loop-r.offsets.items c.push.new.self.items
-      c.loop-r.invariant.rows c.in_ok-contexts.ensures.bytes (search rules) refl (search rules) (search rules);
+      c.loop-r.invariant.rows
+      (c.in_ok-contexts.ensures.bytes ∙ ap (λ b. c.loop-r.bytes.items ++ pcm_row_by b c.args.units.now c.loop-r.r) c.bend_at-bend.ensures)
+      (search rules) refl (search rules) (search rules);
   contexts = c.in_ok-contexts.ensures.behind;
   small = c.in_ok-contexts.ensures.small;
 }
