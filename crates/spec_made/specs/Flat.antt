@@ -1,5 +1,5 @@
 -- Streams as those of a seed, whose pictures may stand still and whose rows may be spoiled.
-use Rattle.std.specs.Prelude.{ℕ, zero, suc, ◌+◌, ◌-◌, ◌%◌, ◌==◌, Bool, true, false, List, [], ◌∷◌, ◌++◌, if◌then◌else◌}
+use Rattle.std.specs.Prelude.{ℕ, zero, suc, ◌+◌, ◌-◌, ◌%◌, ◌==◌, Bool, true, false, List, [], ◌++◌, if◌then◌else◌}
 use Rattle.spec_made.specs.declared.bends.Bend.{Bend}
 use Rattle.spec_made.specs.declared.units.Motion.{Motion}
 use Rattle.spec_made.specs.Draws.{pcm_units_of, inter_units_of, motion_of}
