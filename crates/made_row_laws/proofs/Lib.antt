@@ -1,0 +1,17 @@
+pub mod Short
+pub mod Taking
+pub mod Vectors
+pub mod Predicted
+pub mod Quadtree
+pub mod Pcm
+pub mod Sides
+pub mod Driving
+pub mod Drawn
+pub mod Inner
+pub mod Contexts
+pub mod Started
+pub mod InterRow
+pub mod PcmRow
+pub mod Reading
+pub mod Pictures
+pub mod Ranges

@@ -1,0 +1,5 @@
+pub mod Shapes
+pub mod Units
+pub mod Words
+pub mod Rows
+pub mod Answers
