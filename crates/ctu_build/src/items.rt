@@ -1,15 +1,16 @@
 //! What single items tell.
 
-ghost use Rattle.std.specs.Prelude.{◌≡◌, ◌≤◌};
+ghost use Rattle.std.specs.Prelude.{◌≡◌, ◌≤◌, if◌then◌else◌};
 ghost use Rattle.std.specs.List.{All};
-ghost use Rattle.ctu_build.specs.Building.{building};
 ghost use Rattle.ctu_build.specs.Held.{held};
 ghost use Rattle.ctu_build.specs.Inter.{IsReady, inter_of};
+ghost use Rattle.ctu_motion.specs.Held.{held as motion_held};
 ghost use Rattle.ctu_records.specs.Tree.{luma_mode_at, qp_at};
 ghost use Rattle.spec_reconstruction.specs.Inter.{prediction_laid};
+ghost use Rattle.spec_reconstruction.specs.Prediction.{unit_predicted};
 ghost use Rattle.spec_reconstruction.specs.Pulses.{pulses_laid};
 ghost use Rattle.spec_reconstruction.specs.Sound.{AreSound, IsCoded, IsFormat, IsPrediction, IsSound, IsSquare};
-ghost use Rattle.spec_reconstruction.specs.Unit.{block_constructed, transform_predicted};
+ghost use Rattle.spec_reconstruction.specs.Unit.{block_constructed};
 ghost use Rattle.spec_transforms.specs.Scaling.{IsParameter};
 
 use crate::blocks::{InUnit, construct};
@@ -30,19 +31,21 @@ use spec_reconstruction::UnitFormat;
 /// Predicts the block of a prediction unit.
 #[tactic(auto, using(crate::proofs::Parts::prediction_placed))]
 pub(crate) fn build_prediction<V: RefWindow>(
-    source: &Source<'_, V>,
+    source: &Source<'_>,
+    view: &mut V,
     prediction: &PredictionUnit,
     scratch: &mut Scratch,
     samples: &mut UnitSamples,
 )
-    requires ready { IsReady source.now.format.now source.now.inter (V.reference_at source.now.view.now) }
-    ensures { IsPrediction prediction.now
+    requires ready { IsReady source.now.format.now source.now.inter (V.reference_at view.old) }
+    ensures value { IsPrediction prediction.now
         → held samples.new
-        ≡ prediction_laid source.now.format.now (inter_of source.now.inter (V.reference_at source.now.view.now))
+        ≡ prediction_laid source.now.format.now (inter_of source.now.inter (V.reference_at view.old))
         prediction.now (held samples.old) }
+    ensures same { V.reference_at view.new ≡ V.reference_at view.old }
 {
     if is_placed(prediction) {
-        lay_prediction(source, prediction, scratch, samples);
+        lay_prediction(source, view, prediction, scratch, samples);
     }
 }
 
@@ -64,19 +67,21 @@ pub(crate) fn build_pulses(
 }
 
 /// Predicts the blocks of a transform unit where its coding unit is intra.
-pub(crate) fn build_transform<V: RefWindow>(
-    source: &Source<'_, V>,
+pub(crate) fn build_transform(
+    source: &Source<'_>,
     coding: Coding,
     square: Square,
     scratch: &mut Scratch,
     samples: &mut UnitSamples,
 )
-    requires ready { IsReady source.now.format.now source.now.inter (V.reference_at source.now.view.now) }
+    requires format { IsFormat source.now.format.now }
     requires mode { coding.chroma_mode ≤ 34 }
     ensures { AreSound source.now.format.now source.now.records.now.items → IsSquare square
         → held samples.new
-        ≡ transform_predicted source.now.format.now (inter_of source.now.inter (V.reference_at source.now.view.now))
-        source.now.records.now.items (building coding (held samples.old)) square }
+        ≡ (if coding.mode.intra
+        then unit_predicted source.now.format.now (motion_held source.now.inter.motion.now)
+        (luma_mode_at source.now.records.now.items square.x square.y) coding.chroma_mode square (held samples.old)
+        else held samples.old) }
 {
     if coding.mode.intra && is_square(square) {
         let intra = IntraUnit {
@@ -89,15 +94,15 @@ pub(crate) fn build_transform<V: RefWindow>(
 }
 
 /// Adds the residuals of a coded block, whose levels are the next items.
-pub(crate) fn build_block<V: RefWindow>(
-    source: &Source<'_, V>,
+pub(crate) fn build_block(
+    source: &Source<'_>,
     coding: Coding,
     block: CodedBlock,
     behind: &[Item],
     scratch: &mut Scratch,
     samples: &mut UnitSamples,
 )
-    requires ready { IsReady source.now.format.now source.now.inter (V.reference_at source.now.view.now) }
+    requires format { IsFormat source.now.format.now }
     ensures { AreSound source.now.format.now source.now.records.now.items → IsCoded block
         → held samples.new
         ≡ block_constructed source.now.format.now source.now.records.now.items coding.mode block behind.now

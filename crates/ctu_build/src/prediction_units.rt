@@ -33,22 +33,24 @@ fn samples_of(c: u8, block: Rectangle) -> Rectangle
 
 /// Predicts the samples of a component of a block of places by a motion.
 fn predict_component<V: RefWindow>(
-    source: &Source<'_, V>,
+    source: &Source<'_>,
+    view: &mut V,
     block: Rectangle,
     motion: &Motion,
     c: u8,
     scratch: &mut Scratch,
     samples: &mut UnitSamples,
 )
-    requires ready { IsReady source.now.format.now source.now.inter (V.reference_at source.now.view.now) }
+    requires ready { IsReady source.now.format.now source.now.inter (V.reference_at view.old) }
     requires block { IsBlock block }
     requires c { c < 3 }
-    ensures { held samples.new
-        ≡ component_predicted source.now.format.now (inter_of source.now.inter (V.reference_at source.now.view.now))
+    ensures value { held samples.new
+        ≡ component_predicted source.now.format.now (inter_of source.now.inter (V.reference_at view.old))
         block motion.now c (held samples.old) }
+    ensures same { V.reference_at view.new ≡ V.reference_at view.old }
 {
     predict(
-        source.view,
+        view,
         &source.inter,
         source.format,
         block,
@@ -63,25 +65,27 @@ fn predict_component<V: RefWindow>(
 /// Predicts the block of a prediction unit by the motion of its first place. Without motion nothing is laid.
 #[tactic(auto, unfolding(spec_reconstruction::specs::Inter::prediction_laid))]
 pub(crate) fn lay_prediction<V: RefWindow>(
-    source: &Source<'_, V>,
+    source: &Source<'_>,
+    view: &mut V,
     prediction: &PredictionUnit,
     scratch: &mut Scratch,
     samples: &mut UnitSamples,
 )
-    requires ready { IsReady source.now.format.now source.now.inter (V.reference_at source.now.view.now) }
+    requires ready { IsReady source.now.format.now source.now.inter (V.reference_at view.old) }
     requires placed { IsPlaced prediction.now }
-    ensures { held samples.new
-        ≡ prediction_laid source.now.format.now (inter_of source.now.inter (V.reference_at source.now.view.now))
+    ensures value { held samples.new
+        ≡ prediction_laid source.now.format.now (inter_of source.now.inter (V.reference_at view.old))
         prediction.now (held samples.old) }
+    ensures same { V.reference_at view.new ≡ V.reference_at view.old }
 {
     let block = part_block(prediction);
     let (column, row) = (usize::from(block.x) + 1, usize::from(block.y) + 1);
     match source.inter.motion.motion(column, row) {
         None => {}
         Some(motion) => {
-            predict_component(source, block, &motion, 0, scratch, samples);
-            predict_component(source, block, &motion, 1, scratch, samples);
-            predict_component(source, block, &motion, 2, scratch, samples);
+            predict_component(source, view, block, &motion, 0, scratch, samples);
+            predict_component(source, view, block, &motion, 1, scratch, samples);
+            predict_component(source, view, block, &motion, 2, scratch, samples);
         }
     }
 }

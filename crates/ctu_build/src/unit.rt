@@ -35,43 +35,45 @@ pub fn build_ctu<V: RefWindow>(
     records: &Records,
     format: &UnitFormat,
     inter: &UnitInter<'_>,
-    view: &V,
+    view: &mut V,
     scratch: &mut Scratch,
     samples: &mut UnitSamples,
 )
     requires format { IsFormat format.now }
     requires weighting { IsSliceWeighting inter.now.weighting.now }
     requires place { (inter.now.column ≤ 8192) × (inter.now.row ≤ 8192) }
-    requires small { AreSmall format.now (V.reference_at view.now) }
+    requires small { AreSmall format.now (V.reference_at view.old) }
     ensures value { AreSound format.now records.now.items
         → held samples.new
         ≡ unit_built format.now
         (inter_unit (motion_held inter.now.motion.now) inter.now.slice.now inter.now.weighting.now
-        (V.reference_at view.now) inter.now.column inter.now.row)
+        (V.reference_at view.old) inter.now.column inter.now.row)
         records.now.items (held samples.old) }
+    ensures same { V.reference_at view.new ≡ V.reference_at view.old }
 {
     let source = Source {
         records,
         format,
         inter: *inter,
-        view,
     };
-    build_items(&source, records.items(), scratch, samples);
+    build_items(&source, view, records.items(), scratch, samples);
 }
 
 /// Builds what items tell, one after the other.
 fn build_items<V: RefWindow>(
-    source: &Source<'_, V>,
+    source: &Source<'_>,
+    view: &mut V,
     items: &[Item],
     scratch: &mut Scratch,
     samples: &mut UnitSamples,
 )
-    requires ready { IsReady source.now.format.now source.now.inter (V.reference_at source.now.view.now) }
-    ensures { AreSound source.now.format.now source.now.records.now.items
+    requires ready { IsReady source.now.format.now source.now.inter (V.reference_at view.old) }
+    ensures value { AreSound source.now.format.now source.now.records.now.items
         → All (IsSound source.now.format.now) items.now
-        → (items_built source.now.format.now (inter_of source.now.inter (V.reference_at source.now.view.now))
+        → (items_built source.now.format.now (inter_of source.now.inter (V.reference_at view.old))
         source.now.records.now.items items.now (before_unit (held samples.old))).known
         ≡ held samples.new }
+    ensures same { V.reference_at view.new ≡ V.reference_at view.old }
 {
     let mut coding = before_unit();
     for k in 0..items.len() {
@@ -79,26 +81,28 @@ fn build_items<V: RefWindow>(
             item: items[k],
             behind: &items[k + 1..],
         };
-        coding = build_item(source, coding, &next, scratch, samples);
+        coding = build_item(source, view, coding, &next, scratch, samples);
     }
 }
 
 /// Builds what an item tells, with the items behind it.
 fn build_item<V: RefWindow>(
-    source: &Source<'_, V>,
+    source: &Source<'_>,
+    view: &mut V,
     coding: Coding,
     next: &Next<'_>,
     scratch: &mut Scratch,
     samples: &mut UnitSamples,
 ) -> Coding
-    requires ready { IsReady source.now.format.now source.now.inter (V.reference_at source.now.view.now) }
+    requires ready { IsReady source.now.format.now source.now.inter (V.reference_at view.old) }
     requires mode { coding.chroma_mode ≤ 34 }
     ensures value { AreSound source.now.format.now source.now.records.now.items
         → IsSound source.now.format.now next.now.item → All (IsSound source.now.format.now) next.now.behind.now
         → building result (held samples.new)
-        ≡ item_built source.now.format.now (inter_of source.now.inter (V.reference_at source.now.view.now))
+        ≡ item_built source.now.format.now (inter_of source.now.inter (V.reference_at view.old))
         source.now.records.now.items (building coding (held samples.old)) next.now.item next.now.behind.now }
     ensures mode { result.chroma_mode ≤ 34 }
+    ensures same { V.reference_at view.new ≡ V.reference_at view.old }
 {
     match next.item {
         Item::Unit(begun) => Coding {
@@ -110,7 +114,7 @@ fn build_item<V: RefWindow>(
             chroma_mode: mode.min(34),
         },
         Item::Prediction(prediction) => {
-            build_prediction(source, &prediction, scratch, samples);
+            build_prediction(source, view, &prediction, scratch, samples);
             coding
         }
         Item::Pcm(square) => {

@@ -24,7 +24,7 @@ pub struct Fractions {
 
 /// The prediction of a block. `first` begins where the samples begin that the filters meet, and has the block's size.
 pub fn interpolate<V: RefWindow, const TAPS: usize>(
-    view: &V,
+    view: &mut V,
     first: Window,
     fractions: Fractions,
     depth: u32,
@@ -36,11 +36,12 @@ pub fn interpolate<V: RefWindow, const TAPS: usize>(
     requires depth { IsDepth depth }
     requires size { (first.width ≤ 64) × (first.height ≤ 64) }
     requires place { (first.x ≤ℤ pos 536870912) × (first.y ≤ℤ pos 536870912) }
-    requires small { (x y : ℤ) → V.reference_at view.now first.picture first.component x y < 2 ^ depth }
-    ensures { (x y : ℕ) → x < first.width → y < first.height
+    requires small { (x y : ℤ) → V.reference_at view.old first.picture first.component x y < 2 ^ depth }
+    ensures value { (x y : ℕ) → x < first.width → y < first.height
         → at_z out.new (64 * y + x) ≡ filtered (filter TAPS fractions.across) (filter TAPS fractions.down) depth
-        (λ i j. pos (V.reference_at view.now first.picture first.component (first.x +ℤ pos x +ℤ pos i)
+        (λ i j. pos (V.reference_at view.old first.picture first.component (first.x +ℤ pos x +ℤ pos i)
         (first.y +ℤ pos y +ℤ pos j))) }
+    ensures same { V.reference_at view.new ≡ V.reference_at view.old }
 {
     if depth == 8 {
         interpolate_bytes::<V, TAPS>(view, first, fractions, scratch, out);
@@ -53,7 +54,7 @@ pub fn interpolate<V: RefWindow, const TAPS: usize>(
 
 /// The prediction of a block at whole samples, which no filter changes.
 fn whole<V: RefWindow, const TAPS: usize>(
-    view: &V,
+    view: &mut V,
     first: Window,
     depth: u32,
     scratch: &mut Scratch,
@@ -63,11 +64,12 @@ fn whole<V: RefWindow, const TAPS: usize>(
     requires depth { IsDepth depth }
     requires size { (first.width ≤ 64) × (first.height ≤ 64) }
     requires place { (first.x ≤ℤ pos 536870912) × (first.y ≤ℤ pos 536870912) }
-    requires small { (x y : ℤ) → V.reference_at view.now first.picture first.component x y < 2 ^ depth }
-    ensures { (x y : ℕ) → x < first.width → y < first.height
+    requires small { (x y : ℤ) → V.reference_at view.old first.picture first.component x y < 2 ^ depth }
+    ensures value { (x y : ℕ) → x < first.width → y < first.height
         → at_z out.new (64 * y + x) ≡ filtered (filter TAPS 0) (filter TAPS 0) depth
-        (λ i j. pos (V.reference_at view.now first.picture first.component (first.x +ℤ pos x +ℤ pos i)
+        (λ i j. pos (V.reference_at view.old first.picture first.component (first.x +ℤ pos x +ℤ pos i)
         (first.y +ℤ pos y +ℤ pos j))) }
+    ensures same { V.reference_at view.new ≡ V.reference_at view.old }
 {
     let before = (TAPS / 2) as i32 - 1;
     let place = Window {
@@ -81,7 +83,7 @@ fn whole<V: RefWindow, const TAPS: usize>(
 
 /// The prediction of a block by the filters.
 fn between<V: RefWindow, const TAPS: usize>(
-    view: &V,
+    view: &mut V,
     first: Window,
     fractions: Fractions,
     depth: u32,
@@ -93,11 +95,12 @@ fn between<V: RefWindow, const TAPS: usize>(
     requires depth { IsDepth depth }
     requires size { (first.width ≤ 64) × (first.height ≤ 64) }
     requires place { (first.x ≤ℤ pos 536870912) × (first.y ≤ℤ pos 536870912) }
-    requires small { (x y : ℤ) → V.reference_at view.now first.picture first.component x y < 2 ^ depth }
-    ensures { (x y : ℕ) → x < first.width → y < first.height
+    requires small { (x y : ℤ) → V.reference_at view.old first.picture first.component x y < 2 ^ depth }
+    ensures value { (x y : ℕ) → x < first.width → y < first.height
         → at_z out.new (64 * y + x) ≡ filtered (filter TAPS fractions.across) (filter TAPS fractions.down) depth
-        (λ i j. pos (V.reference_at view.now first.picture first.component (first.x +ℤ pos x +ℤ pos i)
+        (λ i j. pos (V.reference_at view.old first.picture first.component (first.x +ℤ pos x +ℤ pos i)
         (first.y +ℤ pos y +ℤ pos j))) }
+    ensures same { V.reference_at view.new ≡ V.reference_at view.old }
 {
     let (width, height) = (first.width, first.height);
     let window = Window {

@@ -66,7 +66,7 @@ fn chroma_first(place: u32, v: i16) -> i32
 /// Writes the luma prediction of a block by a vector (8.5.3.3.3.2), on a scale of 14 bits, in lines of 64. `depth` is
 /// the bit depth of the reference picture, below which its samples are.
 pub fn luma<V: RefWindow>(
-    view: &V,
+    view: &mut V,
     picture: u32,
     block: PredictionBlock,
     mv: Mv,
@@ -77,10 +77,11 @@ pub fn luma<V: RefWindow>(
     requires depth { IsDepth depth }
     requires size { (block.width ≤ 64) × (block.height ≤ 64) }
     requires place { (block.x ≤ 65536) × (block.y ≤ 65536) }
-    requires small { (x y : ℤ) → V.reference_at view.now picture 0 x y < 2 ^ depth }
-    ensures { (x y : ℕ) → x < block.width → y < block.height
+    requires small { (x y : ℤ) → V.reference_at view.old picture 0 x y < 2 ^ depth }
+    ensures value { (x y : ℕ) → x < block.width → y < block.height
         → at_z out.new (64 * y + x)
-        ≡ luma_sample depth (V.reference_at view.now picture 0) mv.x mv.y (block.x + x) (block.y + y) }
+        ≡ luma_sample depth (V.reference_at view.old picture 0) mv.x mv.y (block.x + x) (block.y + y) }
+    ensures same { V.reference_at view.new ≡ V.reference_at view.old }
 {
     let first = Window {
         picture,
@@ -100,7 +101,7 @@ pub fn luma<V: RefWindow>(
 /// Writes the prediction of a block of a chroma component by a vector (8.5.3.3.3.3), on a scale of 14 bits, in lines of
 /// 64. The vector is that of the luma block, so it counts eighths of a chroma sample.
 pub fn chroma<V: RefWindow>(
-    view: &V,
+    view: &mut V,
     picture: u32,
     component: u8,
     block: PredictionBlock,
@@ -112,10 +113,11 @@ pub fn chroma<V: RefWindow>(
     requires depth { IsDepth depth }
     requires size { (block.width ≤ 64) × (block.height ≤ 64) }
     requires place { (block.x ≤ 65536) × (block.y ≤ 65536) }
-    requires small { (x y : ℤ) → V.reference_at view.now picture component x y < 2 ^ depth }
-    ensures { (x y : ℕ) → x < block.width → y < block.height
+    requires small { (x y : ℤ) → V.reference_at view.old picture component x y < 2 ^ depth }
+    ensures value { (x y : ℕ) → x < block.width → y < block.height
         → at_z out.new (64 * y + x)
-        ≡ chroma_sample depth (V.reference_at view.now picture component) mv.x mv.y (block.x + x) (block.y + y) }
+        ≡ chroma_sample depth (V.reference_at view.old picture component) mv.x mv.y (block.x + x) (block.y + y) }
+    ensures same { V.reference_at view.new ≡ V.reference_at view.old }
 {
     let first = Window {
         picture,

@@ -16,7 +16,7 @@ use crate::window::{Window, gather_bytes};
 
 /// The prediction of a block. `first` begins where the samples begin that the filters meet, and has the block's size.
 pub fn interpolate_bytes<V: RefWindow, const TAPS: usize>(
-    view: &V,
+    view: &mut V,
     first: Window,
     fractions: Fractions,
     scratch: &mut Scratch,
@@ -26,11 +26,12 @@ pub fn interpolate_bytes<V: RefWindow, const TAPS: usize>(
     requires fractions { (fractions.across < 8) × (fractions.down < 8) }
     requires size { (first.width ≤ 64) × (first.height ≤ 64) }
     requires place { (first.x ≤ℤ pos 536870912) × (first.y ≤ℤ pos 536870912) }
-    requires small { (x y : ℤ) → V.reference_at view.now first.picture first.component x y < 256 }
-    ensures { (x y : ℕ) → x < first.width → y < first.height
+    requires small { (x y : ℤ) → V.reference_at view.old first.picture first.component x y < 256 }
+    ensures value { (x y : ℕ) → x < first.width → y < first.height
         → at_z out.new (64 * y + x) ≡ filtered (filter TAPS fractions.across) (filter TAPS fractions.down) 8
-        (λ i j. pos (V.reference_at view.now first.picture first.component (first.x +ℤ pos x +ℤ pos i)
+        (λ i j. pos (V.reference_at view.old first.picture first.component (first.x +ℤ pos x +ℤ pos i)
         (first.y +ℤ pos y +ℤ pos j))) }
+    ensures same { V.reference_at view.new ≡ V.reference_at view.old }
 {
     match (fractions.across, fractions.down) {
         (0, 0) => whole::<V, TAPS>(view, first, scratch, out),
@@ -42,7 +43,7 @@ pub fn interpolate_bytes<V: RefWindow, const TAPS: usize>(
 
 /// A block at whole samples.
 fn whole<V: RefWindow, const TAPS: usize>(
-    view: &V,
+    view: &mut V,
     first: Window,
     scratch: &mut Scratch,
     out: &mut Prediction,
@@ -50,11 +51,12 @@ fn whole<V: RefWindow, const TAPS: usize>(
     requires taps { (TAPS ≡ 8) ⊎ (TAPS ≡ 4) }
     requires size { (first.width ≤ 64) × (first.height ≤ 64) }
     requires place { (first.x ≤ℤ pos 536870912) × (first.y ≤ℤ pos 536870912) }
-    requires small { (x y : ℤ) → V.reference_at view.now first.picture first.component x y < 256 }
-    ensures { (x y : ℕ) → x < first.width → y < first.height
+    requires small { (x y : ℤ) → V.reference_at view.old first.picture first.component x y < 256 }
+    ensures value { (x y : ℕ) → x < first.width → y < first.height
         → at_z out.new (64 * y + x) ≡ filtered (filter TAPS 0) (filter TAPS 0) 8
-        (λ i j. pos (V.reference_at view.now first.picture first.component (first.x +ℤ pos x +ℤ pos i)
+        (λ i j. pos (V.reference_at view.old first.picture first.component (first.x +ℤ pos x +ℤ pos i)
         (first.y +ℤ pos y +ℤ pos j))) }
+    ensures same { V.reference_at view.new ≡ V.reference_at view.old }
 {
     let before = (TAPS / 2) as i32 - 1;
     let wide = in_eights(first.width);
@@ -70,7 +72,7 @@ fn whole<V: RefWindow, const TAPS: usize>(
 
 /// A block at whole lines and a fraction of a column.
 fn across<V: RefWindow, const TAPS: usize>(
-    view: &V,
+    view: &mut V,
     first: Window,
     fraction: u32,
     scratch: &mut Scratch,
@@ -80,11 +82,12 @@ fn across<V: RefWindow, const TAPS: usize>(
     requires fraction { fraction < 8 }
     requires size { (first.width ≤ 64) × (first.height ≤ 64) }
     requires place { (first.x ≤ℤ pos 536870912) × (first.y ≤ℤ pos 536870912) }
-    requires small { (x y : ℤ) → V.reference_at view.now first.picture first.component x y < 256 }
-    ensures { (x y : ℕ) → x < first.width → y < first.height
+    requires small { (x y : ℤ) → V.reference_at view.old first.picture first.component x y < 256 }
+    ensures value { (x y : ℕ) → x < first.width → y < first.height
         → at_z out.new (64 * y + x) ≡ filtered (filter TAPS fraction) (filter TAPS 0) 8
-        (λ i j. pos (V.reference_at view.now first.picture first.component (first.x +ℤ pos x +ℤ pos i)
+        (λ i j. pos (V.reference_at view.old first.picture first.component (first.x +ℤ pos x +ℤ pos i)
         (first.y +ℤ pos y +ℤ pos j))) }
+    ensures same { V.reference_at view.new ≡ V.reference_at view.old }
 {
     let (width, height) = (first.width, first.height);
     let window = Window {
@@ -106,7 +109,7 @@ fn across<V: RefWindow, const TAPS: usize>(
 
 /// A block at whole columns and a fraction of a line.
 fn down<V: RefWindow, const TAPS: usize>(
-    view: &V,
+    view: &mut V,
     first: Window,
     fraction: u32,
     scratch: &mut Scratch,
@@ -116,11 +119,12 @@ fn down<V: RefWindow, const TAPS: usize>(
     requires fraction { fraction < 8 }
     requires size { (first.width ≤ 64) × (first.height ≤ 64) }
     requires place { (first.x ≤ℤ pos 536870912) × (first.y ≤ℤ pos 536870912) }
-    requires small { (x y : ℤ) → V.reference_at view.now first.picture first.component x y < 256 }
-    ensures { (x y : ℕ) → x < first.width → y < first.height
+    requires small { (x y : ℤ) → V.reference_at view.old first.picture first.component x y < 256 }
+    ensures value { (x y : ℕ) → x < first.width → y < first.height
         → at_z out.new (64 * y + x) ≡ filtered (filter TAPS 0) (filter TAPS fraction) 8
-        (λ i j. pos (V.reference_at view.now first.picture first.component (first.x +ℤ pos x +ℤ pos i)
+        (λ i j. pos (V.reference_at view.old first.picture first.component (first.x +ℤ pos x +ℤ pos i)
         (first.y +ℤ pos y +ℤ pos j))) }
+    ensures same { V.reference_at view.new ≡ V.reference_at view.old }
 {
     let (wide, height) = (in_eights(first.width), first.height);
     let window = Window {
@@ -142,7 +146,7 @@ fn down<V: RefWindow, const TAPS: usize>(
 
 /// A block between columns and lines.
 fn both<V: RefWindow, const TAPS: usize>(
-    view: &V,
+    view: &mut V,
     first: Window,
     fractions: Fractions,
     scratch: &mut Scratch,
@@ -152,11 +156,12 @@ fn both<V: RefWindow, const TAPS: usize>(
     requires fractions { (fractions.across < 8) × (fractions.down < 8) }
     requires size { (first.width ≤ 64) × (first.height ≤ 64) }
     requires place { (first.x ≤ℤ pos 536870912) × (first.y ≤ℤ pos 536870912) }
-    requires small { (x y : ℤ) → V.reference_at view.now first.picture first.component x y < 256 }
-    ensures { (x y : ℕ) → x < first.width → y < first.height
+    requires small { (x y : ℤ) → V.reference_at view.old first.picture first.component x y < 256 }
+    ensures value { (x y : ℕ) → x < first.width → y < first.height
         → at_z out.new (64 * y + x) ≡ filtered (filter TAPS fractions.across) (filter TAPS fractions.down) 8
-        (λ i j. pos (V.reference_at view.now first.picture first.component (first.x +ℤ pos x +ℤ pos i)
+        (λ i j. pos (V.reference_at view.old first.picture first.component (first.x +ℤ pos x +ℤ pos i)
         (first.y +ℤ pos y +ℤ pos j))) }
+    ensures same { V.reference_at view.new ≡ V.reference_at view.old }
 {
     let (width, height) = (first.width, first.height);
     let lines = height + TAPS - 1;

@@ -26,16 +26,17 @@ pub struct Window {
 }
 
 /// The samples of a window at 14 bits, in lines of 72.
-pub fn gather<V: RefWindow>(view: &V, from: Window, depth: u32, window: &mut [u16; 5112])
+pub fn gather<V: RefWindow>(view: &mut V, from: Window, depth: u32, window: &mut [u16; 5112])
     requires depth { IsDepth depth }
     requires size { (from.width ≤ 71) × (from.height ≤ 71) }
     requires place { (from.x ≤ℤ pos 1073741824) × (from.y ≤ℤ pos 1073741824) }
-    requires small { (x y : ℤ) → V.reference_at view.now from.picture from.component x y < 2 ^ depth }
+    requires small { (x y : ℤ) → V.reference_at view.old from.picture from.component x y < 2 ^ depth }
     requires raised { All IsRaised window.old }
     ensures value { (i j : ℕ) → i < from.width → j < from.height
         → at window.new (72 * j + i)
-        ≡ 2 ^ (14 - depth) * V.reference_at view.now from.picture from.component (from.x +ℤ pos i) (from.y +ℤ pos j) }
+        ≡ 2 ^ (14 - depth) * V.reference_at view.old from.picture from.component (from.x +ℤ pos i) (from.y +ℤ pos j) }
     ensures raised { All IsRaised window.new }
+    ensures same { V.reference_at view.new ≡ V.reference_at view.old }
 {
     for j in 0..from.height {
         lay_line(view, from, from.y + j as i32, depth, window, 72 * j);
@@ -43,46 +44,56 @@ pub fn gather<V: RefWindow>(view: &V, from: Window, depth: u32, window: &mut [u1
 }
 
 /// A line of the window, from a place on.
-fn lay_line<V: RefWindow>(view: &V, from: Window, y: i32, depth: u32, window: &mut [u16], to: usize)
+fn lay_line<V: RefWindow>(
+    view: &mut V,
+    from: Window,
+    y: i32,
+    depth: u32,
+    window: &mut [u16],
+    to: usize,
+)
     requires depth { IsDepth depth }
     requires size { from.width ≤ 71 }
     requires room { to + from.width ≤ length window.old }
     requires place { from.x ≤ℤ pos 1073741824 }
-    requires small { (x y : ℤ) → V.reference_at view.now from.picture from.component x y < 2 ^ depth }
+    requires small { (x y : ℤ) → V.reference_at view.old from.picture from.component x y < 2 ^ depth }
     requires raised { All IsRaised window.old }
     ensures value { (q : ℕ) → at window.new q
         ≡ cond (nat_le to q && nat_lt q (to + from.width))
-        (2 ^ (14 - depth) * V.reference_at view.now from.picture from.component (from.x +ℤ pos (q - to)) y)
+        (2 ^ (14 - depth) * V.reference_at view.old from.picture from.component (from.x +ℤ pos (q - to)) y)
         (at window.old q) }
     ensures raised { All IsRaised window.new }
+    ensures same { V.reference_at view.new ≡ V.reference_at view.old }
 {
     gather_line(view, from, y, depth, &mut window[to..to + from.width]);
 }
 
 /// A line of the window.
-fn gather_line<V: RefWindow>(view: &V, from: Window, y: i32, depth: u32, line: &mut [u16])
+fn gather_line<V: RefWindow>(view: &mut V, from: Window, y: i32, depth: u32, line: &mut [u16])
     requires depth { IsDepth depth }
     requires count { length line.old ≤ 71 }
     requires place { from.x ≤ℤ pos 1073741824 }
-    requires small { (x y : ℤ) → V.reference_at view.now from.picture from.component x y < 2 ^ depth }
+    requires small { (x y : ℤ) → V.reference_at view.old from.picture from.component x y < 2 ^ depth }
     ensures value { (k : ℕ) → k < length line.old
-        → at line.new k ≡ 2 ^ (14 - depth) * V.reference_at view.now from.picture from.component (from.x +ℤ pos k) y }
+        → at line.new k ≡ 2 ^ (14 - depth) * V.reference_at view.old from.picture from.component (from.x +ℤ pos k) y }
     ensures raised { All IsRaised line.new }
+    ensures same { V.reference_at view.new ≡ V.reference_at view.old }
 {
     view.row(from.picture, from.component, from.x, y, line);
     raise(line, depth);
 }
 
 /// The samples of a window as they are, of 8 bits, in lines of 72.
-pub fn gather_bytes<V: RefWindow>(view: &V, from: Window, window: &mut [u16; 5112])
+pub fn gather_bytes<V: RefWindow>(view: &mut V, from: Window, window: &mut [u16; 5112])
     requires size { (from.width ≤ 71) × (from.height ≤ 71) }
     requires place { (from.x ≤ℤ pos 1073741824) × (from.y ≤ℤ pos 1073741824) }
-    requires small { (x y : ℤ) → V.reference_at view.now from.picture from.component x y < 256 }
+    requires small { (x y : ℤ) → V.reference_at view.old from.picture from.component x y < 256 }
     requires bytes { All IsByte window.old }
     ensures value { (i j : ℕ) → i < from.width → j < from.height
         → at window.new (72 * j + i)
-        ≡ V.reference_at view.now from.picture from.component (from.x +ℤ pos i) (from.y +ℤ pos j) }
+        ≡ V.reference_at view.old from.picture from.component (from.x +ℤ pos i) (from.y +ℤ pos j) }
     ensures bytes { All IsByte window.new }
+    ensures same { V.reference_at view.new ≡ V.reference_at view.old }
 {
     for j in 0..from.height {
         lay_bytes(view, from, from.y + j as i32, window, 72 * j);
@@ -90,28 +101,30 @@ pub fn gather_bytes<V: RefWindow>(view: &V, from: Window, window: &mut [u16; 511
 }
 
 /// A line of them, from a place on.
-fn lay_bytes<V: RefWindow>(view: &V, from: Window, y: i32, window: &mut [u16], to: usize)
+fn lay_bytes<V: RefWindow>(view: &mut V, from: Window, y: i32, window: &mut [u16], to: usize)
     requires size { from.width ≤ 71 }
     requires room { to + from.width ≤ length window.old }
     requires place { from.x ≤ℤ pos 1073741824 }
-    requires small { (x y : ℤ) → V.reference_at view.now from.picture from.component x y < 256 }
+    requires small { (x y : ℤ) → V.reference_at view.old from.picture from.component x y < 256 }
     requires bytes { All IsByte window.old }
     ensures value { (q : ℕ) → at window.new q
         ≡ cond (nat_le to q && nat_lt q (to + from.width))
-        (V.reference_at view.now from.picture from.component (from.x +ℤ pos (q - to)) y) (at window.old q) }
+        (V.reference_at view.old from.picture from.component (from.x +ℤ pos (q - to)) y) (at window.old q) }
     ensures bytes { All IsByte window.new }
+    ensures same { V.reference_at view.new ≡ V.reference_at view.old }
 {
     byte_line(view, from, y, &mut window[to..to + from.width]);
 }
 
 /// A line of them.
-fn byte_line<V: RefWindow>(view: &V, from: Window, y: i32, line: &mut [u16])
+fn byte_line<V: RefWindow>(view: &mut V, from: Window, y: i32, line: &mut [u16])
     requires count { length line.old ≤ 71 }
     requires place { from.x ≤ℤ pos 1073741824 }
-    requires small { (x y : ℤ) → V.reference_at view.now from.picture from.component x y < 256 }
+    requires small { (x y : ℤ) → V.reference_at view.old from.picture from.component x y < 256 }
     ensures value { (k : ℕ) → k < length line.old
-        → at line.new k ≡ V.reference_at view.now from.picture from.component (from.x +ℤ pos k) y }
+        → at line.new k ≡ V.reference_at view.old from.picture from.component (from.x +ℤ pos k) y }
     ensures bytes { All IsByte line.new }
+    ensures same { V.reference_at view.new ≡ V.reference_at view.old }
 {
     view.row(from.picture, from.component, from.x, y, line);
 }

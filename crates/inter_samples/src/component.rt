@@ -33,7 +33,7 @@ fn index_of(vector: Option<Vector>) -> u8
 /// Writes the samples of component `c` of a block of places by a motion, in lines of 64.
 #[tactic(auto, unfolding(spec_reconstruction::specs::Inter::sample_by))]
 pub fn predict<V: RefWindow>(
-    view: &V,
+    view: &mut V,
     inter: &UnitInter<'_>,
     format: &UnitFormat,
     block: Rectangle,
@@ -47,14 +47,15 @@ pub fn predict<V: RefWindow>(
     requires block { IsBlock block }
     requires weighting { IsSliceWeighting inter.now.weighting.now }
     requires place { (inter.now.column ≤ 8192) × (inter.now.row ≤ 8192) }
-    requires small { AreSmall format.now (V.reference_at view.now) }
-    ensures { (x y : ℕ) → x < samples_of_place c * block.width → y < samples_of_place c * block.height
+    requires small { AreSmall format.now (V.reference_at view.old) }
+    ensures value { (x y : ℕ) → x < samples_of_place c * block.width → y < samples_of_place c * block.height
         → at out.new (64 * y + x)
         ≡ inter_sample format.now
-        (inter_unit (held inter.now.motion.now) inter.now.slice.now inter.now.weighting.now (V.reference_at view.now)
+        (inter_unit (held inter.now.motion.now) inter.now.slice.now inter.now.weighting.now (V.reference_at view.old)
         inter.now.column inter.now.row)
         c motion.now (samples_of_place c * inter.now.column + (samples_of_place c * block.x + x))
         (samples_of_place c * inter.now.row + (samples_of_place c * block.y + y)) }
+    ensures same { V.reference_at view.new ≡ V.reference_at view.old }
 {
     let part = Part {
         block: block_of(block, inter.column, inter.row, c),

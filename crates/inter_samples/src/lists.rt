@@ -32,7 +32,7 @@ pub struct Part {
 /// The prediction of a block by a vector of a list.
 #[tactic(auto, unfolding(spec_reconstruction::specs::Inter::predicted_by))]
 fn predict_list<V: RefWindow>(
-    view: &V,
+    view: &mut V,
     inter: &UnitInter<'_>,
     format: &UnitFormat,
     part: Part,
@@ -43,13 +43,14 @@ fn predict_list<V: RefWindow>(
 )
     requires format { IsFormat format.now }
     requires part { IsPart part }
-    requires small { AreSmall format.now (V.reference_at view.now) }
-    ensures { (x y : ℕ) → x < part.block.width → y < part.block.height
+    requires small { AreSmall format.now (V.reference_at view.old) }
+    ensures value { (x y : ℕ) → x < part.block.width → y < part.block.height
         → at_z out.new (64 * y + x)
         ≡ predicted_by format.now
-        (inter_unit (held inter.now.motion.now) inter.now.slice.now inter.now.weighting.now (V.reference_at view.now)
+        (inter_unit (held inter.now.motion.now) inter.now.slice.now inter.now.weighting.now (V.reference_at view.old)
         inter.now.column inter.now.row)
         list part.c vector (part.block.x + x) (part.block.y + y) }
+    ensures same { V.reference_at view.new ≡ V.reference_at view.old }
 {
     let picture = reference_in(inter.slice, list, vector.ref_idx).picture;
     let depth = depth_of(format, part.c);
@@ -64,7 +65,7 @@ fn predict_list<V: RefWindow>(
 
 /// The samples of a block by a vector of a list alone.
 pub fn by_one<V: RefWindow>(
-    view: &V,
+    view: &mut V,
     inter: &UnitInter<'_>,
     format: &UnitFormat,
     part: Part,
@@ -77,14 +78,15 @@ pub fn by_one<V: RefWindow>(
     requires format { IsFormat format.now }
     requires part { IsPart part }
     requires weighting { IsWeighting weighting }
-    requires small { AreSmall format.now (V.reference_at view.now) }
-    ensures { (x y : ℕ) → x < part.block.width → y < part.block.height
+    requires small { AreSmall format.now (V.reference_at view.old) }
+    ensures value { (x y : ℕ) → x < part.block.width → y < part.block.height
         → at out.new (64 * y + x)
         ≡ weighted_one (depth_of format.now part.c) weighting list
         (predicted_by format.now
-        (inter_unit (held inter.now.motion.now) inter.now.slice.now inter.now.weighting.now (V.reference_at view.now)
+        (inter_unit (held inter.now.motion.now) inter.now.slice.now inter.now.weighting.now (V.reference_at view.old)
         inter.now.column inter.now.row)
         list part.c vector (part.block.x + x) (part.block.y + y)) }
+    ensures same { V.reference_at view.new ≡ V.reference_at view.old }
 {
     predict_list(
         view,
@@ -103,7 +105,7 @@ pub fn by_one<V: RefWindow>(
 
 /// The samples of a block by vectors of both lists.
 pub fn by_both<V: RefWindow>(
-    view: &V,
+    view: &mut V,
     inter: &UnitInter<'_>,
     format: &UnitFormat,
     part: Part,
@@ -116,18 +118,19 @@ pub fn by_both<V: RefWindow>(
     requires format { IsFormat format.now }
     requires part { IsPart part }
     requires weighting { IsWeighting weighting }
-    requires small { AreSmall format.now (V.reference_at view.now) }
-    ensures { (x y : ℕ) → x < part.block.width → y < part.block.height
+    requires small { AreSmall format.now (V.reference_at view.old) }
+    ensures value { (x y : ℕ) → x < part.block.width → y < part.block.height
         → at out.new (64 * y + x)
         ≡ weighted_two (depth_of format.now part.c) weighting
         (predicted_by format.now
-        (inter_unit (held inter.now.motion.now) inter.now.slice.now inter.now.weighting.now (V.reference_at view.now)
+        (inter_unit (held inter.now.motion.now) inter.now.slice.now inter.now.weighting.now (V.reference_at view.old)
         inter.now.column inter.now.row)
         0 part.c first (part.block.x + x) (part.block.y + y))
         (predicted_by format.now
-        (inter_unit (held inter.now.motion.now) inter.now.slice.now inter.now.weighting.now (V.reference_at view.now)
+        (inter_unit (held inter.now.motion.now) inter.now.slice.now inter.now.weighting.now (V.reference_at view.old)
         inter.now.column inter.now.row)
         1 part.c second (part.block.x + x) (part.block.y + y)) }
+    ensures same { V.reference_at view.new ≡ V.reference_at view.old }
 {
     predict_list(
         view,

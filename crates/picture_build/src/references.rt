@@ -36,7 +36,7 @@ impl<'a> RefWindow for References<'a> {
 
     ghost reference_at = { λ r. pictures_of (buffer_of r.bases.now) };
 
-    fn row(&self, picture: u32, component: u8, x: i32, y: i32, out: &mut [u16]) {
+    fn row(&mut self, picture: u32, component: u8, x: i32, y: i32, out: &mut [u16]) {
         match self.bases.get(picture) {
             Some(held) => picture_row(held, component as usize, x, y, out),
             None => clear(out),

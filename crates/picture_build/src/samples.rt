@@ -69,6 +69,6 @@ pub(crate) fn build_unit(
         column: on.unit.first_column() as u32,
         row: on.row,
     };
-    let view = References::new(on.source.bases);
-    build_ctu(records, on.format, &inter, &view, scratch, samples);
+    let mut view = References::new(on.source.bases);
+    build_ctu(records, on.format, &inter, &mut view, scratch, samples);
 }

@@ -18,14 +18,14 @@ struct Flat {
 impl RefWindow for Flat {
     ghost reference_at = { λ f picture component x y. f.sample };
 
-    fn row(&self, _picture: u32, _component: u8, _x: i32, _y: i32, out: &mut [u16]) {
+    fn row(&mut self, _picture: u32, _component: u8, _x: i32, _y: i32, out: &mut [u16]) {
         out.fill(self.sample);
     }
 }
 
 /// The weights of a P slice whose denominator is 1, weight change -1 and offset 3: a sample of 100 becomes 53.
 fn is_weighted() -> bool {
-    let view = Flat { sample: 100 };
+    let mut view = Flat { sample: 100 };
     let block = PredictionBlock {
         x: 4,
         y: 8,
@@ -36,7 +36,7 @@ fn is_weighted() -> bool {
     let mut prediction = Prediction::new();
     let mut out = [0; 4096];
     luma(
-        &view,
+        &mut view,
         0,
         block,
         Mv { x: 5, y: -6 },
@@ -72,14 +72,14 @@ fn an_explicit_weight_halves_and_moves_a_sample(rt: HostRuntime) {
 
 /// Whether a flat picture predicts itself at every fraction of luma and of chroma.
 fn is_flat_predicted() -> bool {
-    let view = Flat { sample: 77 };
+    let mut view = Flat { sample: 77 };
     let mut scratch = Scratch::new();
     let mut first = Prediction::new();
     let mut second = Prediction::new();
     let mut out = [0; 4096];
     let mut same = true;
     for v in -8..8i16 {
-        predict_both(&view, v, &mut scratch, &mut first, &mut second);
+        predict_both(&mut view, v, &mut scratch, &mut first, &mut second);
         weigh_two(&first, &second, Weighting::Default, 8, 4, 4, &mut out);
         if out[0] != 77 || out[64 * 3 + 3] != 77 {
             same = false;
@@ -95,7 +95,7 @@ fn a_flat_picture_predicts_itself(rt: HostRuntime) {
 
 /// A luma and a chroma block by one vector.
 fn predict_both(
-    view: &Flat,
+    view: &mut Flat,
     v: i16,
     scratch: &mut Scratch,
     first: &mut Prediction,

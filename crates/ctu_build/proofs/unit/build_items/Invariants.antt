@@ -11,8 +11,9 @@ abbrev pub invariant-loop-k : goal.invariant-loop-k
 invariant-loop-k g l = record {
   mode : l.coding.chroma_mode ≤ 34;
   told : AreSound l.source.format.now l.source.records.now.items → All (IsSound l.source.format.now) l.items
-      → items_built l.source.format.now (inter_of l.source.inter (g.V.RefWindow.reference_at l.source.view.now))
+      → items_built l.source.format.now (inter_of l.source.inter (g.V.RefWindow.reference_at l.fn.view))
       l.source.records.now.items (drop l.k l.items) (building l.coding (held l.samples))
-      ≡ items_built l.source.format.now (inter_of l.source.inter (g.V.RefWindow.reference_at l.source.view.now))
+      ≡ items_built l.source.format.now (inter_of l.source.inter (g.V.RefWindow.reference_at l.fn.view))
       l.source.records.now.items l.items (before_unit (held l.fn.samples));
+  same : g.V.RefWindow.reference_at l.view ≡ g.V.RefWindow.reference_at l.fn.view;
 }

@@ -6,8 +6,8 @@ use Rattle.inter_pred.proofs.Holding.{value_is}
 use Rattle.inter_pred.proofs.Joining.{joined}
 use Rattle.inter_pred.proofs.between.between.Goals as goal
 
-pub returns : goal.returns
-returns g c x y m n =
+pub returns-clause-value : goal.returns-clause-value
+returns-clause-value g c x y m n =
     let left : SFits w32 c.args.first.x = search rules in
     let top : SFits w32 c.args.first.y = search rules in
     let e =

@@ -5,8 +5,8 @@ use mir.Syntax.{w16, w32}
 use Rattle.inter_pred.proofs.Joining.{chroma_joined}
 use Rattle.inter_pred.proofs.block.chroma.Goals as goal
 
-pub returns : goal.returns
-returns g c x y m n =
+pub returns-clause-value : goal.returns-clause-value
+returns-clause-value g c x y m n =
     let across : SFits w16 c.args.mv.x = search rules in
     let below : SFits w16 c.args.mv.y = search rules in
     let left : SFits w32 c.chroma_first.result = search rules in
@@ -15,4 +15,4 @@ returns g c x y m n =
     c.args.block.x c.args.block.y x y _ _ c.args.mv.x c.args.mv.y _ _ _
     (grind (arith, to_z-of_z, c.eighth.ensures.value)) (grind (arith, to_z-of_z, c.eighth-2.ensures.value))
     (grind (arith, to_z-of_z, c.chroma_first.ensures.value)) (grind (arith, to_z-of_z, c.chroma_first-2.ensures.value))
-    (c.interpolate.ensures x y m n)
+    (c.interpolate.ensures.value x y m n)

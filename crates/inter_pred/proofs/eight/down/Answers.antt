@@ -4,8 +4,8 @@ use Rattle.inter_pred.proofs.ByteJoining.{down_joined}
 use Rattle.inter_pred.proofs.Holding.{value_is}
 use Rattle.inter_pred.proofs.eight.down.Goals as goal
 
-pub returns : goal.returns
-returns g c x y m n =
+pub returns-clause-value : goal.returns-clause-value
+returns-clause-value g c x y m n =
     let e =
     down_joined (g.V.RefWindow.reference_at c.args.view.now c.args.first.picture c.args.first.component) g.row.TAPS
     c.args.fraction c.args.first.x c.args.first.y _ _ _ c.args.first.width c.args.first.height x y

@@ -4,8 +4,8 @@ use Rattle.inter_pred.proofs.ByteJoining.{whole_bytes}
 use Rattle.inter_pred.proofs.Holding.{sample_is}
 use Rattle.inter_pred.proofs.eight.whole.Goals as goal
 
-pub returns : goal.returns
-returns g c x y m n =
+pub returns-clause-value : goal.returns-clause-value
+returns-clause-value g c x y m n =
     let e =
     whole_bytes (g.V.RefWindow.reference_at c.args.view.now c.args.first.picture c.args.first.component) g.row.TAPS
     x y _ c.args.first.x c.args.first.y _ _

@@ -1,4 +1,4 @@
-use Rattle.std.proofs.Common.{◌≡◌, ◌-◌, ◌*◌, ◌^◌, pos, ◌+ℤ◌, arith}
+use Rattle.std.proofs.Common.{◌≡◌, ◌∙◌, sym, ◌-◌, ◌*◌, ◌^◌, pos, ◌+ℤ◌, arith}
 use Rattle.std.proofs.lemmas.Int.{ints, to_z-of_z}
 use mir.Val.{to_z, of_z}
 use mir.Syntax.{w32}
@@ -14,7 +14,9 @@ loop-j-preserved g c =
           (λ i j. 2 ^ (14 - c.args.depth)
           * g.V.RefWindow.reference_at c.args.view.now c.args.from.picture c.args.from.component
           (c.args.from.x +ℤ pos i) (c.args.from.y +ℤ pos j))
-          h (omega arith) k (λ q. let t = c.lay_line.ensures.value q in grind (arith, to_z-of_z, e, t))
+          h (omega arith) k (λ q. let t = c.lay_line.ensures.value q in
+          rw (sym c.loop-j.invariant.same) (grind (arith, to_z-of_z, e, t)))
           c.loop-j.invariant.value;
       raised = c.lay_line.ensures.raised;
+      same = c.lay_line.ensures.same ∙ c.loop-j.invariant.same;
     }

@@ -8,6 +8,7 @@ invariant-loop-j g l = record {
   value : (i j : ℕ) → i < l.from.width → j < l.j
       → at l.window (72 * j + i)
       ≡ 2 ^ (14 - l.depth)
-      * g.V.RefWindow.reference_at l.view l.from.picture l.from.component (l.from.x +ℤ pos i) (l.from.y +ℤ pos j);
+      * g.V.RefWindow.reference_at l.fn.view l.from.picture l.from.component (l.from.x +ℤ pos i) (l.from.y +ℤ pos j);
   raised : All IsRaised l.window;
+  same : g.V.RefWindow.reference_at l.view ≡ g.V.RefWindow.reference_at l.fn.view;
 }
