@@ -1,5 +1,8 @@
-//! Rows of planes, whose hashes another program gives for their bytes.
+//! Rows of planes, whose hashes another program gives for their bytes, and of messages that state hashes.
 
+ghost use Rattle.std.specs.Prelude.{◌+◌, ◌≤◌, length};
+
+use crate::messages::first_stated;
 use crate::plane_md5;
 
 /// The hash of the bytes 61 62 63.
@@ -23,4 +26,57 @@ fn planes_have_their_hashes(rt: HostRuntime) {
     assert!(rt; plane_md5([0x61u16, 0x62, 0x63].iter().copied(), 8) == OF_LETTERS);
     assert!(rt; plane_md5([0x161u16, 0x3FF, 0x200].iter().copied(), 10) == OF_PAIRS);
     assert!(rt; plane_md5(grey.iter().copied(), 8) == OF_GREY);
+}
+
+/// Whether the first bytes of a unit state three digests of bytes 11, where a decoded picture hash of this hash_type
+/// stands at a place behind others, and all other bytes are 11.
+fn is_stated(front: &[u8], place: usize, hash_type: u8, len: usize) -> bool
+    requires front { length front.now ≤ 8 }
+    requires inside { place + 3 ≤ 320 }
+    requires cut { len ≤ 320 }
+{
+    let mut bytes = [0x11; 320];
+    bytes[..front.len()].copy_from_slice(front);
+    bytes[place] = 132;
+    bytes[place + 1] = 49;
+    bytes[place + 2] = hash_type;
+    first_stated(&bytes[..len]) == Some([[0x11; 16]; 3])
+}
+
+/// Whether hashes are stated behind messages of other types and hash types, with types and sizes of several bytes.
+fn is_each_stated() -> bool {
+    is_stated(&[], 0, 0, 51)
+        && is_stated(&[5, 2, 9, 9], 4, 0, 55)
+        && is_stated(&[132, 3, 0, 1, 2], 5, 0, 56)
+        && is_stated(&[255, 132, 1, 9], 4, 0, 55)
+        && is_stated(&[255, 255, 7, 0], 4, 0, 55)
+        && is_stated(&[4, 255, 0], 258, 0, 309)
+        && is_stated(&[132, 49, 1], 51, 0, 102)
+}
+
+/// Whether some are: by another hash type, by a message of another size, or behind one that runs past the end.
+fn is_any_stated() -> bool {
+    is_stated(&[], 0, 1, 320)
+        || is_stated(&[132, 48, 0], 50, 1, 320)
+        || is_stated(&[132, 50, 0], 52, 1, 320)
+        || is_stated(&[4, 255, 1], 258, 0, 309)
+        || is_stated(&[7, 200], 2, 0, 53)
+        || is_stated(&[132, 255], 2, 0, 53)
+}
+
+/// Whether a message states hashes that is broken off.
+fn is_broken_stated() -> bool {
+    for len in 0..51 {
+        if is_stated(&[], 0, 0, len) {
+            return true;
+        }
+    }
+    false
+}
+
+#[test]
+fn the_first_whole_message_of_digests_states_them(rt: HostRuntime) {
+    assert!(rt; is_each_stated());
+    assert!(rt; !is_any_stated());
+    assert!(rt; !is_broken_stated());
 }

@@ -1,0 +1,2 @@
+pub mod StatedHashes
+pub mod Digests
