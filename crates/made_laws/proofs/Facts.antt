@@ -1,7 +1,8 @@
 -- What is computed of each picture: its header by its codes, its plan, and what it leaves.
-use Rattle.std.proofs.Common.{◌≡◌, ℕ, zero, suc, ◌+◌, ◌%◌, ◌<◌, Bool, true, false, [], ◌∷◌, Some, None}
+use Rattle.std.proofs.Common.{◌≡◌, ℕ, zero, suc, ◌+◌, ◌%◌, ◌<◌, Bool, true, false, List, [], ◌∷◌, Some, None}
 use Rattle.std.proofs.Common.{Ok, refl, arith}
 use Rattle.std.specs.Prelude.{not, ◌&&◌, ◌||◌, nat_lt}
+use Rattle.plan_types.specs.declared.stated_hash.StatedHash.{StatedHash}
 use Rattle.spec_nal_units.specs.Judged.{NalUnit}
 use Rattle.spec_reference_pictures.specs.PictureOrderCount.{is_irap}
 use Rattle.spec_slice_headers.specs.SegmentHeader.{slice_segment_header}
@@ -43,14 +44,14 @@ pub record Facts (first : Bool) (g : ℕ) : Type 0 where
   pub plan : (nal : ℕ) (s : MadeSlice)
       → picture_of made_sets (former_at first g) (unit_with nal (nal_type_at g) s)
       (made_header (type_at g) (order_at g) nal s.entry_points s.data_place)
-      ≡ Ok (made_plan first g nal s)
-  pub former : (nal : ℕ) (s : MadeSlice)
-      → former_after (former_at first g) (made_plan first g nal s) ≡ former_at false ((g + 1) % 8)
-  pub room : (nal : ℕ) (s : MadeSlice) → full_at (made_plan first g nal s) ≡ None
+      ≡ Ok (made_plan first g nal s [])
+  pub former : (nal : ℕ) (s : MadeSlice) (hashes : List StatedHash)
+      → former_after (former_at first g) (made_plan first g nal s hashes) ≡ former_at false ((g + 1) % 8)
+  pub room : (nal : ℕ) (s : MadeSlice) (hashes : List StatedHash) → full_at (made_plan first g nal s hashes) ≡ None
   pub begins : ((former_at first g).first_in_sequence && not (is_irap (nal_type_at g) || nat_lt 0 0)) ≡ false
   pub kind : kind_of_type (nal_type_at g) ≡ Slice
   pub no_rasl : is_rasl (nal_type_at g) ≡ false
-  pub drops : (nal : ℕ) (s : MadeSlice) → drops_after (not first) (made_plan first g nal s).kind ≡ true
+  pub drops : (nal : ℕ) (s : MadeSlice) → drops_after (not first) (made_plan first g nal s []).kind ≡ true
   pub byte : nal_type_at g < 64
   pub order : order_at g < 256
 
@@ -59,8 +60,8 @@ unfolding plans_computed kind_of_type
 first_idr = record {
   header = λ s nal a b c d e. refl;
   plan = λ nal s. refl;
-  former = λ nal s. refl;
-  room = λ nal s. refl;
+  former = λ nal s hashes. refl;
+  room = λ nal s hashes. refl;
   begins = refl;
   kind = refl;
   no_rasl = refl;
@@ -74,8 +75,8 @@ unfolding plans_computed kind_of_type
 idr = record {
   header = λ s nal a b c d e. refl;
   plan = λ nal s. refl;
-  former = λ nal s. refl;
-  room = λ nal s. refl;
+  former = λ nal s hashes. refl;
+  room = λ nal s hashes. refl;
   begins = refl;
   kind = refl;
   no_rasl = refl;
@@ -89,8 +90,8 @@ unfolding plans_computed kind_of_type
 first_p = record {
   header = λ s nal a b c d e. refl;
   plan = λ nal s. refl;
-  former = λ nal s. refl;
-  room = λ nal s. refl;
+  former = λ nal s hashes. refl;
+  room = λ nal s hashes. refl;
   begins = refl;
   kind = refl;
   no_rasl = refl;
@@ -104,8 +105,8 @@ unfolding plans_computed kind_of_type
 first_b = record {
   header = λ s nal a b c d e. refl;
   plan = λ nal s. refl;
-  former = λ nal s. refl;
-  room = λ nal s. refl;
+  former = λ nal s hashes. refl;
+  room = λ nal s hashes. refl;
   begins = refl;
   kind = refl;
   no_rasl = refl;
@@ -119,8 +120,8 @@ unfolding plans_computed kind_of_type
 second_p = record {
   header = λ s nal a b c d e. refl;
   plan = λ nal s. refl;
-  former = λ nal s. refl;
-  room = λ nal s. refl;
+  former = λ nal s hashes. refl;
+  room = λ nal s hashes. refl;
   begins = refl;
   kind = refl;
   no_rasl = refl;
@@ -134,8 +135,8 @@ unfolding plans_computed kind_of_type
 second_b = record {
   header = λ s nal a b c d e. refl;
   plan = λ nal s. refl;
-  former = λ nal s. refl;
-  room = λ nal s. refl;
+  former = λ nal s hashes. refl;
+  room = λ nal s hashes. refl;
   begins = refl;
   kind = refl;
   no_rasl = refl;
@@ -149,8 +150,8 @@ unfolding plans_computed kind_of_type
 third_p = record {
   header = λ s nal a b c d e. refl;
   plan = λ nal s. refl;
-  former = λ nal s. refl;
-  room = λ nal s. refl;
+  former = λ nal s hashes. refl;
+  room = λ nal s hashes. refl;
   begins = refl;
   kind = refl;
   no_rasl = refl;
@@ -164,8 +165,8 @@ unfolding plans_computed kind_of_type
 third_b = record {
   header = λ s nal a b c d e. refl;
   plan = λ nal s. refl;
-  former = λ nal s. refl;
-  room = λ nal s. refl;
+  former = λ nal s hashes. refl;
+  room = λ nal s hashes. refl;
   begins = refl;
   kind = refl;
   no_rasl = refl;
@@ -179,8 +180,8 @@ unfolding plans_computed kind_of_type
 fourth_p = record {
   header = λ s nal a b c d e. refl;
   plan = λ nal s. refl;
-  former = λ nal s. refl;
-  room = λ nal s. refl;
+  former = λ nal s hashes. refl;
+  room = λ nal s hashes. refl;
   begins = refl;
   kind = refl;
   no_rasl = refl;

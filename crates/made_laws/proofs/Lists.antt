@@ -1,13 +1,11 @@
 -- The units and the plans of a made stream, one picture after the other.
-use Rattle.std.proofs.Common.{◌≡◌, ℕ, zero, suc, ◌+◌, ◌*◌, ◌%◌, List, [], ◌∷◌, ◌++◌, map, refl, ap, ◌∙◌, arith}
-use Rattle.std.specs.Prelude.{◌==◌}
+use Rattle.std.proofs.Common.{◌≡◌, ℕ, zero, suc, ◌+◌, ◌%◌, List, [], ◌∷◌, ◌++◌, map, refl, ap, ◌∙◌, arith}
 use Rattle.std.specs.List.{flat_map, range_with_len}
 use Rattle.plan_types.specs.declared.picture_plan.PicturePlan.{PicturePlan}
 use Rattle.spec_nal_units.specs.Judged.{NalUnit}
 use Rattle.spec_made.specs.Stream.{Making, picture_made, start_of}
-use Rattle.made_laws.specs.Plans.{made_plan}
-use Rattle.made_laws.specs.Streams.{hash_numbered, made_plans, made_units, making_at, number_of, plan_of, set_units}
-use Rattle.made_laws.specs.Streams.{slice_at, slice_numbered, units_of}
+use Rattle.made_laws.specs.Streams.{hash_numbered, made_plans, made_units, making_at, plan_at, plan_of, set_units}
+use Rattle.made_laws.specs.Streams.{slice_numbered, units_of}
 
 -- the units of so many pictures from one on, before which this stands
 unfoldable pub units_from : ℕ → ℕ → Making → List NalUnit
@@ -19,8 +17,7 @@ units_from j (suc n) m =
 unfoldable pub plans_from : ℕ → ℕ → Making → List PicturePlan
 plans_from j zero m = []
 plans_from j (suc n) m =
-    made_plan (j == 0) (j % 8) (number_of (2 + 2 * j)) (slice_at (j % 8) m)
-    ∷ plans_from (j + 1) n (picture_made (j % 8) m).1
+    plan_at j (j % 8) m ∷ plans_from (j + 1) n (picture_made (j % 8) m).1
 
 -- those of the whole stream
 abbrev pub listed_units : ℕ → ℕ → List NalUnit

@@ -5,12 +5,13 @@ use Rattle.std.specs.Prelude.{◌==◌}
 use Rattle.std.specs.List.{range_with_len}
 use Rattle.std.proofs.lemmas.Bool.Decides.{nat_tests}
 use Rattle.plan_types.specs.declared.picture_plan.PicturePlan.{PicturePlan}
+use Rattle.plan_types.specs.declared.stated_hash.StatedHash.{StatedHash}
 use Rattle.spec_made.specs.Stream.{Making, picture_made}
 use Rattle.made_laws.specs.Outputs.{number_at, outputs_from, shown_at}
 use Rattle.made_laws.specs.Plans.{MadeSlice, made_plan}
 use Rattle.made_laws.proofs.Places.{shown_b, shown_idr, shown_last, shown_p, shown_seven}
 use Rattle.made_laws.proofs.Lists.{plans_from}
-use Rattle.made_laws.specs.Streams.{last_out, number_of, slice_at}
+use Rattle.made_laws.specs.Streams.{hashes_at, last_out, number_of, slice_at}
 
 -- the pictures in the buffer before picture j, which is of a number in its group, if it isn't the first of the stream
 abbrev held_before : ℕ → ℕ → List ℕ
@@ -36,8 +37,8 @@ out_at (suc (suc (suc (suc (suc (suc (suc g))))))) j = j - 2
 
 -- what a picture puts out, and what it leaves
 record Puts (g j : ℕ) : Type 0 where
-  pub step : (nal : ℕ) (s : MadeSlice) (later : List PicturePlan) (last : List ℕ)
-      → outputs_from j (held_before g j) (made_plan false g nal s ∷ later) last
+  pub step : (nal : ℕ) (s : MadeSlice) (hashes : List StatedHash) (later : List PicturePlan) (last : List ℕ)
+      → outputs_from j (held_before g j) (made_plan false g nal s hashes ∷ later) last
       ≡ out_at g j ∷ outputs_from (j + 1) (held_before ((g + 1) % 8) (j + 1)) later last
   pub shown : (n : ℕ) → 1 ≤ j → j % 8 ≡ g → j < n → out_at g j ≡ shown_at n (j - 1)
   pub last : 1 ≤ j → j % 8 ≡ g → map (number_at (held_before g j)) (last_out j) ≡ shown_at j (j - 1) ∷ []
@@ -78,7 +79,7 @@ behind_one j some = omega arith
 idr : (j : ℕ) → Puts 0 j
 unfolding outputs_from made_plan
 idr j = record {
-  step = λ nal s later last. next_numbers j (j - 1) (j ∷ [])
+  step = λ nal s hashes later last. next_numbers j (j - 1) (j ∷ [])
       ((j + 1 - 1) ∷ []) later last
       (one_number _ _ (omega arith));
   shown = λ n some is inside. sym (shown_seven n (j - 1) (omega arith));
@@ -90,7 +91,7 @@ idr j = record {
 first_p : (j : ℕ) → Puts 1 j
 unfolding outputs_from made_plan
 first_p j = record {
-  step = λ nal s later last. next_numbers j (j - 1) ((j - 1) ∷ j ∷ [])
+  step = λ nal s hashes later last. next_numbers j (j - 1) ((j - 1) ∷ j ∷ [])
       ((j + 1 - 2) ∷ (j + 1 - 1) ∷ []) later last
       (two_numbers _ _ _ _ (omega arith) (omega arith));
   shown = λ n some is inside. sym (shown_idr n (j - 1) (omega arith));
@@ -102,7 +103,7 @@ first_p j = record {
 first_b : (j : ℕ) → Puts 2 j
 unfolding outputs_from made_plan
 first_b j = record {
-  step = λ nal s later last. next_numbers j j ((j - 2) ∷ (j - 1) ∷ j ∷ [])
+  step = λ nal s hashes later last. next_numbers j j ((j - 2) ∷ (j - 1) ∷ j ∷ [])
       ((j + 1 - 3) ∷ (j + 1 - 2) ∷ (j + 1 - 1) ∷ []) later last
       (three_numbers _ _ _ _ _ _ (omega arith) (omega arith) (omega arith));
   shown = λ n some is inside. sym (shown_b n (j - 1) (omega arith) (omega arith) (omega arith) ∙ behind_one j some);
@@ -114,7 +115,7 @@ first_b j = record {
 second_p : (j : ℕ) → Puts 3 j
 unfolding outputs_from made_plan
 second_p j = record {
-  step = λ nal s later last. next_numbers j (j - 2) ((j - 2) ∷ j ∷ [])
+  step = λ nal s hashes later last. next_numbers j (j - 2) ((j - 2) ∷ j ∷ [])
       ((j + 1 - 3) ∷ (j + 1 - 1) ∷ []) later last
       (two_numbers _ _ _ _ (omega arith) (omega arith));
   shown = λ n some is inside. sym (shown_p n (j - 1) (omega arith) (omega arith) ∙ before_two j);
@@ -126,7 +127,7 @@ second_p j = record {
 second_b : (j : ℕ) → Puts 4 j
 unfolding outputs_from made_plan
 second_b j = record {
-  step = λ nal s later last. next_numbers j j ((j - 3) ∷ (j - 1) ∷ j ∷ [])
+  step = λ nal s hashes later last. next_numbers j j ((j - 3) ∷ (j - 1) ∷ j ∷ [])
       ((j + 1 - 4) ∷ (j + 1 - 2) ∷ (j + 1 - 1) ∷ []) later last
       (three_numbers _ _ _ _ _ _ (omega arith) (omega arith) (omega arith));
   shown = λ n some is inside. sym (shown_b n (j - 1) (omega arith) (omega arith) (omega arith) ∙ behind_one j some);
@@ -138,7 +139,7 @@ second_b j = record {
 third_p : (j : ℕ) → Puts 5 j
 unfolding outputs_from made_plan
 third_p j = record {
-  step = λ nal s later last. next_numbers j (j - 2) ((j - 2) ∷ j ∷ [])
+  step = λ nal s hashes later last. next_numbers j (j - 2) ((j - 2) ∷ j ∷ [])
       ((j + 1 - 3) ∷ (j + 1 - 1) ∷ []) later last
       (two_numbers _ _ _ _ (omega arith) (omega arith));
   shown = λ n some is inside. sym (shown_p n (j - 1) (omega arith) (omega arith) ∙ before_two j);
@@ -150,7 +151,7 @@ third_p j = record {
 third_b : (j : ℕ) → Puts 6 j
 unfolding outputs_from made_plan
 third_b j = record {
-  step = λ nal s later last. next_numbers j j ((j - 3) ∷ (j - 1) ∷ j ∷ [])
+  step = λ nal s hashes later last. next_numbers j j ((j - 3) ∷ (j - 1) ∷ j ∷ [])
       ((j + 1 - 4) ∷ (j + 1 - 2) ∷ (j + 1 - 1) ∷ []) later last
       (three_numbers _ _ _ _ _ _ (omega arith) (omega arith) (omega arith));
   shown = λ n some is inside. sym (shown_b n (j - 1) (omega arith) (omega arith) (omega arith) ∙ behind_one j some);
@@ -162,7 +163,7 @@ third_b j = record {
 fourth_p : (j : ℕ) → Puts 7 j
 unfolding outputs_from made_plan
 fourth_p j = record {
-  step = λ nal s later last. next_numbers j (j - 2) ((j - 2) ∷ j ∷ [])
+  step = λ nal s hashes later last. next_numbers j (j - 2) ((j - 2) ∷ j ∷ [])
       ((j + 1 - 3) ∷ (j + 1 - 1) ∷ []) later last
       (two_numbers _ _ _ _ (omega arith) (omega arith));
   shown = λ n some is inside. sym (shown_p n (j - 1) (omega arith) (omega arith) ∙ before_two j);
@@ -201,6 +202,7 @@ order_from (suc n) j m some =
     let g : ℕ = j % 8 in
     let nal : ℕ = number_of (2 + 2 * j) in
     let s : MadeSlice = slice_at g m in
+    let hashes : List StatedHash = hashes_at j g m in
     let later : Making = (picture_made g m).1 in
     let plans : List PicturePlan = plans_from (j + 1) n later in
     let p = any g j (omega arith) in
@@ -209,8 +211,8 @@ order_from (suc n) j m some =
     let next : (g + 1) % 8 ≡ (j + 1) % 8 = omega arith in
     let from : j + 1 - 1 ≡ j - 1 + 1 = omega arith in
     let count : suc n + 1 ≡ suc (n + 1) = omega arith in
-    ap (λ first. outputs_from j (held_before g j) (made_plan first g nal s ∷ plans) (last_out (j + suc n))) no
-    ∙ p.step nal s plans (last_out (j + suc n))
+    ap (λ first. outputs_from j (held_before g j) (made_plan first g nal s hashes ∷ plans) (last_out (j + suc n))) no
+    ∙ p.step nal s hashes plans (last_out (j + suc n))
     ∙ ap (λ out. out ∷ outputs_from (j + 1) (held_before ((g + 1) % 8) (j + 1)) plans (last_out (j + suc n)))
     (p.shown (j + suc n) some refl (omega arith))
     ∙ ap (λ l. shown_at (j + suc n) (j - 1) ∷ l)

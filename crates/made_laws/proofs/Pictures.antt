@@ -14,12 +14,12 @@ use Rattle.spec_picture_plan.specs.Steps.{Stepped, close, put_pps, step}
 use Rattle.made_laws.specs.Sets.{made_pps}
 use Rattle.spec_made.specs.Stream.{Making, picture_made, start_of}
 use Rattle.made_laws.proofs.Lists.{listed_plans, listed_units, plans_from}
-use Rattle.made_laws.specs.Streams.{hash_numbered, last_out, number_of}
+use Rattle.made_laws.specs.Streams.{hash_numbered, hashes_at, last_out, number_of, plan_at}
 use Rattle.made_laws.proofs.Lists.{units_from}
 use Rattle.made_laws.proofs.Computed.{plans_computed}
 use Rattle.made_laws.proofs.Facts.{Facts, facts_first, facts_later}
 use Rattle.made_laws.specs.Formers.{former_at}
-use Rattle.made_laws.proofs.Steps.{close_opened, closed_to, opened, plan_at, ready, ready_first, slice_unit, step_hash}
+use Rattle.made_laws.proofs.Steps.{close_opened, closed_to, opened, plan_by, ready, ready_first, slice_unit, step_hash}
 use Rattle.made_laws.proofs.Steps.{between_sets, step_pps, step_slice, step_sps}
 use Rattle.made_laws.specs.Streams.{slice_in}
 
@@ -81,14 +81,15 @@ planned (suc n) j m s closed closes =
     let g : ℕ = j % 8 in
     let nal : ℕ = number_of (2 + 2 * j) in
     let later : Making = (picture_made g m).1 in
-    let p : PicturePlan = plan_at (j == 0) g nal m in
-    let next : Between = opened (j == 0) g p in
+    let p : PicturePlan = plan_at j g m in
+    let next : Between = opened (j == 0) g (plan_by (j == 0) g nal m []) in
+    let last : Between = opened (j == 0) g p in
     let f = facts_at j in
-    let then = close_opened (j == 0) g nal m f ∙ ap (closed_to (p ∷ [])) (ready_next j) in
+    let then = close_opened (j == 0) g nal m (hashes_at j g m) f ∙ ap (closed_to (p ∷ [])) (ready_next j) in
     let e : j + 1 + n ≡ j + suc n = omega arith in
     more s (map Whole (units_from (j + 1) n later)) (Whole (slice_unit nal g m)) (Whole (hash_numbered j g m)) closed
-    next next (step_slice s closed (j == 0) g nal m f closes) (step_hash next (hash_numbered j g m) refl refl)
-    ∙ ap (behind_closed closed) (planned n (j + 1) later next (p ∷ []) then)
+    next last (step_slice s closed (j == 0) g nal m f closes) (step_hash (j == 0) g nal j m)
+    ∙ ap (behind_closed closed) (planned n (j + 1) later last (p ∷ []) then)
     ∙ ap (λ (k : ℕ). record {
       pictures = closed ++ (p ∷ plans_from (j + 1) n later);
       last = last_outputs (former_at (k == 0) (k % 8)).dpb;

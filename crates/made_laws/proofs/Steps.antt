@@ -1,5 +1,5 @@
 -- One unit of a made stream after the other, as it is planned.
-use Rattle.std.proofs.Common.{◌≡◌, ℕ, ◌+◌, ◌%◌, Bool, true, false, List, [], ◌∷◌, ◌++◌}
+use Rattle.std.proofs.Common.{◌≡◌, ℕ, ◌+◌, ◌*◌, ◌%◌, Bool, true, false, List, [], ◌∷◌, ◌++◌}
 use Rattle.std.proofs.Common.{cond, Option, Some, None, Result, Ok, Err, refl, ap}
 use Rattle.std.proofs.Common.{◌∙◌}
 use Rattle.std.specs.Prelude.{is_none, nat_le, not, ◌&&◌}
@@ -10,28 +10,35 @@ use Rattle.hv_base.specs.declared.fault.FaultKind.TheVariants as rule
 use Rattle.hv_base.specs.declared.limit.LimitKind.TheVariants as bound
 use Rattle.plan_types.specs.declared.between.Between.{Between}
 use Rattle.plan_types.specs.declared.picture_plan.PicturePlan.{PicturePlan}
+use Rattle.plan_types.specs.declared.stated_hash.StatedHash.{StatedHash}
 use Rattle.slice_types.specs.declared.slice.SliceHeaderFields.{SliceHeaderFields}
 use Rattle.slice_types.specs.declared.slice.SliceType.{SliceType}
 use Rattle.slice_types.specs.declared.slice.SliceType.TheVariants as slice
+use Rattle.md5.specs.Md5.{md5}
+use Rattle.md5.proofs.StandardFacts.{length-md5}
 use Rattle.spec_bits.specs.Bits.{bits}
 use Rattle.spec_nal_units.specs.Judged.{NalUnit, Whole}
+use Rattle.spec_stated_hashes.specs.StatedHashes.{stated_hashes}
+use Rattle.spec_stated_hashes.proofs.Written.{stated_first}
 use Rattle.spec_written_headers.specs.Codes.{Code, bits_of, spelled}
 use Rattle.spec_picture_plan.specs.Closing.{broken_at_closing, broken_in, full_at, or_later}
 use Rattle.spec_picture_plan.specs.Steps.{Stepped, behind_read, begun, close, closed_by, closing, context_of}
-use Rattle.spec_picture_plan.specs.Steps.{first_flag}
-use Rattle.spec_picture_plan.specs.Steps.{goes_on, judged_header, kind_step, opened_by, opening, slice_judged}
-use Rattle.spec_picture_plan.specs.Steps.{put_pps, put_sps, slice_step, step, then_next, unit_step}
+use Rattle.spec_picture_plan.specs.Steps.{first_flag, goes_on, informed, judged_header, kind_step, opened_by, opening}
+use Rattle.spec_picture_plan.specs.Steps.{put_pps, put_sps, slice_judged, slice_step, stated_in, step, then_next}
+use Rattle.spec_picture_plan.specs.Steps.{unit_step}
 use Rattle.spec_picture_plan.specs.Pictures.{beginning}
 use Rattle.spec_picture_plan.specs.UnitKinds.{is_rasl, kind_of_type}
 use Rattle.spec_slice_headers.specs.SegmentHeader.{slice_header_of}
 use Rattle.spec_made.specs.declared.units.Shift.{Shift}
 use Rattle.spec_made.specs.Headers.{entries_of, header_bytes, idr_codes, inter_codes, picture_payload, rows_of}
 use Rattle.spec_made.specs.Headers.{sequence_payload}
+use Rattle.spec_made.specs.Planes.{Planes}
 use Rattle.spec_made.specs.Stream.{Making}
 use Rattle.made_laws.specs.Sets.{made_pps, made_sets, made_sps}
 use Rattle.made_laws.specs.Headers.{made_header, order_at, type_at}
 use Rattle.made_laws.specs.Plans.{made_plan}
-use Rattle.made_laws.specs.Streams.{picture_at, slice_at, slice_in, unit_numbered}
+use Rattle.made_laws.specs.Streams.{hash_numbered, hash_payload, hashes_at, number_of, picture_at, slice_at, slice_in}
+use Rattle.made_laws.specs.Streams.{unit_numbered}
 use Rattle.made_laws.proofs.Computed.{plans_computed}
 use Rattle.made_laws.proofs.Drawn.{codes_are, second_shift}
 use Rattle.made_laws.proofs.Facts.{Facts, nal_type_at, unit_with}
@@ -66,8 +73,9 @@ first_is g m =
 abbrev pub slice_unit : ℕ → ℕ → Making → NalUnit
 slice_unit nal g m = unit_with nal (nal_type_at g) (slice_at g m)
 
-abbrev pub plan_at : Bool → ℕ → ℕ → Making → PicturePlan
-plan_at first g nal m = made_plan first g nal (slice_at g m)
+-- the plan of a picture of which these hashes are stated
+abbrev pub plan_by : Bool → ℕ → ℕ → Making → List StatedHash → PicturePlan
+plan_by first g nal m hashes = made_plan first g nal (slice_at g m) hashes
 
 -- before a picture is opened, and behind that
 abbrev pub ready : Bool → ℕ → Between
@@ -96,18 +104,18 @@ judged_is first g nal m f =
     ∙ header_is first g nal m f
 
 opening_is : (first : Bool) (g nal : ℕ) (m : Making) → Facts first g
-    → opening made_sets (former_at first g) (slice_unit nal g m) ≡ Ok (plan_at first g nal m)
+    → opening made_sets (former_at first g) (slice_unit nal g m) ≡ Ok (plan_by first g nal m [])
 unfolding opening
 opening_is first g nal m f =
     ap (opened_by made_sets (former_at first g) (slice_unit nal g m)) (judged_is first g nal m f)
     ∙ f.plan nal (slice_at g m)
 
 judged_open : (first : Bool) (g nal : ℕ) (m : Making) → Facts first g
-    → slice_judged (slice_unit nal g m) (ready first g) ≡ Ok (opened first g (plan_at first g nal m))
+    → slice_judged (slice_unit nal g m) (ready first g) ≡ Ok (opened first g (plan_by first g nal m []))
 unfolding slice_judged
 judged_open first g nal m f =
     ap (λ r. behind_read nal r (begun (ready first g))) (opening_is first g nal m f)
-    ∙ ap (λ d. Ok (record (opened first g (plan_at first g nal m)) { drops_rasl = d })) (f.drops nal (slice_at g m))
+    ∙ ap (λ d. Ok (record (opened first g (plan_by first g nal m [])) { drops_rasl = d })) (f.drops nal (slice_at g m))
 
 -- ---- an open picture closes
 
@@ -115,28 +123,31 @@ none_of : (test : Bool) (f : Option Fault) → test ≡ true
     → or_later (cond {A = Option Fault} (not test) f None) None ≡ None
 none_of test f e = rw e refl
 
-broken_none : (first : Bool) (g nal : ℕ) (m : Making) → broken_in (plan_at first g nal m) ≡ None
+broken_none : (first : Bool) (g nal : ℕ) (m : Making) (hashes : List StatedHash)
+    → broken_in (plan_by first g nal m hashes) ≡ None
 unfolding plans_computed slice_in
-broken_none first g nal m = none_of _ _ (rows_fit g m)
+broken_none first g nal m hashes = none_of _ _ (rows_fit g m)
 
-closing_none : (first : Bool) (g nal : ℕ) (m : Making) → Facts first g
-    → broken_at_closing (plan_at first g nal m) ≡ None
-closing_none first g nal m f =
-    ap (λ b. or_later b (full_at (plan_at first g nal m))) (broken_none first g nal m) ∙ f.room nal (slice_at g m)
+closing_none : (first : Bool) (g nal : ℕ) (m : Making) (hashes : List StatedHash) → Facts first g
+    → broken_at_closing (plan_by first g nal m hashes) ≡ None
+closing_none first g nal m hashes f =
+    ap (λ b. or_later b (full_at (plan_by first g nal m hashes))) (broken_none first g nal m hashes)
+    ∙ f.room nal (slice_at g m) hashes
 
 -- what closes, and what is known behind it
 abbrev pub closed_to : List PicturePlan → Between → Stepped
 closed_to closed s = record { closed = closed; next = Ok s }
 
-pub close_opened : (first : Bool) (g nal : ℕ) (m : Making) → Facts first g
-    → close (opened first g (plan_at first g nal m))
-    ≡ closed_to (plan_at first g nal m ∷ []) (ready false ((g + 1) % 8))
+pub close_opened : (first : Bool) (g nal : ℕ) (m : Making) (hashes : List StatedHash) → Facts first g
+    → close (opened first g (plan_by first g nal m hashes))
+    ≡ closed_to (plan_by first g nal m hashes ∷ []) (ready false ((g + 1) % 8))
 unfolding close
-close_opened first g nal m f =
-    let p : PicturePlan = plan_at first g nal m in
-    ap (closed_by (opened first g p) p) (closing_none first g nal m f)
+close_opened first g nal m hashes f =
+    let p : PicturePlan = plan_by first g nal m hashes in
+    ap (closed_by (opened first g p) p) (closing_none first g nal m hashes f)
     ∙ ap (λ former. closed_to (p ∷ [])
-    (record { sets = made_sets; former = former; drops_rasl = true; picture = None })) (f.former nal (slice_at g m))
+    (record { sets = made_sets; former = former; drops_rasl = true; picture = None }))
+    (f.former nal (slice_at g m) hashes)
 
 -- ---- a slice
 
@@ -146,7 +157,7 @@ slice_by s rasl flag x y z e f = rw (e, f) refl
 
 pub step_slice : (s : Between) (closed : List PicturePlan) (first : Bool) (g nal : ℕ) (m : Making) → Facts first g
     → close s ≡ closed_to closed (ready first g)
-    → step s (Whole (slice_unit nal g m)) ≡ closed_to closed (opened first g (plan_at first g nal m))
+    → step s (Whole (slice_unit nal g m)) ≡ closed_to closed (opened first g (plan_by first g nal m []))
 unfolding step unit_step slice_step
 step_slice s closed first g nal m f closes =
     let u : NalUnit = slice_unit nal g m in
@@ -158,9 +169,30 @@ step_slice s closed first g nal m f closes =
 
 -- ---- hashes
 
-pub step_hash : (s : Between) (u : NalUnit) → u.layer ≡ 0 → u.nal_type ≡ 40 → step s (Whole u) ≡ closed_to [] s
+stated_is : (p : Planes) → stated_hashes (hash_payload p) ≡ Some (md5 p.luma ∷ md5 p.cb ∷ md5 p.cr ∷ [])
+unfolding hash_payload
+stated_is p =
+    stated_first (md5 p.luma) (md5 p.cb) (md5 p.cr) (128 ∷ []) (length-md5 p.luma) (length-md5 p.cb) (length-md5 p.cr)
+
+suffix_step : (s : Between) (u : NalUnit) → u.layer ≡ 0 → u.nal_type ≡ 40
+    → step s (Whole u) ≡ closed_to [] (informed s u)
 unfolding step unit_step kind_of_type
-step_hash s u e f = rw (e, f) refl
+suffix_step s u e f = rw (e, f) refl
+
+informed_is : (first : Bool) (g nal j : ℕ) (m : Making)
+    → informed (opened first g (plan_by first g nal m [])) (hash_numbered j g m)
+    ≡ opened first g (plan_by first g nal m (hashes_at j g m))
+unfolding made_plan
+informed_is first g nal j m =
+    ap (λ o. opened first g (plan_by first g nal m (stated_in (number_of (3 + 2 * j)) o)))
+    (stated_is (picture_at g m).planes)
+
+pub step_hash : (first : Bool) (g nal j : ℕ) (m : Making)
+    → step (opened first g (plan_by first g nal m [])) (Whole (hash_numbered j g m))
+    ≡ closed_to [] (opened first g (plan_by first g nal m (hashes_at j g m)))
+step_hash first g nal j m =
+    suffix_step (opened first g (plan_by first g nal m [])) (hash_numbered j g m) refl refl
+    ∙ ap (closed_to []) (informed_is first g nal j m)
 
 -- ---- both parameter sets
 

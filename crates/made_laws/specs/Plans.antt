@@ -13,6 +13,7 @@ use Rattle.slice_types.specs.declared.slice.SliceType.TheVariants as slice
 use Rattle.plan_types.specs.declared.outputs.Outputs.{Outputs}
 use Rattle.plan_types.specs.declared.picture_plan.PicturePlan.{PicturePlan}
 use Rattle.plan_types.specs.declared.segment_plan.SegmentPlan.{SegmentPlan}
+use Rattle.plan_types.specs.declared.stated_hash.StatedHash.{StatedHash}
 use Rattle.spec_slice_headers.specs.Substreams.{substream_ranges}
 use Rattle.made_laws.specs.Sets.{made_pps, made_sps}
 use Rattle.made_laws.specs.Headers.{made_header, made_kind, order_at, type_at}
@@ -135,9 +136,10 @@ segment_with lists header s = record {
   substreams = substream_ranges s.payload s.removed s.data_place s.entry_points;
 }
 
--- a picture of this type and order count, whose slice stands in the unit of this number
-abbrev pub plan_with : BufferUse → SliceType → ℕ → ℕ → MadeSlice → PicturePlan
-plan_with d type poc nal s = record {
+-- a picture of this type and order count, whose slice stands in the unit of this number, and of which these hashes are
+-- stated
+abbrev pub plan_with : BufferUse → SliceType → ℕ → ℕ → MadeSlice → List StatedHash → PicturePlan
+plan_with d type poc nal s hashes = record {
   nal = nal;
   kind = made_kind type;
   sps = made_sps;
@@ -146,9 +148,9 @@ plan_with d type poc nal s = record {
   rps = made_rps d;
   outputs = made_outputs d type poc;
   segments = segment_with (made_lists d type poc) (made_header type poc nal s.entry_points s.data_place) s ∷ [];
-  hashes = [];
+  hashes = hashes;
 }
 
 -- the picture of a number in its group, which may be the first of the stream
-unfoldable pub made_plan : Bool → ℕ → ℕ → MadeSlice → PicturePlan
-made_plan first g nal s = plan_with (buffer_use_at first g) (type_at g) (order_at g) nal s
+unfoldable pub made_plan : Bool → ℕ → ℕ → MadeSlice → List StatedHash → PicturePlan
+made_plan first g nal s hashes = plan_with (buffer_use_at first g) (type_at g) (order_at g) nal s hashes

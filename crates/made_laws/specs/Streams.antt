@@ -6,8 +6,10 @@ use Rattle.std.specs.Prelude.{map, if◌then◌else◌}
 use Rattle.std.specs.List.{flat_map, range_with_len}
 use Rattle.md5.specs.Md5.{md5}
 use Rattle.plan_types.specs.declared.picture_plan.PicturePlan.{PicturePlan}
+use Rattle.plan_types.specs.declared.stated_hash.StatedHash.{StatedHash}
 use Rattle.spec_nal_units.specs.Escaped.{added, escaped, unit_with}
 use Rattle.spec_nal_units.specs.Judged.{NalUnit}
+use Rattle.spec_stated_hashes.specs.Digests.{digest_of}
 use Rattle.spec_written_headers.specs.Codes.{Code}
 use Rattle.spec_made.specs.Draws.{inter_units_of, motion_of, pcm_units_of}
 use Rattle.spec_made.specs.Headers.{entries_of, header_bytes, idr_codes, inter_codes, picture_payload, rows_of}
@@ -118,9 +120,26 @@ made_units seed pictures = set_units ++ flat_map (units_of seed) (range_with_len
 
 -- ---- the pictures
 
+-- the MD5 of each plane that is drawn, as the unit of this number states them
+abbrev pub made_hash : ℕ → Planes → StatedHash
+made_hash nal p = record {
+  nal = nal;
+  luma = digest_of (md5 p.luma);
+  cb = digest_of (md5 p.cb);
+  cr = digest_of (md5 p.cr);
+}
+
+-- what is stated of the planes of the picture of number j, which is of number g in its group
+abbrev pub hashes_at : ℕ → ℕ → Making → List StatedHash
+hashes_at j g m = made_hash (number_of (3 + 2 * j)) (picture_at g m).planes ∷ []
+
+-- the plan of that picture, before which this stands
+abbrev pub plan_at : ℕ → ℕ → Making → PicturePlan
+plan_at j g m = made_plan (j == 0) g (number_of (2 + 2 * j)) (slice_at g m) (hashes_at j g m)
+
 -- the plan of the picture of a number in the stream of a seed
 abbrev pub plan_of : ℕ → ℕ → PicturePlan
-plan_of seed j = made_plan (j == 0) (j % 8) (number_of (2 + 2 * j)) (slice_at (j % 8) (making_at seed j))
+plan_of seed j = plan_at j (j % 8) (making_at seed j)
 
 -- the pictures of that stream
 abbrev pub made_plans : ℕ → ℕ → List PicturePlan

@@ -57,8 +57,8 @@ pub fn made_streams_split()
 {}
 
 /// The plan of the stream of a seed is the pictures that are drawn, in their order, with their headers, order counts,
-/// references and payloads; nothing stops it, and the pictures that wait go out at the end (`plan`). They are as many
-/// as were asked for (`count`).
+/// references and payloads, and with the MD5 of their planes as the hashes that are stated for them; nothing stops it,
+/// and the pictures that wait go out at the end (`plan`). They are as many as were asked for (`count`).
 pub fn made_streams_hold_their_pictures()
     ensures plan { (seed pictures : ℕ) → planned_of true (made seed pictures)
         ≡ record { pictures = made_plans seed pictures; last = last_out pictures; stop = None } }

@@ -13,6 +13,7 @@ use Rattle.spec_slice_data.specs.Segment.{SegmentShape}
 use Rattle.spec_slice_headers.specs.Substreams.{bytes_of, substream_ranges}
 use Rattle.spec_picture_trees.specs.Shapes.{picture_shape, segment_shape, slice_syntax, inter_syntax, init_type}
 use Rattle.plan_types.specs.declared.picture_plan.PicturePlan.{PicturePlan}
+use Rattle.plan_types.specs.declared.stated_hash.StatedHash.{StatedHash}
 use Rattle.spec_picture_plan.specs.Planned.{Planned, planned_of}
 use Rattle.spec_made.specs.declared.units.Shift.{Shift}
 use Rattle.spec_made.specs.declared.units.InterUnit.{InterUnit}
@@ -24,7 +25,8 @@ use Rattle.spec_made.specs.PcmRows.{pcm_contexts_at, pcm_row}
 use Rattle.spec_made.specs.Stream.{Making, made}
 use Rattle.made_laws.specs.Headers.{made_header, order_at}
 use Rattle.made_laws.specs.Plans.{BufferUse, MadeSlice, buffer_use_at, made_plan, plan_with}
-use Rattle.made_laws.specs.Streams.{idr_picture, inter_picture, making_at, number_of, picture_at, plan_of, slice_at}
+use Rattle.made_laws.specs.Streams.{hashes_at, idr_picture, inter_picture, making_at, number_of, picture_at, plan_of}
+use Rattle.made_laws.specs.Streams.{slice_at}
 use Rattle.made_laws.proofs.Units.{ranges_cut}
 use Rattle.made_laws.proofs.Whole.{plan_is}
 use Rattle.made_laws.specs.Sets.{made_pps, made_sps}
@@ -53,11 +55,12 @@ segment_with_rows init_type substreams = record {
   substreams = substreams;
 }
 
-idr_read_by : (d : BufferUse) (poc nal : ℕ) (s : MadeSlice) (row : ℕ → List ℕ) → IsCut s row
-    → IsReadBy (plan_with d slice.I poc nal s) idr_syntax (made_segment 0 row)
+idr_read_by : (d : BufferUse) (poc nal : ℕ) (s : MadeSlice) (hashes : List StatedHash) (row : ℕ → List ℕ)
+    → IsCut s row
+    → IsReadBy (plan_with d slice.I poc nal s hashes) idr_syntax (made_segment 0 row)
 unfolding IsCut made_sps made_pps picture_shape slice_syntax inter_syntax segment_shape init_type made_header
     blocks_across
-idr_read_by d poc nal s row cut = record {
+idr_read_by d poc nal s hashes row cut = record {
   slice = _;
   only = refl;
   size = refl;
@@ -66,11 +69,12 @@ idr_read_by d poc nal s row cut = record {
   segment_is = ap (segment_with_rows 0) cut;
 }
 
-p_read_by : (d : BufferUse) (poc nal : ℕ) (s : MadeSlice) (row : ℕ → List ℕ) → IsCut s row
-    → IsReadBy (plan_with d slice.P poc nal s) (predicted_syntax None) (made_segment 1 row)
+p_read_by : (d : BufferUse) (poc nal : ℕ) (s : MadeSlice) (hashes : List StatedHash) (row : ℕ → List ℕ)
+    → IsCut s row
+    → IsReadBy (plan_with d slice.P poc nal s hashes) (predicted_syntax None) (made_segment 1 row)
 unfolding IsCut made_sps made_pps picture_shape slice_syntax inter_syntax segment_shape init_type made_header
     blocks_across
-p_read_by d poc nal s row cut = record {
+p_read_by d poc nal s hashes row cut = record {
   slice = _;
   only = refl;
   size = refl;
@@ -79,11 +83,12 @@ p_read_by d poc nal s row cut = record {
   segment_is = ap (segment_with_rows 1) cut;
 }
 
-b_read_by : (d : BufferUse) (poc nal : ℕ) (s : MadeSlice) (row : ℕ → List ℕ) (second : Shift) → IsCut s row
-    → IsReadBy (plan_with d slice.B poc nal s) (predicted_syntax (Some second)) (made_segment 2 row)
+b_read_by : (d : BufferUse) (poc nal : ℕ) (s : MadeSlice) (hashes : List StatedHash) (row : ℕ → List ℕ)
+    (second : Shift) → IsCut s row
+    → IsReadBy (plan_with d slice.B poc nal s hashes) (predicted_syntax (Some second)) (made_segment 2 row)
 unfolding IsCut made_sps made_pps picture_shape slice_syntax inter_syntax segment_shape init_type made_header
     blocks_across
-b_read_by d poc nal s row second cut = record {
+b_read_by d poc nal s hashes row second cut = record {
   slice = _;
   only = refl;
   size = refl;
@@ -98,55 +103,62 @@ cut_of : (g : ℕ) (m : Making) → IsCut (slice_at g m) (picture_at g m).row
 unfolding IsCut
 cut_of g m = ranges_cut g m
 
-idr_read : (d : BufferUse) (poc nal : ℕ) (s : MadeSlice) (m : Making) → IsCut s (idr_picture m).row
-    → IsReadAs (plan_with d slice.I poc nal s) (pcm_items (pcm_units_of m.generator).0)
+idr_read : (d : BufferUse) (poc nal : ℕ) (s : MadeSlice) (hashes : List StatedHash) (m : Making)
+    → IsCut s (idr_picture m).row
+    → IsReadAs (plan_with d slice.I poc nal s hashes) (pcm_items (pcm_units_of m.generator).0)
 unfolding idr_picture
-idr_read d poc nal s m cut =
+idr_read d poc nal s hashes m cut =
     let units : List PcmUnit = (pcm_units_of m.generator).0 in
     picture_back idr_syntax 0 (pcm_row units) (pcm_items units) (pcm_words units) (pcm_contexts_at units)
-    (plan_with d slice.I poc nal s) (pcm_rows units (are_drawn m.generator))
-    (idr_read_by d poc nal s (pcm_row units) cut)
+    (plan_with d slice.I poc nal s hashes) (pcm_rows units (are_drawn m.generator))
+    (idr_read_by d poc nal s hashes (pcm_row units) cut)
 
-p_read : (d : BufferUse) (order poc nal : ℕ) (s : MadeSlice) (m : Making) → IsCut s (inter_picture false order m).row
-    → IsReadAs (plan_with d slice.P poc nal s) (predicted_items false m)
+p_read : (d : BufferUse) (order poc nal : ℕ) (s : MadeSlice) (hashes : List StatedHash) (m : Making)
+    → IsCut s (inter_picture false order m).row
+    → IsReadAs (plan_with d slice.P poc nal s hashes) (predicted_items false m)
 unfolding inter_picture predicted_items motion_of
-p_read d order poc nal s m cut =
+p_read d order poc nal s hashes m cut =
     let motion : Motion = (motion_of false m.generator).0 in
     let units : List InterUnit = (inter_units_of (motion_of false m.generator).1).0 in
     picture_back (predicted_syntax None) 1 (inter_row motion units) (inter_items motion units)
-    (inter_words motion units) (contexts_at (contexts_of_motion motion) motion units) (plan_with d slice.P poc nal s)
-    (inter_rows motion units (motion_small false m.generator)) (p_read_by d poc nal s (inter_row motion units) cut)
+    (inter_words motion units) (contexts_at (contexts_of_motion motion) motion units)
+    (plan_with d slice.P poc nal s hashes) (inter_rows motion units (motion_small false m.generator))
+    (p_read_by d poc nal s hashes (inter_row motion units) cut)
 
-b_read : (d : BufferUse) (order poc nal : ℕ) (s : MadeSlice) (m : Making) → IsCut s (inter_picture true order m).row
-    → IsReadAs (plan_with d slice.B poc nal s) (predicted_items true m)
+b_read : (d : BufferUse) (order poc nal : ℕ) (s : MadeSlice) (hashes : List StatedHash) (m : Making)
+    → IsCut s (inter_picture true order m).row
+    → IsReadAs (plan_with d slice.B poc nal s hashes) (predicted_items true m)
 unfolding inter_picture predicted_items motion_of
-b_read d order poc nal s m cut =
+b_read d order poc nal s hashes m cut =
     let motion : Motion = (motion_of true m.generator).0 in
     let second : Shift = (shift_of (shift_of m.generator).1).0 in
     let units : List InterUnit = (inter_units_of (motion_of true m.generator).1).0 in
     picture_back (predicted_syntax (Some second)) 2 (inter_row motion units) (inter_items motion units)
-    (inter_words motion units) (contexts_at (contexts_of_motion motion) motion units) (plan_with d slice.B poc nal s)
-    (inter_rows motion units (motion_small true m.generator))
-    (b_read_by d poc nal s (inter_row motion units) second cut)
+    (inter_words motion units) (contexts_at (contexts_of_motion motion) motion units)
+    (plan_with d slice.B poc nal s hashes) (inter_rows motion units (motion_small true m.generator))
+    (b_read_by d poc nal s hashes (inter_row motion units) second cut)
 
-any_read : (zero odd : Bool) (d : BufferUse) (one two poc nal : ℕ) (s : MadeSlice) (m : Making)
+any_read : (zero odd : Bool) (d : BufferUse) (one two poc nal : ℕ) (s : MadeSlice) (hashes : List StatedHash)
+    (m : Making)
     → IsCut s (cond zero (idr_picture m) (cond odd (inter_picture false one m) (inter_picture true two m))).row
-    → IsReadAs (plan_with d (cond zero slice.I (cond odd slice.P slice.B)) poc nal s)
+    → IsReadAs (plan_with d (cond zero slice.I (cond odd slice.P slice.B)) poc nal s hashes)
     (cond zero (pcm_items (pcm_units_of m.generator).0) (cond odd (predicted_items false m) (predicted_items true m)))
-any_read true odd d one two poc nal s m cut = idr_read d poc nal s m cut
-any_read false true d one two poc nal s m cut = p_read d one poc nal s m cut
-any_read false false d one two poc nal s m cut = b_read d two poc nal s m cut
+any_read true odd d one two poc nal s hashes m cut = idr_read d poc nal s hashes m cut
+any_read false true d one two poc nal s hashes m cut = p_read d one poc nal s hashes m cut
+any_read false false d one two poc nal s hashes m cut = b_read d two poc nal s hashes m cut
 
-pub each_read : (first : Bool) (g nal : ℕ) (m : Making)
-    → IsReadAs (made_plan first g nal (slice_at g m)) (items_at g m)
+pub each_read : (first : Bool) (g nal : ℕ) (m : Making) (hashes : List StatedHash)
+    → IsReadAs (made_plan first g nal (slice_at g m) hashes) (items_at g m)
 unfolding made_plan items_at picture_at
-each_read first g nal m =
-    any_read (g == 0) (g % 2 == 1) (buffer_use_at first g) (g + 1) (g - 1) (order_at g) nal (slice_at g m) m
+each_read first g nal m hashes =
+    any_read (g == 0) (g % 2 == 1) (buffer_use_at first g) (g + 1) (g - 1) (order_at g) nal (slice_at g m) hashes m
     (cut_of g m)
 
 -- the picture of a number in the stream of a seed
 pub picture_read_as : (seed j : ℕ) → IsReadAs (plan_of seed j) (items_of seed j)
-picture_read_as seed j = each_read (j == 0) (j % 8) (number_of (2 + 2 * j)) (making_at seed j)
+picture_read_as seed j =
+    let m : Making = making_at seed j in
+    each_read (j == 0) (j % 8) (number_of (2 + 2 * j)) m (hashes_at j (j % 8) m)
 
 pub all_read : (seed pictures j : ℕ) (d : PicturePlan) → j < pictures
     → IsReadAs (slice_index_or (planned_of true (made seed pictures)).pictures j d) (items_of seed j)

@@ -7,6 +7,7 @@ mod ending;
 mod flight;
 mod former;
 mod gathering;
+mod hashes;
 mod planner;
 mod slices;
 mod state;

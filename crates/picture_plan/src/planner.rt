@@ -46,7 +46,7 @@ impl Model for Planner {
 
 impl Planner {
     /// A planner of flights of at most `ahead` pictures, before the first unit. Whether stated picture hashes are to be
-    /// compared changes nothing: no hash is read.
+    /// compared changes nothing: they are planned, and not judged.
     pub fn new(alloc: Global, ahead: u32, _hash: bool) -> Result<Planner, AllocError>
         requires some { 1 ≤ ahead }
         requires few { ahead ≤ 16 }

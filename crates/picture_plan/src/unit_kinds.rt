@@ -5,7 +5,7 @@ ghost use Rattle.spec_picture_plan.specs.UnitKinds.{is_radl, is_rasl, is_slice, 
 
 use hv_base::{
     AUD_NUT, BLA_W_LP, CRA_NUT, EOB_NUT, EOS_NUT, PPS_NUT, PREFIX_SEI_NUT, RADL_N, RADL_R, RASL_N,
-    RASL_R, RSV_VCL_N14, SPS_NUT, VPS_NUT,
+    RASL_R, RSV_VCL_N14, SPS_NUT, SUFFIX_SEI_NUT, VPS_NUT,
 };
 use spec_picture_plan::UnitKind;
 
@@ -19,6 +19,7 @@ pub(crate) fn kind_of_type(nal_type: u8) -> UnitKind
         PPS_NUT => UnitKind::PictureSet,
         EOS_NUT | EOB_NUT => UnitKind::SequenceEnd,
         VPS_NUT | AUD_NUT | PREFIX_SEI_NUT => UnitKind::Border,
+        SUFFIX_SEI_NUT => UnitKind::SuffixInformation,
         _ if is_slice(nal_type) => UnitKind::Slice,
         _ => UnitKind::Other,
     }

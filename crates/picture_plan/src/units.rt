@@ -68,6 +68,7 @@ impl State {
             UnitKind::PictureSet => self.plan_pps(&nal),
             UnitKind::SequenceEnd => self.close_then(Change::SequenceEnd),
             UnitKind::Border => self.close(),
+            UnitKind::SuffixInformation => self.plan_suffix(&nal),
             UnitKind::Other => Ok(Step::only(None)),
         }
     }

@@ -1,6 +1,6 @@
 -- All pictures that are planned of a stream are in range.
 use Rattle.std.proofs.Common.{◌≡◌, ℕ, ℤ, Bool, true, false, ◌&&◌, List, [], ◌∷◌, Option, Some, None, IfSome}
-use Rattle.std.proofs.Common.{if◌then◌else◌, Result, Ok, Err, refl, sym, subst}
+use Rattle.std.proofs.Common.{option_map, if◌then◌else◌, Result, Ok, Err, refl, sym, subst}
 use Rattle.std.specs.Prelude.{nat_lt}
 use Rattle.std.specs.List.{All}
 use Rattle.std.proofs.lemmas.List.Elements.{All-append, All-cons, All-nil, All-replicate, All-set}
@@ -31,10 +31,11 @@ use Rattle.spec_picture_plan.specs.UnitKinds.{is_rasl, kind_of_type}
 use Rattle.spec_picture_plan.specs.Closing.{broken_at_closing, broken_in, full_at, or_later}
 use Rattle.spec_picture_plan.specs.Pictures.{beginning}
 use Rattle.spec_picture_plan.specs.Steps.{Stepped, begun, behind_read, close, closed_by, closed_open, closing, context_of}
-use Rattle.spec_picture_plan.specs.Steps.{continued, continued_by, continuing, first_flag, goes_on, joined, judged_header}
-use Rattle.spec_picture_plan.specs.Steps.{kind_step, opened_by, opening, picture_of, put_pps, put_sps, sequence_end}
+use Rattle.spec_picture_plan.specs.Steps.{continued, continued_by, continuing, first_flag, goes_on, informed, joined}
+use Rattle.spec_picture_plan.specs.Steps.{judged_header, kind_step, opened_by, opening, picture_of, put_pps, put_sps}
+use Rattle.spec_picture_plan.specs.Steps.{sequence_end}
 use Rattle.spec_picture_plan.specs.Steps.{slice_judged, slice_step, step, then_next, unit_step, with_order, with_set}
-use Rattle.spec_picture_plan.specs.Steps.{with_sets}
+use Rattle.spec_picture_plan.specs.Steps.{with_hashes, with_sets}
 use Rattle.spec_picture_plan.specs.Planned.{Planned, planned_end, planned_from, planned_next, planned_of}
 use Rattle.spec_picture_plan.proofs.HeaderFacts.{judged_reads}
 use Rattle.plan_laws.specs.Plans.{IsPlan}
@@ -264,6 +265,33 @@ slice_is u s is = slice_by u s is (is_rasl u.nal_type && s.drops_rasl) (goes_on 
 passes : (s : Between) → IsBetween s → IsStep (record { closed = []; next = Ok s })
 passes s is = record { closed = All-nil IsPlan; next = is }
 
+-- hashes that are stated change nothing that is asked of a picture
+hashes_open : (sets : Sets) (u : NalUnit) (p : PicturePlan) → IsOpen sets p → IsOpen sets (with_hashes u p)
+hashes_open sets u p is = record {
+  named = is.named;
+  sps = is.sps;
+  pps = is.pps;
+  there = is.there;
+  headers = is.headers;
+  order = is.order;
+  inside = is.inside;
+  slices = is.slices;
+  references = is.references;
+  cut = is.cut;
+}
+
+informed_open : (sets : Sets) (u : NalUnit) (o : Option PicturePlan) → IfSome o (IsOpen sets)
+    → IfSome (option_map (with_hashes u) o) (IsOpen sets)
+informed_open sets u None is = tt
+informed_open sets u (Some p) is = hashes_open sets u p is
+
+informed_is : (s : Between) (u : NalUnit) → IsBetween s
+    → IsStep (record { closed = []; next = Ok (informed s u) })
+informed_is s u is = record {
+  closed = All-nil IsPlan;
+  next = record { sets = is.sets; picture = informed_open s.sets u s.picture is.picture };
+}
+
 kind_is : (s : Between) (u : NalUnit) (kind : UnitKind) → IsBetween s → IsStep (kind_step s u kind)
 kind_is s u unit.Slice is = slice_is u s is
 kind_is s u unit.SequenceSet is =
@@ -272,6 +300,7 @@ kind_is s u unit.PictureSet is =
     closing_is s _ is (λ n ok none. read_pps_is u n (picture_parameter_set_of u.payload) refl ok none)
 kind_is s u unit.SequenceEnd is = closing_is s _ is (λ n ok none. none_open (sequence_end n) ok.sets none)
 kind_is s u unit.Border is = only_closes s is
+kind_is s u unit.SuffixInformation is = informed_is s u is
 kind_is s u unit.Other is = passes s is
 
 unit_by : (s : Between) (u : NalUnit) (above : Bool) → IsBetween s

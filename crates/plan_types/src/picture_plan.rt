@@ -25,7 +25,6 @@ pub struct PicturePlan {
     pub outputs: Outputs,
     /// The slice segments in decoding order, at least one.
     pub segments: FieldList<SegmentPlan>,
-    /// The hashes that are stated for the picture, in the order of their units: none, since supplemental enhancement
-    /// information isn't read.
+    /// The hashes that are stated for the picture, in the order of their units (D.2.19).
     pub hashes: FieldList<StatedHash>,
 }

@@ -18,8 +18,8 @@ use Rattle.spec_picture_build.specs.References.{DecodedPicture}
 use Rattle.spec_picture_plan.specs.Closing.{broken_in, full_at}
 use Rattle.spec_picture_plan.specs.Pictures.{beginning}
 use Rattle.spec_picture_plan.specs.Planned.{stop_of}
-use Rattle.spec_picture_plan.specs.Steps.{Stepped, behind_read, close, closing, first_flag, goes_on, put_pps, put_sps}
-use Rattle.spec_picture_plan.specs.Steps.{sequence_end, slice_judged, step}
+use Rattle.spec_picture_plan.specs.Steps.{Stepped, behind_read, close, closing, first_flag, goes_on, informed}
+use Rattle.spec_picture_plan.specs.Steps.{put_pps, put_sps, sequence_end, slice_judged, step}
 use Rattle.spec_picture_plan.specs.UnitKinds.{is_rasl, kind_of_type}
 use Rattle.spec_picture_plan.specs.declared.unit_kind.UnitKind.{UnitKind}
 use Rattle.spec_picture_plan.specs.declared.unit_kind.UnitKind.TheVariants as unit
@@ -60,6 +60,7 @@ is_dropped s u = is_rasl u.nal_type && s.drops_rasl
 -- whether a unit of a kind closes the open picture: a slice segment does where it is dropped, or doesn't go on with it
 abbrev pub kind_closes : Between → NalUnit → UnitKind → Bool
 kind_closes s u unit.Slice = is_dropped s u || not (goes_on (first_flag (bits u.payload)))
+kind_closes s u unit.SuffixInformation = false
 kind_closes s u unit.Other = false
 kind_closes s u kind = true
 
@@ -76,6 +77,7 @@ kind_judged u unit.SequenceSet s = behind_read u.index (sequence_parameter_set_o
 kind_judged u unit.PictureSet s = behind_read u.index (picture_parameter_set_of u.payload) (put_pps s)
 kind_judged u unit.SequenceEnd s = Ok (sequence_end s)
 kind_judged u unit.Border s = Ok s
+kind_judged u unit.SuffixInformation s = Ok (informed s u)
 kind_judged u unit.Other s = Ok s
 
 -- a unit as it was told by itself

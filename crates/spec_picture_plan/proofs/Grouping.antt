@@ -1,6 +1,7 @@
 -- The slice segments of a stream are grouped to its pictures, in their order.
 use Rattle.std.proofs.Common.{◌≡◌, ◌∙◌, ℕ, ℤ, Bool, true, false, not, ◌&&◌, List, [], ◌∷◌, ◌++◌, Option, Some, None}
-use Rattle.std.proofs.Common.{IfSome, if◌then◌else◌, Result, Ok, Err, refl, sym, ap, subst, append_assoc, append-nil}
+use Rattle.std.proofs.Common.{IfSome, option_map, if◌then◌else◌, Result, Ok, Err, refl, sym, ap, subst, append_assoc}
+use Rattle.std.proofs.Common.{append-nil}
 use Rattle.std.specs.Prelude.{nat_lt}
 use Rattle.std.specs.List.{All, AllZip}
 use Rattle.std.proofs.lemmas.List.Elements.{All-nil, All-cons, All-append, All-push}
@@ -30,8 +31,8 @@ use Rattle.spec_picture_plan.specs.Pictures.{beginning}
 use Rattle.spec_picture_plan.specs.Steps.{Stepped, begun, behind_read, close, closed_by, closed_open, closing, continued}
 use Rattle.spec_picture_plan.specs.Steps.{continued_by, continuing, first_flag, goes_on, joined, judged_header, kind_step}
 use Rattle.spec_picture_plan.specs.Steps.{opened_by, opening, picture_of, put_pps, put_sps, segment_of, sequence_end}
-use Rattle.spec_picture_plan.specs.Steps.{slice_judged, slice_step, step, then_next, unit_step, with_order, with_set}
-use Rattle.spec_picture_plan.specs.Steps.{with_sets}
+use Rattle.spec_picture_plan.specs.Steps.{slice_judged, slice_step, step, then_next, unit_step, with_hashes, with_order}
+use Rattle.spec_picture_plan.specs.Steps.{with_set, with_sets}
 use Rattle.spec_picture_plan.specs.Planned.{Planned, at_end, behind_closed, planned_end, planned_from, planned_next}
 use Rattle.spec_picture_plan.specs.Grouping.{AreGrouped, AreOfPicture, AreOfPictureAtMost, HasFirstFlag, IsSegmentOf}
 use Rattle.spec_picture_plan.specs.Grouping.{decoded_unit, decoded_units, segments_of, units_next}
@@ -339,17 +340,28 @@ slice_goes u s whole =
 abbrev OtherGoes : NalUnit → Between → UnitKind → Type 0
 OtherGoes u s kind = StepGoes (open_of s.picture) (kind_step s u kind) []
 
-other_by : (u : NalUnit) (s : Between) → IsBegun s → (a b c d : Bool)
+informed_goes : (u : NalUnit) (s : Between) (o : Option PicturePlan) → IfSome o IsWhole
+    → StepGoes (open_of o) (record { closed = []; next = Ok (record s { picture = option_map (with_hashes u) o }) }) []
+informed_goes u s None whole =
+    record { begins = All-nil IsWhole; next = record { own = []; zip = tt; all = refl; begun = tt } }
+informed_goes u s (Some p) whole = record {
+  begins = All-nil IsWhole;
+  next = record { own = []; zip = tt; all = append-nil p.segments; begun = whole };
+}
+
+other_by : (u : NalUnit) (s : Between) → IsBegun s → (a b c d e : Bool)
     → OtherGoes u s
     (if a then unit.SequenceSet
-    else (if b then unit.PictureSet else (if c then unit.SequenceEnd else (if d then unit.Border else unit.Other))))
-other_by u s whole true b c d =
+    else (if b then unit.PictureSet else (if c then unit.SequenceEnd
+    else (if d then unit.Border else (if e then unit.SuffixInformation else unit.Other)))))
+other_by u s whole true b c d e =
     closing_goes s _ [] whole (λ n none. set_goes u.index (sequence_parameter_set_of u.payload) (put_sps n) (λ x. none))
-other_by u s whole false true c d =
+other_by u s whole false true c d e =
     closing_goes s _ [] whole (λ n none. set_goes u.index (picture_parameter_set_of u.payload) (put_pps n) (λ x. none))
-other_by u s whole false false true d = closing_goes s _ [] whole (λ n none. none_open (sequence_end n) none)
-other_by u s whole false false false true = only_closes s whole
-other_by u s whole false false false false = passes s s refl whole
+other_by u s whole false false true d e = closing_goes s _ [] whole (λ n none. none_open (sequence_end n) none)
+other_by u s whole false false false true e = only_closes s whole
+other_by u s whole false false false false true = informed_goes u s s.picture whole
+other_by u s whole false false false false false = passes s s refl whole
 
 unit_by : (u : NalUnit) (s : Between) → IsBegun s → (layer slice : Bool) → nat_lt 0 u.layer ≡ layer
     → is_slice u.nal_type ≡ slice
@@ -357,7 +369,7 @@ unit_by : (u : NalUnit) (s : Between) → IsBegun s → (layer slice : Bool) →
 unfolding unit_step kind_of_type
 unit_by u s whole true slice l is = rw l (passes s s refl whole)
 unit_by u s whole false true l is = rw (l, is) (slice_goes u s whole)
-unit_by u s whole false false l is = rw (l, is) (other_by u s whole _ _ _ _)
+unit_by u s whole false false l is = rw (l, is) (other_by u s whole _ _ _ _ _)
 
 step_goes : (s : Between) (t : Told) → IsBegun s → StepGoes (open_of s.picture) (step s t) (decoded_unit s t)
 unfolding step

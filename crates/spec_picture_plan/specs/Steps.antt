@@ -1,6 +1,7 @@
 -- One unit of a stream after the other: what it closes, how it is judged, and what is known behind it.
 use Rattle.std.specs.Prelude.{ℕ, ◌+◌, ℤ, Bool, true, false, not, ◌&&◌, ◌||◌, List, [], ◌∷◌, ◌++◌, length, slice_set}
-use Rattle.std.specs.Prelude.{Option, Some, None, is_none, Result, Ok, Err, nat_lt, nat_le, if◌then◌else◌}
+use Rattle.std.specs.Prelude.{slice_index_or, Option, Some, None, is_none, option_map, Result, Ok, Err, nat_lt, nat_le}
+use Rattle.std.specs.Prelude.{if◌then◌else◌}
 use Rattle.hv_base.specs.declared.breach.Breach.{Breach}
 use Rattle.hv_base.specs.declared.breach.Breach.TheVariants as breach
 use Rattle.hv_base.specs.declared.fault.FaultKind.{FaultKind}
@@ -19,6 +20,9 @@ use Rattle.header_types.specs.declared.reference_pictures.Lists.{Lists}
 use Rattle.header_types.specs.declared.reference_pictures.Rps.{Rps}
 use Rattle.header_types.specs.declared.former.Sets.{Sets}
 use Rattle.header_types.specs.declared.former.Former.{Former}
+use Rattle.plan_types.specs.declared.stated_hash.StatedHash.{StatedHash}
+use Rattle.spec_stated_hashes.specs.Digests.{digest_of}
+use Rattle.spec_stated_hashes.specs.StatedHashes.{stated_hashes}
 use Rattle.spec_bits.specs.Bits.{bits}
 use Rattle.spec_nal_units.specs.Judged.{NalUnit, Told}
 use Rattle.spec_parameter_sets.specs.PictureParameterSet.{picture_parameter_set_of}
@@ -235,6 +239,28 @@ slice_step s u =
     else (if goes_on (first_flag (bits u.payload)) then record { closed = []; next = slice_judged u s }
     else closing s (slice_judged u))
 
+-- the hashes of the planes Y, Cb and Cr as the unit of this number states them
+abbrev pub stated_hash : ℕ → List (List ℕ) → StatedHash
+stated_hash nal hashes = record {
+  nal = nal;
+  luma = digest_of (slice_index_or hashes 0 []);
+  cb = digest_of (slice_index_or hashes 1 []);
+  cr = digest_of (slice_index_or hashes 2 []);
+}
+
+-- the hashes that the unit of this number states, where it does
+abbrev pub stated_in : ℕ → Option (List (List ℕ)) → List StatedHash
+stated_in nal None = []
+stated_in nal (Some hashes) = stated_hash nal hashes ∷ []
+
+-- a picture with what a unit states of its planes
+abbrev pub with_hashes : NalUnit → PicturePlan → PicturePlan
+with_hashes u p = record p { hashes = p.hashes ++ stated_in u.index (stated_hashes u.payload) }
+
+-- suffix supplemental enhancement information is of the open picture, if there is one
+abbrev pub informed : Between → NalUnit → Between
+informed s u = record s { picture = option_map (with_hashes u) s.picture }
+
 -- a unit by its kind
 abbrev pub kind_step : Between → NalUnit → UnitKind → Stepped
 kind_step s u unit.Slice = slice_step s u
@@ -242,6 +268,7 @@ kind_step s u unit.SequenceSet = closing s (λ t. behind_read u.index (sequence_
 kind_step s u unit.PictureSet = closing s (λ t. behind_read u.index (picture_parameter_set_of u.payload) (put_pps t))
 kind_step s u unit.SequenceEnd = closing s (λ t. Ok (sequence_end t))
 kind_step s u unit.Border = close s
+kind_step s u unit.SuffixInformation = record { closed = []; next = Ok (informed s u) }
 kind_step s u unit.Other = record { closed = []; next = Ok s }
 
 -- one unit: those of a layer above the base are passed over

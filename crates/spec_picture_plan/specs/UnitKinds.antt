@@ -2,10 +2,10 @@
 use Rattle.std.specs.Prelude.{ℕ, ◌%◌, Bool, not, ◌&&◌, ◌||◌, nat_le, ◌==◌, if◌then◌else◌}
 use Rattle.hv_base.specs.declared.nal_types.TheConstants.{AUD_NUT, BLA_W_LP, CRA_NUT, EOB_NUT, EOS_NUT, PPS_NUT}
 use Rattle.hv_base.specs.declared.nal_types.TheConstants.{PREFIX_SEI_NUT, RADL_N, RADL_R, RASL_N, RASL_R, RSV_VCL_N14}
-use Rattle.hv_base.specs.declared.nal_types.TheConstants.{SPS_NUT, VPS_NUT}
+use Rattle.hv_base.specs.declared.nal_types.TheConstants.{SPS_NUT, SUFFIX_SEI_NUT, VPS_NUT}
 use Rattle.spec_picture_plan.specs.declared.unit_kind.UnitKind.{UnitKind}
 use Rattle.spec_picture_plan.specs.declared.unit_kind.UnitKind.TheVariants.{Slice, SequenceSet, PictureSet, SequenceEnd}
-use Rattle.spec_picture_plan.specs.declared.unit_kind.UnitKind.TheVariants.{Border, Other}
+use Rattle.spec_picture_plan.specs.declared.unit_kind.UnitKind.TheVariants.{Border, SuffixInformation, Other}
 
 -- the slice segments that may be decoded
 abbrev pub is_slice : ℕ → Bool
@@ -19,7 +19,8 @@ kind_of_type nal_type =
     else (if nal_type == PPS_NUT then PictureSet
     else (if (nal_type == EOS_NUT) || (nal_type == EOB_NUT) then SequenceEnd
     else (if (nal_type == VPS_NUT) || (nal_type == AUD_NUT) || (nal_type == PREFIX_SEI_NUT) then Border
-    else Other))))
+    else (if nal_type == SUFFIX_SEI_NUT then SuffixInformation
+    else Other)))))
 
 -- random access skipped leading pictures, and random access decodable ones
 abbrev pub is_rasl : ℕ → Bool

@@ -14,6 +14,8 @@ pub enum UnitKind {
     /// A video parameter set, an access unit delimiter or prefix supplemental enhancement information, none of which is
     /// read: the next picture begins behind it.
     Border,
+    /// Suffix supplemental enhancement information, which may state hashes of the open picture's planes.
+    SuffixInformation,
     /// Any other unit, which is passed over.
     Other,
 }
