@@ -30,6 +30,25 @@ pub without_edge : (e f t t' p p' : Bool) (s : ℕ) → e ≡ false → e ≡ (f
 without_edge e f t t' p p' s none is et ep =
     passed _ s (sym (edge_same f t t' p p' et ep) ∙ (sym is ∙ none))
 
+and_false : (f : Bool) → (f && false) ≡ false
+and_false true = refl
+and_false false = refl
+
+-- where neither is marked
+pub not_marked : (f t t' p p' : Bool) (s : ℕ) → t ≡ t' → p ≡ p' → t ≡ false → p ≡ false
+    → 0 ≡ (if f && (t' || p') then s else 0)
+not_marked f t t' p p' s et ep none bare =
+    passed _ s (sym (edge_same f t t' p p' et ep) ∙ (rw (none, bare) (and_false f)))
+
+-- of four marks none is there
+pub none_marked : (a b c d : Bool) → (((a || b) || c) || d) ≡ false
+    → (a ≡ false) × ((b ≡ false) × ((c ≡ false) × (d ≡ false)))
+none_marked false false false false e = (refl, (refl, (refl, refl)))
+none_marked false false false true e = absurd cc
+none_marked false false true d e = absurd cc
+none_marked false true c d e = absurd cc
+none_marked true b c d e = absurd cc
+
 abbrev place_of : ℕ → ℕ → Bool → ℤ → Bool → UnitPlace
 place_of left top coded qp kept =
     record { left_strength = left; top_strength = top; coded = coded; qp_y = qp; kept = kept }

@@ -1,13 +1,15 @@
 //! The places of a coding tree unit.
 
-ghost use Rattle.std.specs.Prelude.{◌≡◌, ℕ, ◌+◌, ◌*◌, ◌<◌, ◌≤◌, pos, ◌-ℤ◌};
+ghost use Rattle.std.specs.Prelude.{◌≡◌, ℕ, ◌+◌, ◌*◌, ◌<◌, ◌≤◌, pos, ◌-ℤ◌, Bool, false, ◌||◌, List, slice_index_or};
 ghost use Rattle.std.specs.List.{All};
+ghost use Rattle.ctu_records.specs.declared.item.Item.{Item};
 ghost use Rattle.ctu_records.specs.Places.{by_place};
 ghost use Rattle.ctu_records.specs.Tree.{qp_at};
 ghost use Rattle.spec_motion.specs.Units.{IsPlacedItem};
 ghost use Rattle.spec_boundary_strengths.specs.declared.place.UnitPlace.{UnitPlace};
 ghost use Rattle.spec_boundary_strengths.specs.Places.{unit_place};
-ghost use Rattle.boundary_strengths.specs.Held.{AreMarked, beside_of};
+ghost use Rattle.spec_boundary_strengths.specs.Strengths.{left_strength, top_strength};
+ghost use Rattle.boundary_strengths.specs.Held.{AreMarked, beside_of, inner_place};
 
 use crate::edges::{left_strength, top_strength};
 use crate::marks::{Marks, marks_of};
@@ -16,28 +18,57 @@ use crate::sides::UnitSides;
 use ctu_records::Records;
 use spec_boundary_strengths::UnitPlace;
 
-/// What deblocking asks of the places of a unit, in 16 rows of 16. A prediction unit that doesn't lie in the greatest
-/// unit is passed over.
+/// What deblocking asks of the places of a unit of so many places a side, in 16 rows of 16: of others nothing is told. A
+/// prediction unit that doesn't lie in the greatest unit is passed over.
 pub fn unit_places<V: PlaceMotions>(
     records: &Records,
     sides: &UnitSides,
     view: &V,
+    side: usize,
     places: &mut [UnitPlace; 256],
 )
+    requires side { side ≤ 16 }
     requires offset { sides.now.qp_bd_offset ≤ 48 }
     ensures { All IsPlacedItem records.now.items → ((i j : ℕ) → qp_at records.now.items i j ≤ 127)
-        → (x y : ℕ) (d : UnitPlace) → x < 16 → y < 16
+        → (x y : ℕ) (d : UnitPlace) → x < side → y < side
         → by_place d places.new x y
         ≡ unit_place (beside_of sides.now (V.motion_at view.now)) sides.now.pcm_loop_filter_disabled
         sides.now.qp_bd_offset records.now.items x y }
 {
     let marks = marks_of(records.items(), sides.pcm_loop_filter_disabled);
-    for k in 0..256usize {
-        places[k] = place(records, &marks, sides, view, k % 16, k / 16);
+    for y in 0..side {
+        fill_row(records, &marks, sides, view, y, side, places);
     }
 }
 
-/// What is asked of a place.
+/// What is asked of the first places of a row; the rows above it stay.
+fn fill_row<V: PlaceMotions>(
+    records: &Records,
+    marks: &Marks,
+    sides: &UnitSides,
+    view: &V,
+    y: usize,
+    side: usize,
+    places: &mut [UnitPlace; 256],
+)
+    requires y { y < 16 }
+    requires side { side ≤ 16 }
+    requires offset { sides.now.qp_bd_offset ≤ 48 }
+    ensures row { AreMarked sides.now.pcm_loop_filter_disabled records.now.items marks.now
+        → ((i j : ℕ) → qp_at records.now.items i j ≤ 127)
+        → (x : ℕ) (d : UnitPlace) → x < side
+        → by_place d places.new x y
+        ≡ unit_place (beside_of sides.now (V.motion_at view.now)) sides.now.pcm_loop_filter_disabled
+        sides.now.qp_bd_offset records.now.items x y }
+    ensures above { (q : ℕ) (d : UnitPlace) → q < 16 * y
+        → slice_index_or places.new q d ≡ slice_index_or places.old q d }
+{
+    for x in 0..side {
+        places[16 * y + x] = place(records, marks, sides, view, x, y);
+    }
+}
+
+/// What is asked of a place. Most places are at no edge.
 fn place<V: PlaceMotions>(
     records: &Records,
     marks: &Marks,
@@ -55,15 +86,69 @@ fn place<V: PlaceMotions>(
         ≡ unit_place (beside_of sides.now (V.motion_at view.now)) sides.now.pcm_loop_filter_disabled
         sides.now.qp_bd_offset records.now.items x y }
 {
-    let left = left_strength(marks, sides, view, x, y);
-    let top = top_strength(marks, sides, view, x, y);
-    let qp = qp_y(records.qp(x, y), sides.qp_bd_offset);
+    let inner = inner_place(records, marks, sides.qp_bd_offset, x, y);
+    if is_at_edge(marks, x, y) {
+        with_strengths(inner, marks, sides, view, x, y)
+    } else {
+        inner
+    }
+}
+
+/// What is asked of a place at no edge.
+fn inner_place(records: &Records, marks: &Marks, qp_bd_offset: u8, x: usize, y: usize) -> UnitPlace
+    requires x { x < 16 }
+    requires y { y < 16 }
+    requires offset { qp_bd_offset ≤ 48 }
+    ensures { (pcm_disabled : Bool) → AreMarked pcm_disabled records.now.items marks.now
+        → qp_at records.now.items x y ≤ 127
+        → result ≡ inner_place pcm_disabled qp_bd_offset records.now.items x y }
+{
     UnitPlace {
-        left_strength: left,
-        top_strength: top,
+        left_strength: 0,
+        top_strength: 0,
         coded: marks.coded[16 * y + x],
-        qp_y: qp,
+        qp_y: qp_y(records.qp(x, y), qp_bd_offset),
         kept: marks.kept[16 * y + x],
+    }
+}
+
+/// Whether a place is at the left side of a transform or prediction block, or at its top.
+fn is_at_edge(marks: &Marks, x: usize, y: usize) -> bool
+    requires x { x < 16 }
+    requires y { y < 16 }
+    ensures { result
+        ≡ (((by_place false marks.now.transform_left x y || by_place false marks.now.prediction_left x y)
+        || by_place false marks.now.transform_top x y) || by_place false marks.now.prediction_top x y) }
+{
+    let k = 16 * y + x;
+    marks.transform_left[k]
+        | marks.prediction_left[k]
+        | marks.transform_top[k]
+        | marks.prediction_top[k]
+}
+
+/// A place with the strengths of its edges.
+#[inline(never)]
+fn with_strengths<V: PlaceMotions>(
+    inner: UnitPlace,
+    marks: &Marks,
+    sides: &UnitSides,
+    view: &V,
+    x: usize,
+    y: usize,
+) -> UnitPlace
+    requires x { x < 16 }
+    requires y { y < 16 }
+    ensures { (pcm_disabled : Bool) (items : List Item) → AreMarked pcm_disabled items marks.now
+        → result ≡ record inner {
+          left_strength = left_strength (beside_of sides.now (V.motion_at view.now)) items x y;
+          top_strength = top_strength (beside_of sides.now (V.motion_at view.now)) items x y;
+        } }
+{
+    UnitPlace {
+        left_strength: left_strength(marks, sides, view, x, y),
+        top_strength: top_strength(marks, sides, view, x, y),
+        ..inner
     }
 }
 

@@ -36,11 +36,10 @@ nothing places units e f =
 -- the places of a unit are asked for alone
 laid_alike : (picture : PictureShape) (address : ℕ) (slice : SliceDeblocking) (read told : ℕ → ℕ → UnitPlace)
     (old : ℕ → ℕ → FilterPlace) (i j : ℕ)
-    → unit_places picture ≤ 16
-    → ((x y : ℕ) → x < 16 → y < 16 → read x y ≡ told x y)
+    → ((x y : ℕ) → x < unit_places picture → y < unit_places picture → read x y ≡ told x y)
     → filter_places_laid picture address slice read old i j ≡ filter_places_laid picture address slice told old i j
 unfolding filter_places_laid
-laid_alike picture address slice read told old i j few e =
+laid_alike picture address slice read told old i j e =
     let same = e (i - first_column picture address) (j - first_row picture address) in
     grind (arith, nat_tests)
 
@@ -70,20 +69,21 @@ made_same a b c d u v e f g =
 -- behind a unit whose places were read
 pub data_added : (p : PicturePlan) (s : SegmentPlan) (unit : CodingTreeUnit) (ctu : Ctu) (motions : Motions)
     (read : ℕ → ℕ → UnitPlace) (old new : ℕ → ℕ → FilterPlace) (before units : ℕ → ℕ → ℕ → OffsetUnit)
-    → IsUnit p s unit → unit_places unit.layout ≤ 16
-    → ((x y : ℕ) → x < 16 → y < 16 → read x y ≡ places_read p s unit.address ctu.items motions (coded_part old) x y)
+    → IsUnit p s unit
+    → ((x y : ℕ) → x < unit_places (picture_shape p.sps p.pps) → y < unit_places (picture_shape p.sps p.pps)
+    → read x y ≡ places_read p s unit.address ctu.items motions (coded_part old) x y)
     → ((i j : ℕ) → new i j ≡ filter_places_laid unit.layout unit.address s.header.slice.deblocking read old i j)
     → ((c i j : ℕ) → units c i j ≡ units_laid p s unit.address ctu.sao before c i j)
     → gathered new units ≡ read_added p s unit.address ctu motions (gathered old before)
 unfolding read_added
-data_added p s unit ctu motions read old new before units is few e laid offsets =
+data_added p s unit ctu motions read old new before units is e laid offsets =
     let picture : PictureShape = picture_shape p.sps p.pps in
     let told : ℕ → ℕ → UnitPlace = places_read p s unit.address ctu.items motions (coded_part old) in
     let slice : SliceDeblocking = s.header.slice.deblocking in
     let all : (i j : ℕ) → new i j ≡ filter_places_laid picture unit.address slice told old i j =
     λ i j. laid i j
-    ∙ (laid_alike unit.layout unit.address slice read told old i j few e
-    ∙ ap (λ (q : PictureShape). filter_places_laid q unit.address slice told old i j) is.layout) in
+    ∙ (ap (λ (q : PictureShape). filter_places_laid q unit.address slice read old i j) is.layout
+    ∙ laid_alike picture unit.address slice read told old i j e) in
     made_same (λ x y. (new x y).place) (places_laid picture unit.address slice told (λ x y. (old x y).place))
     (coded_part new) (coded_laid picture unit.address told (coded_part old))
     units (units_laid p s unit.address ctu.sao before)

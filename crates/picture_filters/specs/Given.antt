@@ -8,6 +8,8 @@ use Rattle.plan_types.specs.declared.picture_plan.PicturePlan.{PicturePlan}
 use Rattle.plan_types.specs.declared.segment_plan.SegmentPlan.{SegmentPlan}
 use Rattle.spec_picture_filters.specs.Units.{places_read, unit_read}
 use Rattle.spec_picture_motion.specs.Field.{Motions}
+use Rattle.spec_picture_trees.specs.Places.{unit_places}
+use Rattle.spec_picture_trees.specs.Shapes.{picture_shape}
 use Rattle.spec_sample_adaptive_offset.specs.declared.unit.OffsetUnit.{OffsetUnit}
 use Rattle.spec_slice_data.specs.Segment.{PictureShape, column_of, row_of}
 
@@ -15,7 +17,7 @@ use Rattle.spec_slice_data.specs.Segment.{PictureShape, column_of, row_of}
 -- that are coded before it
 pub record IsGiven (p : PicturePlan) (s : SegmentPlan) (address : ℕ) (ctu : Ctu) (motions : Motions)
     (coded : ℕ → ℕ → Bool) (given : UnitFilters) : Type 0 where
-  pub places : (x y : ℕ) → x < 16 → y < 16
+  pub places : (x y : ℕ) → x < unit_places (picture_shape p.sps p.pps) → y < unit_places (picture_shape p.sps p.pps)
       → read_place given.places x y ≡ places_read p s address ctu.items motions coded x y
   pub deblocking : given.deblocking ≡ s.header.slice.deblocking
   pub offsets : (c : ℕ) → c < 3 → slice_index_or given.offsets c first_unit ≡ unit_read p s ctu.sao c

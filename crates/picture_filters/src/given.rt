@@ -31,7 +31,7 @@ pub struct CodedBeside {
 /// What a coding tree unit of a slice segment gives the loop filters of its picture (8.7).
 #[derive(Clone, Copy)]
 pub struct UnitFilters {
-    /// Its places, in 16 rows of 16.
+    /// Its places, in 16 rows of 16: as many of each row, and as many rows, as the unit has a side.
     pub places: [UnitPlace; 256],
     /// How its slice is deblocked.
     pub deblocking: SliceDeblocking,
@@ -67,7 +67,7 @@ pub fn unit_filters<V: PlaceMotions>(
 {
     let sides = unit_sides(plan, segment, unit, coded);
     let mut places = [NO_PLACE; 256];
-    unit_places(records, &sides, view, &mut places);
+    unit_places(records, &sides, view, unit.layout.side(), &mut places);
     UnitFilters {
         places,
         deblocking: segment.header.fields().slice.deblocking,

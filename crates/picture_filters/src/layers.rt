@@ -4,7 +4,6 @@ ghost use Rattle.std.specs.Prelude.{◌≡◌, ℕ, ◌+◌, ◌-◌, ◌<◌, �
 ghost use Rattle.picture_filters.specs.Places.{HasPlaces, places_of};
 ghost use Rattle.picture_filters.specs.Filtering.{filter_place, filter_places_laid, read_place};
 ghost use Rattle.picture_layout.specs.Blocks.{IsSmall};
-ghost use Rattle.spec_picture_trees.specs.Places.{unit_places};
 ghost use Rattle.spec_picture_filters.specs.Units.{held_offset, place_of};
 
 use crate::filter_place::FilterPlace;
@@ -25,7 +24,6 @@ pub(crate) fn lay_places(
     ensures value { (i j : ℕ) → places_of field.new i j
         ≡ filter_places_laid unit.now.layout unit.now.address slice (read_place read.now) (places_of field.old) i j }
     ensures sides { HasPlaces field.new unit.now.layout.across unit.now.layout.down }
-    ensures few { unit_places unit.now.layout ≤ 16 }
 {
     let block = unit.places();
     for row in 0..block.rows {

@@ -41,7 +41,7 @@ returns-clause-value c = λ each small.
     (data_added before.plan s unit ctu motions (read_place given.places)
     (places_of before.places) (places_of c.lay_places.new.field) (units_of before.units)
     (units_of c.lay_offsets.new.units)
-    is c.lay_places.ensures.few told.places
+    is told.places
     (λ i j. subst (λ (d : SliceDeblocking). places_of c.lay_places.new.field i j
     ≡ filter_places_laid unit.layout unit.address d (read_place given.places) (places_of before.places) i j)
     told.deblocking (c.lay_places.ensures.value i j))
