@@ -3,7 +3,6 @@ use Rattle.std.proofs.Common.{◌≡◌, ◌≢◌, ℕ, ◌+◌, ◌-◌, ◌*�
 use Rattle.std.proofs.Common.{refl, ◌∙◌, arith}
 use Rattle.std.proofs.lemmas.Bool.Decides.{nat_tests}
 use Rattle.std.proofs.Math.Nat.{add-mod_right, mod-eq-sub-div-mul, div-mul-le_self, mul-le-mul_right}
-use Rattle.std.proofs.lemmas.Nat.{div-mul-add, mod-mul-add}
 
 -- a number by its row and its column
 whole : (a w : ℕ) → a / w * w + a % w ≡ a
@@ -33,21 +32,3 @@ other_column a m w lt near same =
 -- the column of the unit above is the unit's own
 pub above_column : (a w : ℕ) → w ≤ a → (a - w) % w ≡ a % w
 above_column a w le = let e : a - w + w ≡ a = omega arith in sym (add-mod_right (a - w) w) ∙ ap (λ k. k % w) e
-
--- the place above the unit, by its column of luma samples
-place_by : (n column k : ℕ) → 4 * (n * column) + 4 * k ≡ (column * n + k) * 4 + 0
-place_by n column k = grind arith
-
-pub above_place : (n column k : ℕ) → k < n → (4 * (n * column) + 4 * k) / 4 / n ≡ column
-above_place n column k lt =
-    ap (λ x. x / 4 / n) (place_by n column k) ∙ ap (λ x. x / n) (div-mul-add (column * n + k) 4 0 (omega arith))
-    ∙ div-mul-add column n k lt
-
-pub above_within : (n column k : ℕ) → k < n → (4 * (n * column) + 4 * k) / 4 % n ≡ k
-above_within n column k lt =
-    ap (λ x. x / 4 % n) (place_by n column k) ∙ ap (λ x. x % n) (div-mul-add (column * n + k) 4 0 (omega arith))
-    ∙ mod-mul-add column n k lt
-
--- so many rows below the unit's first
-pub left_place : (y k : ℕ) → (y + 4 * k - y) / 4 ≡ k
-left_place y k = let e : y + 4 * k - y ≡ k * 4 + 0 = omega arith in ap (λ x. x / 4) e ∙ div-mul-add k 4 0 (omega arith)

@@ -1,24 +1,27 @@
 -- What stands between two units of a picture while it is read.
-use Rattle.std.specs.Prelude.{◌≡◌, ℕ, ◌+◌, ◌-◌, ◌%◌, ◌^◌, ◌<◌, ◌≤◌, List, length, drop}
-use Rattle.std.specs.Prelude.{slice_index_or, Result, Ok, Err, false}
-use Rattle.hv_base.specs.declared.breach.Breach.{Breach}
+use Rattle.std.specs.Prelude.{◌≡◌, ℕ, ◌+◌, ◌-◌, ◌%◌, ◌^◌, ◌<◌, ◌≤◌, List, length, drop, slice_index_or, Result, Ok, Err}
 use Rattle.ctu_records.specs.Tree.{Ctu}
-use Rattle.spec_cabac.specs.Engine.{IsLive}
-use Rattle.spec_slice_data.specs.Segment.{PictureShape, Between, begins_substream, no_group, nothing_read}
+use Rattle.spec_slice_data.specs.Segment.{PictureShape, Between, no_group, nothing_read}
 use Rattle.spec_picture_trees.specs.Picture.{TreeUnit, Progress, Halt, SegmentAt, segment_at, segments_read, units_read}
 use Rattle.spec_picture_trees.specs.Shapes.{picture_shape}
 use Rattle.plan_types.specs.declared.segment_plan.SegmentPlan.{SegmentPlan}
 use Rattle.plan_types.specs.declared.picture_plan.PicturePlan.{PicturePlan}
 use Rattle.picture_trees.specs.Given.{Told}
-use Rattle.picture_trees.specs.Beside.{UnitsBeside, bottom_of, no_column, right_of}
+use Rattle.unit_trees.specs.Edges.{bottom_of, right_of}
+use Rattle.picture_trees.specs.Beside.{UnitsBeside, above_at}
 use Rattle.picture_trees.specs.declared.trees.ReadError.{ReadError}
 use Rattle.picture_trees.specs.declared.trees.ReadError.TheVariants as error
 use Rattle.picture_trees.specs.declared.units.Reading.{Reading}
 
 -- behind these units
 abbrev pub between_of : Reading → List Ctu → Between
-between_of r units =
-    record { engine = r.bins.interval; contexts = r.bins.contexts; stored = r.stored; last = r.last; units = units }
+between_of r units = record {
+  engine = r.reader.bins.interval;
+  contexts = r.reader.bins.contexts;
+  stored = r.stored;
+  last = r.reader.last;
+  units = units;
+}
 
 abbrev pub unit_in : PictureShape → List Ctu → ℕ → Ctu
 unit_in picture units address = slice_index_or units address (nothing_read picture.size no_group)
@@ -28,21 +31,10 @@ unit_in picture units address = slice_index_or units address (nothing_read pictu
 pub record IsKept (picture : PictureShape) (address : ℕ) (beside : UnitsBeside) (units : List Ctu) : Type 0 where
   pub count : length units ≡ address
   pub side : beside.side ≡ 2 ^ picture.size
-  pub width : beside.width ≡ picture.width
   pub full : length beside.columns ≡ picture.width
   pub left : 1 ≤ address → beside.left ≡ right_of (2 ^ picture.size) (unit_in picture units (address - 1))
   pub columns : (a : ℕ) → a < address → address ≤ a + picture.width
-      → slice_index_or beside.columns (a % picture.width) no_column
-      ≡ bottom_of (2 ^ picture.size) (unit_in picture units a)
-
--- a call answered what a step gives, or the rule that it breaks
-abbrev pub Steps : {X : Type 0} → Result X Breach → Between → Result Between Breach → Type 0
-Steps (Ok x) after step = step ≡ Ok after
-Steps (Err e) after step = step ≡ Err e
-
--- bins may be asked before the unit at an address, if it begins no substream
-abbrev pub MayGoOn : SegmentAt → ℕ → Reading → Type 0
-MayGoOn at address r = begins_substream at.picture at.shape address ≡ false → IsLive r.bins.interval
+      → above_at beside (a % picture.width) ≡ bottom_of (2 ^ picture.size) (unit_in picture units a)
 
 abbrev pub progress_of : Reading → List Ctu → List TreeUnit → Progress
 progress_of r units given = record { between = between_of r units; given = given }

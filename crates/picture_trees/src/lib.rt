@@ -1,12 +1,9 @@
-//! Reads all coding tree units of a planned picture in order (H.265 7.3.8.1, 9.3.1), on one thread, over a
-//! view of the units before each.
+//! Reads all coding tree units of a planned picture in order (H.265 7.3.8.1, 9.3.1), on one thread, each
+//! over what the units beside it leave.
 #![tactic(auto)]
 
 mod beside;
 mod picture;
-mod segment;
-mod segment_data;
-mod slice_syntax;
 mod trees;
 mod units;
 

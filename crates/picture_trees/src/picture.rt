@@ -8,13 +8,13 @@ ghost use Rattle.spec_picture_trees.specs.Shapes.{end_of};
 ghost use Rattle.picture_trees.specs.Given.{ReadsPicture};
 ghost use Rattle.picture_trees.specs.Reading.{next_segment};
 
-use crate::segment_data::SegmentData;
 use crate::trees::{ReadError, Trees};
 use crate::units::Reading;
 use header_types::Sps;
 use picture_layout::{Layout, address_of};
 use plan_types::{PicturePlan, SegmentPlan};
 use std::alloc::Global;
+use unit_trees::SegmentData;
 
 /// Reads all coding tree units of a planned picture, in decoding order, and hands each over once it is read. The
 /// error is the first rule that the data break, or want of memory: that of whom the units are handed to, or of the call

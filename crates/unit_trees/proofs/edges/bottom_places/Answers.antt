@@ -1,6 +1,6 @@
 use Rattle.std.proofs.Common.{arith}
-use Rattle.picture_trees.proofs.Sides.{places_side}
-use Rattle.picture_trees.proofs.beside.right_places.Goals as goal
+use Rattle.unit_trees.proofs.Sides.{places_side}
+use Rattle.unit_trees.proofs.edges.bottom_places.Goals as goal
 
 pub returns : goal.returns
 returns c = places_side _ _ c.loop-k.invariant.count (λ k h. c.loop-k.invariant.told k (omega arith))

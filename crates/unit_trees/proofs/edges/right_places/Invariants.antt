@@ -1,7 +1,7 @@
 use Rattle.std.proofs.Common.{◌≡◌, ℕ, ◌-◌, ◌<◌, length, get_or}
 use Rattle.ctu_records.specs.Tree.{no_side}
 use Rattle.spec_slice_data.specs.Segment.{side_of}
-use Rattle.picture_trees.proofs.beside.right_places.Given as goal
+use Rattle.unit_trees.proofs.edges.right_places.Given as goal
 
 abbrev pub invariant-loop-k : goal.invariant-loop-k
 invariant-loop-k l = record {

@@ -1,32 +1,32 @@
 //! A slice segment of a picture with all that its data are read by.
 
-ghost use Rattle.std.specs.Prelude.{◌≡◌, ℕ, ◌+◌, ◌-◌, ◌*◌, ◌^◌, ◌≤◌, ◌<◌, ◌∷◌, List};
+ghost use Rattle.std.specs.Prelude.{◌≡◌, ℕ, ◌+◌, ◌-◌, ◌*◌, ◌^◌, ◌≤◌, ◌<◌, ◌==◌, ◌&&◌, ◌∷◌, [], List, length, not};
+ghost use Rattle.std.specs.Prelude.{slice_index_or};
 ghost use Rattle.header_types.specs.SequenceParameterSets.{size_in_ctbs, width_in_ctbs};
 ghost use Rattle.plan_types.specs.declared.segment_plan.SegmentPlan.{SegmentPlan};
-ghost use Rattle.spec_slice_data.specs.Segment.{begins_row, column_of, has_above, has_left, has_stored, is_last};
-ghost use Rattle.spec_slice_data.specs.Segment.{row_of, syntax_at};
+ghost use Rattle.spec_slice_data.specs.Segment.{begins_row, begins_substream, column_of, has_above, has_left};
+ghost use Rattle.spec_slice_data.specs.Segment.{has_stored, is_first, is_last, row_of, substream_of, syntax_at};
 ghost use Rattle.spec_slice_data.specs.Syntax.{IsSyntax};
 ghost use Rattle.spec_picture_trees.specs.Picture.{segment_at};
 ghost use Rattle.spec_picture_trees.specs.Shapes.{end_of};
 
 use crate::segment::Segment;
 use crate::slice_syntax::segment_syntax;
+use cabac_contexts::Contexts;
 use coding_quadtree::UnitPlace;
 use picture_layout::Layout;
 use plan_types::{PicturePlan, SegmentPlan};
 use spec_slice_data::CtuSyntax;
 use std::marker::Model;
 
-/// A slice segment of a picture: its number, the number of its NAL unit, and what its data are read by.
+/// A slice segment of a picture: its number, the number of its NAL unit, and what its data are read by (7.3.8.1).
 #[derive(Drop)]
-pub(crate) struct SegmentData<'a> {
+pub struct SegmentData<'a> {
     number: usize,
     nal: u32,
     syntax: CtuSyntax,
-    /// The picture's size.
-    pub(crate) layout: Layout,
-    /// Where its units stand, what its slice begins with, and its substreams.
-    pub(crate) shape: Segment<'a>,
+    layout: Layout,
+    shape: Segment<'a>,
 }
 
 impl<'a> Model for SegmentData<'a> {
@@ -52,7 +52,7 @@ impl<'a> Model for SegmentData<'a> {
 impl<'a> SegmentData<'a> {
     /// A segment from the place where its first unit stands to the one behind its last.
     #[tactic(auto, unfolding(spec_picture_trees::specs::Shapes::picture_shape, spec_picture_trees::specs::Shapes::segment_shape))]
-    pub(crate) fn new(
+    pub fn new(
         picture: &PicturePlan,
         number: usize,
         segment: &'a SegmentPlan,
@@ -77,32 +77,93 @@ impl<'a> SegmentData<'a> {
     }
 
     /// Its number in the picture.
-    pub(crate) fn number(&self) -> usize
+    pub fn number(&self) -> usize
         ensures { result ≡ self.now.number }
     {
         self.number
     }
 
     /// The number of its NAL unit.
-    pub(crate) fn nal(&self) -> u32
+    pub fn nal(&self) -> u32
         ensures { result ≡ self.now.nal }
     {
         self.nal
     }
 
     /// The address of its first unit.
-    pub(crate) fn first(&self) -> u32
+    pub fn first(&self) -> u32
         ensures { result ≡ self.now.shape.first }
     {
         self.shape.first
     }
 
     /// The place behind its last unit.
-    pub(crate) fn behind(&self) -> u32
+    pub fn behind(&self) -> u32
         ensures value { result ≡ self.now.shape.first + self.now.shape.count }
         ensures inside { result ≤ 512 * self.now.picture.width }
     {
         self.shape.first + self.shape.count
+    }
+
+    /// The column of a unit.
+    pub fn column(&self, address: u32) -> u32
+        ensures value { result ≡ column_of self.now.picture address }
+        ensures below { result < self.now.picture.width }
+    {
+        self.layout.column(address)
+    }
+
+    /// Whether the contexts behind a unit are stored for the row below (9.3.2.2).
+    pub fn stores(&self, address: u32) -> bool
+        ensures { result ≡ (self.now.picture.sync && column_of self.now.picture address == 1) }
+    {
+        self.layout.sync() && self.layout.column(address) == 1
+    }
+
+    /// Whether the engine begins anew at a unit.
+    pub(crate) fn begins_substream(&self, address: u32) -> bool
+        ensures { result ≡ begins_substream self.now.picture self.now.shape address }
+    {
+        address == self.shape.first || self.layout.begins_row(address)
+    }
+
+    /// Whether a unit begins a row where each row has a substream of its own.
+    pub(crate) fn begins_row(&self, address: u32) -> bool
+        ensures { result ≡ begins_row self.now.picture address }
+    {
+        self.layout.begins_row(address)
+    }
+
+    /// Whether a unit is the first of a slice.
+    pub(crate) fn begins_slice(&self, address: u32) -> bool
+        ensures { result ≡ (is_first self.now.shape address && not self.now.shape.dependent) }
+    {
+        address == self.shape.first && !self.shape.dependent
+    }
+
+    /// The bytes of the substream that a unit begins.
+    pub(crate) fn substream_at(&self, address: u32) -> &'a [u8]
+        ensures value { result.now
+            ≡ slice_index_or self.now.shape.substreams (substream_of self.now.picture self.now.shape address) [] }
+        ensures short { length result.now < 2 ^ 60 }
+    {
+        let row = self.layout.row(address);
+        let number = row.saturating_sub(self.layout.row(self.shape.first));
+        self.shape.substream(number as usize)
+    }
+
+    /// The contexts that its slice begins with.
+    pub(crate) fn contexts(&self) -> Contexts
+        ensures { result ≡ self.now.shape.contexts }
+    {
+        self.shape.contexts
+    }
+
+    /// Qp'Y of its slice.
+    pub(crate) fn qp(&self) -> u8
+        ensures { result ≡ self.now.shape.qp }
+    {
+        self.shape.qp
     }
 
     /// What the elements of a unit depend on.

@@ -1,0 +1,5 @@
+pub mod Sides
+pub mod Contexts
+pub mod Following
+pub mod Beside
+pub mod Steps
