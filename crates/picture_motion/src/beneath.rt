@@ -2,57 +2,62 @@
 
 ghost use Rattle.std.specs.Prelude.{◌≡◌, ℕ, ◌+◌, ◌*◌, ◌<◌, ◌≤◌, ◌==◌, ◌&&◌, nat_le, None, if◌then◌else◌};
 ghost use Rattle.ctu_motion.specs.Held.{held, held_beneath};
-ghost use Rattle.picture_buffer.specs.Motion.{motions_of};
 ghost use Rattle.spec_picture_motion.specs.Field.{beneath_unit, collocated_of, collocated_vector};
 ghost use Rattle.spec_picture_trees.specs.Places.{unit_places};
 
+use crate::view::MotionBeneath;
 use ctu_motion::UnitMotion;
-use picture_buffer::{MotionField, PlaceMotion, PlaceVector};
+use picture_buffer::{PlaceMotion, PlaceVector};
 use picture_layout::CodingTreeUnit;
 use spec_motion::{Collocated, CollocatedVector};
 
 /// What the collocated picture has at the blocks of 4x4 places of a unit, and of the column behind it, becomes known,
 /// where nothing of it was.
-pub fn gather_beneath(unit: &CodingTreeUnit, collocated: &MotionField, motion: &mut UnitMotion)
+pub fn gather_beneath<B: MotionBeneath>(unit: &CodingTreeUnit, beneath: &B, motion: &mut UnitMotion)
     ensures places { held motion.new ≡ held motion.old }
     ensures beneath { ((i j : ℕ) → held_beneath motion.old i j ≡ None)
-        → held_beneath motion.new ≡ beneath_unit unit.now.layout unit.now.address (motions_of collocated.now) }
+        → held_beneath motion.new ≡ beneath_unit unit.now.layout unit.now.address (B.collocated_at beneath.now) }
 {
     for row in 0..(unit.layout.side() + 3) / 4 {
-        gather_row(unit, collocated, row, motion);
+        gather_row(unit, beneath, row, motion);
     }
 }
 
 /// A row of them.
-fn gather_row(unit: &CodingTreeUnit, collocated: &MotionField, row: usize, motion: &mut UnitMotion)
+fn gather_row<B: MotionBeneath>(
+    unit: &CodingTreeUnit,
+    beneath: &B,
+    row: usize,
+    motion: &mut UnitMotion,
+)
     requires { 4 * row < unit_places unit.now.layout }
     ensures places { held motion.new ≡ held motion.old }
     ensures beneath { (i j : ℕ) → held_beneath motion.new i j
         ≡ (if j == row && nat_le (4 * i) (unit_places unit.now.layout)
-        then beneath_unit unit.now.layout unit.now.address (motions_of collocated.now) i row
+        then beneath_unit unit.now.layout unit.now.address (B.collocated_at beneath.now) i row
         else held_beneath motion.old i j) }
 {
     for column in 0..unit.layout.side() / 4 + 1 {
-        motion.put_beneath(column, row, beneath(unit, collocated, column, row));
+        motion.put_beneath(column, row, collocated_at(unit, beneath, column, row));
     }
 }
 
 /// What the collocated picture has at a block.
 #[tactic(auto, unfolding(spec_picture_motion::specs::Field::beneath_unit))]
-fn beneath(
+fn collocated_at<B: MotionBeneath>(
     unit: &CodingTreeUnit,
-    collocated: &MotionField,
+    beneath: &B,
     column: usize,
     row: usize,
 ) -> Option<Collocated>
     requires few { column ≤ 4 }
     requires column { 4 * column ≤ unit_places unit.now.layout }
     requires row { 4 * row < unit_places unit.now.layout }
-    ensures { result ≡ beneath_unit unit.now.layout unit.now.address (motions_of collocated.now) column row }
+    ensures { result ≡ beneath_unit unit.now.layout unit.now.address (B.collocated_at beneath.now) column row }
 {
     let x = unit.first_column() + 4 * column;
     let y = unit.first_row() + 4 * row;
-    collocated_of(collocated.at(x, y))
+    collocated_of(beneath.collocated(x, y))
 }
 
 /// A place's motion as a collocated picture's.

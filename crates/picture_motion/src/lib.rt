@@ -8,9 +8,12 @@ mod picture;
 mod pointing;
 mod slice;
 mod unit_lines;
+mod view;
 
 pub use beneath::gather_beneath;
 pub use beside::gather_beside;
 pub use picture::PictureMotion;
+pub use pointing::pointing_motion;
 pub use slice::{collocated_entry, slice_motion};
 pub use unit_lines::lay_unit;
+pub use view::{MotionBeneath, MotionBeside};

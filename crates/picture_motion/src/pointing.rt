@@ -8,7 +8,7 @@ use picture_buffer::{PlaceMotion, PlaceVector};
 use spec_motion::{Motion, SliceMotion, Vector};
 
 /// The motion of a place of a slice with the pictures that it points to.
-pub(crate) fn pointing_motion(slice: &SliceMotion, motion: Option<Motion>) -> Option<PlaceMotion>
+pub fn pointing_motion(slice: &SliceMotion, motion: Option<Motion>) -> Option<PlaceMotion>
     ensures { result ≡ pointing_motion slice.now motion }
 {
     match motion {
