@@ -1,0 +1,12 @@
+pub mod Tests
+pub mod Folding
+pub mod Laying
+pub mod Planes
+pub mod Idr
+pub mod Vectors
+pub mod Units
+pub mod Places
+pub mod Strengths
+pub mod Inter
+pub mod Predicted
+pub mod Made

@@ -1,0 +1,4 @@
+pub mod Pulses
+pub mod Kept
+pub mod Copying
+pub mod KeptUnits
