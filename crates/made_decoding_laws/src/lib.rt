@@ -1,0 +1,6 @@
+//! The pictures of the stream of a seed are decoded as they are drawn, one behind the other (H.265 8.1.3, C.5.2).
+#![tactic(auto)]
+
+mod laws;
+
+pub use laws::{made_samples_are_bytes, planned_pictures_are_decoded};
