@@ -3,4 +3,6 @@
 
 mod laws;
 
-pub use laws::{made_samples_are_bytes, planned_pictures_are_decoded};
+pub use laws::{
+    made_pictures_are_decoded_in_turn, made_samples_are_bytes, planned_pictures_are_decoded,
+};
