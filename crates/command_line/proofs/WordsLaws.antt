@@ -8,15 +8,15 @@ use Rattle.clap.specs.declared.error.kind.ErrorKind.TheVariants as kind
 use Rattle.clap.specs.declared.parser.matches.ArgMatches.{ArgMatches}
 use Rattle.clap.proofs.OnLiterals.{clap_on_literals}
 use Rattle.command_line.specs.declared.request.Request.{Request}
-use Rattle.command_line.specs.Words.{program_command, decode_command, make_command, faults_of, matches_of, request_of}
-use Rattle.command_line.specs.Words.{unless_refused}
+use Rattle.command_line.specs.Words.{program_command, decoding_command, make_command, faults_of, matches_of, request_of}
+use Rattle.command_line.specs.Words.{unless_refused, with_decoding}
 
 is_exact : is_simple_and_free program_command ≡ true
-unfolding program_command decode_command make_command clap_on_literals
+unfolding program_command with_decoding decoding_command make_command clap_on_literals
 is_exact = refl
 
 has_exact_matches : is_simple program_command ≡ true
-unfolding program_command decode_command make_command clap_on_literals
+unfolding program_command with_decoding decoding_command make_command clap_on_literals
 has_exact_matches = refl
 
 -- words that clap takes

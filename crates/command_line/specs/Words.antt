@@ -10,6 +10,8 @@ use Rattle.clap.specs.Simple.{on_top}
 use Rattle.clap.specs.ValueTests.{is_unsigned_in}
 use Rattle.clap.specs.declared.builder.action.ArgAction.TheVariants.{SetTrue}
 use Rattle.clap.specs.declared.builder.value_parser.ValueParser.TheVariants as vp
+use Rattle.spec_decoder.specs.declared.form.Form.{Form}
+use Rattle.spec_decoder.specs.declared.form.Form.TheVariants as form
 use Rattle.decoder.specs.declared.options.Options.{Options}
 use Rattle.command_line.specs.declared.request.Request.{Request}
 use Rattle.command_line.specs.declared.request.Request.TheVariants.{Decode, Make}
@@ -27,12 +29,12 @@ required_rule name least most = record (number_rule name least most) { required 
 abbrev pub flag_rule : List ℕ → Rule
 flag_rule name = record (new_rule name) { long = Some name; action = Some SetTrue }
 
--- the command decode and its options
-unfoldable pub decode_command : App
-decode_command =
+-- a command that decodes, by its name, and its options
+unfoldable pub decoding_command : List ℕ → App
+decoding_command name =
     with_rule
     (with_rule
-    (with_rule (new_app (codes "decode")) (number_rule (codes "workers") 1 64))
+    (with_rule (new_app name) (number_rule (codes "workers") 1 64))
     (number_rule (codes "ahead") 1 16))
     (flag_rule (codes "no-hash"))
 
@@ -40,15 +42,26 @@ decode_command =
 unfoldable pub make_command : App
 make_command =
     with_rule
+    (with_rule
     (with_rule (new_app (codes "make")) (required_rule (codes "seed") 0 (2 ^ 64 - 1)))
-    (required_rule (codes "pictures") 1 1000)
+    (required_rule (codes "pictures") 1 1000))
+    (flag_rule (codes "summary"))
+
+-- a command line and a command more that decodes, by its name
+unfoldable pub with_decoding : App → List ℕ → App
+with_decoding program name = with_subcommand program (decoding_command name).top
 
 -- the program's command line: words with no program's name before them, of which the first is a command
 unfoldable pub program_command : App
-program_command = with_subcommand
-    (with_subcommand
+program_command =
+    with_subcommand
+    (with_decoding
+    (with_decoding
+    (with_decoding
     (on_top (λ s. record s { no_binary_name = true; subcommand_required = true }) (new_app (codes "hevcdec")))
-    decode_command.top)
+    (codes "decode"))
+    (codes "hash"))
+    (codes "list"))
     make_command.top
 
 -- the number from least to most that clap reads from a text: decimal digits behind at most one plus
@@ -61,24 +74,36 @@ abbrev pub number_given : ℕ → Option (List ℕ) → Option ℕ
 number_given most None = Some 4
 number_given most (Some text) = number_in 1 most text
 
--- whether the flag no-hash is given
+-- whether a flag is given
 abbrev pub is_set : Option (List ℕ) → Bool
 is_set None = false
 is_set (Some text) = bytes_eq text (codes "true")
 
--- what the matches of decode ask for
-abbrev pub options_of : List Row → Option Options
-options_of rows =
+-- what a command that decodes writes of each picture, by its name
+abbrev pub form_of : List ℕ → Form
+form_of name =
+    if bytes_eq name (codes "hash") then form.Hash
+    else if bytes_eq name (codes "list") then form.List
+    else form.I420
+
+-- what the matches of a command that decodes ask for, where this is written of each picture
+abbrev pub options_of : Form → List Row → Option Options
+options_of form rows =
     option_and_then (λ workers. option_and_then (λ ahead. Some (record {
       workers = workers;
       ahead = ahead;
       hash = not (is_set (first_of (codes "no-hash") rows));
+      form = form;
     })) (number_given 16 (first_of (codes "ahead") rows))) (number_given 64 (first_of (codes "workers") rows))
 
 -- what the matches of make ask for: both numbers are given there
 abbrev pub making_of : List Row → Option MakeOptions
 making_of rows =
-    option_and_then (λ seed. option_and_then (λ pictures. Some (record { seed = seed; pictures = pictures }))
+    option_and_then (λ seed. option_and_then (λ pictures. Some (record {
+      seed = seed;
+      pictures = pictures;
+      summary = is_set (first_of (codes "summary") rows);
+    }))
     (option_and_then (number_in 1 1000) (first_of (codes "pictures") rows)))
     (option_and_then (number_in 0 (2 ^ 64 - 1)) (first_of (codes "seed") rows))
 
@@ -86,7 +111,7 @@ making_of rows =
 abbrev pub request_of : List ℕ × List Row → Option Request
 request_of p =
     if bytes_eq p.0 (codes "make") then option_map Make (making_of p.1)
-    else option_map Decode (options_of p.1)
+    else option_map Decode (options_of (form_of p.0) p.1)
 
 -- why the words are refused before their numbers are looked at; nothing where they aren't
 unfoldable pub faults_of : List (List ℕ) → Kinds

@@ -1,10 +1,14 @@
 //! What the program does with its words: it decodes a stream or makes one, and tells how that ended.
 #![tactic(auto)]
 
+mod growing_sink;
 mod line;
 mod line_text;
 mod program;
 mod request;
+mod slice_source;
+mod summary;
+mod summary_line;
 mod words;
 
 pub use program::run;

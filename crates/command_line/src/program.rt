@@ -8,12 +8,13 @@ ghost use Rattle.decoder.specs.Options.{IsInRange};
 ghost use Rattle.decoder.specs.declared.options.Options.{Options};
 ghost use Rattle.command_line.specs.declared.request.MakeOptions.{MakeOptions};
 ghost use Rattle.command_line.specs.declared.request.Request.TheVariants.{Decode, Make};
-ghost use Rattle.command_line.specs.Making.{Makes, stream_of};
+ghost use Rattle.command_line.specs.Making.{Makes, MakesStream, stream_of};
 ghost use Rattle.command_line.specs.Telling.{IsUntouched, Tells};
 ghost use Rattle.command_line.specs.Words.{usage_line, words_taken};
 
 use crate::line::{tell, tell_line};
 use crate::request::{MakeOptions, Request};
+use crate::summary::write_summary;
 use crate::words::{USAGE, WordsError, parse_words};
 use decoder::{Options, decode};
 use hv_base::{Outcome, Status};
@@ -26,12 +27,14 @@ use stream_maker::make;
 /// Runs the program on its words, those after its name: does what they ask for, tells on `err` how it ended unless all
 /// went well, and answers the exit status.
 ///
-/// `decode` reads the stream of `src` and writes its pictures to `out`, with the options `--workers N` (1 to 64),
-/// `--ahead N` (1 to 16) and `--no-hash`. The pictures are I420: the planes Y, Cb and Cr of each picture, a byte a
-/// sample, in output order.
+/// `decode`, `hash` and `list` read the stream of `src` and write of its pictures to `out`, in output order, with the
+/// options `--workers N` (1 to 64), `--ahead N` (1 to 16) and `--no-hash`. `decode` writes I420: the planes Y, Cb and
+/// Cr of each picture, a byte a sample. `hash` writes a line `<k> <md5>` a picture, over these bytes, and `list` a line
+/// `<k> <poc> <nal type> <width>x<height>`; k counts from 0.
 ///
 /// `make` writes a stream to `out`, and reads nothing: that of `--seed N` (of 64 bits) with `--pictures K` (1 to 1000).
-/// Both are required.
+/// Both are required. With `--summary` it writes in place of the stream one line `pictures <K> bytes <n> md5 <digits>`,
+/// of what `decode` writes of it.
 pub fn run<R: Threads + Wait + Sync, S: Source, O: Sink, E: Sink, G: Gate + Sync>(
     _rt: &R,
     alloc: Global,
@@ -52,19 +55,22 @@ pub fn run<R: Threads + Wait + Sync, S: Source, O: Sink, E: Sink, G: Gate + Sync
     ensures memory_told { words_taken words.now ≡ None → result.0 ≡ 4
         → Tells (change_of E.contents E.faults err.old err.new) (outcome_line Outcome.Memory) }
 
-    // To decode a stream: there is an outcome that the status and the line tell, and for which the headline holds.
+    // To decode a stream: there is an outcome that the status and the line tell, and for which the headline holds, of
+    // what the command writes, with stated hashes compared or not.
     ensures decodes { (options : Options) → words_taken words.now ≡ Some (Decode options)
         → (o : Outcome) × (result.0 ≡ status_of o)
-        × Headline (change_of S.left S.faults src.old src.new) (change_of O.contents O.faults out.old out.new) o
-        × IsComplete (change_of S.left S.faults src.old src.new) (change_of O.contents O.faults out.old out.new) o
+        × Headline options.form options.hash (change_of S.left S.faults src.old src.new)
+        (change_of O.contents O.faults out.old out.new) o
+        × IsComplete options.hash (change_of S.left S.faults src.old src.new)
+        (change_of O.contents O.faults out.old out.new) o
         × Tells (change_of E.contents E.faults err.old err.new) (outcome_line o) }
 
     // To make one: nothing was read, and there is an outcome that the status and the line tell, all went well or memory
-    // or a write failed, and the stream was written, or a front of it.
+    // or a write failed, and the stream or the line that sums it up was written, or a front of it.
     ensures makes { (options : MakeOptions) → words_taken words.now ≡ Some (Make options)
         → IsUntouched (change_of S.left S.faults src.old src.new)
         × (o : Outcome) × (result.0 ≡ status_of o)
-        × Makes (change_of O.contents O.faults out.old out.new) (stream_of options) o
+        × Makes (change_of O.contents O.faults out.old out.new) options o
         × Tells (change_of E.contents E.faults err.old err.new) (outcome_line o) }
 {
     match parse_words(alloc, words) {
@@ -91,8 +97,10 @@ fn run_decode<S: Source, O: Sink, E: Sink>(
 ) -> Status
     requires { IsInRange options }
     ensures { (o : Outcome) × (result.0 ≡ status_of o)
-        × Headline (change_of S.left S.faults src.old src.new) (change_of O.contents O.faults out.old out.new) o
-        × IsComplete (change_of S.left S.faults src.old src.new) (change_of O.contents O.faults out.old out.new) o
+        × Headline options.form options.hash (change_of S.left S.faults src.old src.new)
+        (change_of O.contents O.faults out.old out.new) o
+        × IsComplete options.hash (change_of S.left S.faults src.old src.new)
+        (change_of O.contents O.faults out.old out.new) o
         × Tells (change_of E.contents E.faults err.old err.new) (outcome_line o) }
 {
     let outcome = decode(alloc, options, src, out);
@@ -100,7 +108,7 @@ fn run_decode<S: Source, O: Sink, E: Sink>(
     outcome.status()
 }
 
-/// Makes a stream, and tells how that ended.
+/// Makes a stream or sums it up, and tells how that ended.
 fn run_make<O: Sink, E: Sink>(
     alloc: Global,
     options: MakeOptions,
@@ -108,10 +116,28 @@ fn run_make<O: Sink, E: Sink>(
     err: &mut E,
 ) -> Status
     ensures { (o : Outcome) × (result.0 ≡ status_of o)
-        × Makes (change_of O.contents O.faults out.old out.new) (stream_of options) o
+        × Makes (change_of O.contents O.faults out.old out.new) options o
         × Tells (change_of E.contents E.faults err.old err.new) (outcome_line o) }
 {
-    let outcome = make(alloc, options.seed, options.pictures, out);
+    let outcome = make_asked(alloc, options, out);
     tell(outcome, err);
     outcome.status()
+}
+
+/// Writes a stream, or the line that sums it up.
+fn make_asked<O: Sink>(alloc: Global, options: MakeOptions, out: &mut O) -> Outcome
+    ensures { Makes (change_of O.contents O.faults out.old out.new) options result }
+{
+    if options.summary {
+        write_summary(alloc, options, out)
+    } else {
+        write_stream(alloc, options, out)
+    }
+}
+
+/// Writes a stream.
+fn write_stream<O: Sink>(alloc: Global, options: MakeOptions, out: &mut O) -> Outcome
+    ensures { MakesStream (change_of O.contents O.faults out.old out.new) (stream_of options) result }
+{
+    make(alloc, options.seed, options.pictures, out)
 }

@@ -6,15 +6,15 @@ ghost use Rattle.clap.specs.Words.{app_of, first_of, found_of, kind_of, rows_of,
 ghost use Rattle.clap.specs.declared.builder.command.Command.TheViews.{out-Command};
 ghost use Rattle.decoder.specs.Options.{IsInRange};
 ghost use Rattle.command_line.specs.Requests.{AsksInRange};
-ghost use Rattle.command_line.specs.Words.{decode_command, flag_rule, is_set, make_command, making_of, number_given};
-ghost use Rattle.command_line.specs.Words.{number_in, number_rule, options_of, program_command, request_of};
-ghost use Rattle.command_line.specs.Words.{required_rule, words_taken};
+ghost use Rattle.command_line.specs.Words.{decoding_command, flag_rule, form_of, is_set, make_command, making_of};
+ghost use Rattle.command_line.specs.Words.{number_given, number_in, number_rule, options_of, program_command};
+ghost use Rattle.command_line.specs.Words.{request_of, required_rule, with_decoding, words_taken};
 
 use crate::request::{MakeOptions, Request};
 use clap::builder::ValueParser;
 use clap::error::ErrorKind;
 use clap::{Arg, ArgAction, ArgMatches, Command, Error};
-use decoder::Options;
+use decoder::{Form, Options};
 use std::alloc::{AllocError, Global};
 
 /// What a faulty command line is answered by.
@@ -90,25 +90,39 @@ fn request_or_usage(matches: &ArgMatches<'_>) -> Result<Request, WordsError>
 fn program_command<'a>(alloc: Global) -> Result<Command<'a>, AllocError>
     ensures { IfOk result (λ c. app_of c ≡ program_command) }
 {
-    let decode = decode_command(alloc)?;
-    let make = make_command(alloc)?;
-    Command::new(alloc, "hevcdec")
+    let program = Command::new(alloc, "hevcdec")
         .no_binary_name(true)
-        .subcommand_required(true)
-        .subcommand(decode)?
-        .subcommand(make)
+        .subcommand_required(true);
+    let program = with_decoding(alloc, program, "decode")?;
+    let program = with_decoding(alloc, program, "hash")?;
+    let program = with_decoding(alloc, program, "list")?;
+    let make = make_command(alloc)?;
+    program.subcommand(make)
 }
 
-/// The command `decode`.
-#[tactic(auto, unfolding(crate::specs::Words::decode_command))]
-fn decode_command<'a>(alloc: Global) -> Result<Command<'a>, AllocError>
-    ensures app { IfOk result (λ c. app_of c ≡ decode_command) }
+/// A command line and a command more that decodes, by its name.
+#[tactic(auto, unfolding(crate::specs::Words::with_decoding))]
+fn with_decoding<'a>(
+    alloc: Global,
+    program: Command<'a>,
+    name: &'a str,
+) -> Result<Command<'a>, AllocError>
+    ensures { IfOk result (λ c. app_of c ≡ with_decoding (app_of program.entry) name.entry.now) }
+{
+    let command = decoding_command(alloc, name)?;
+    program.subcommand(command)
+}
+
+/// A command that decodes, by its name.
+#[tactic(auto, unfolding(crate::specs::Words::decoding_command))]
+fn decoding_command<'a>(alloc: Global, name: &'a str) -> Result<Command<'a>, AllocError>
+    ensures app { IfOk result (λ c. app_of c ≡ decoding_command name.entry.now) }
     ensures local { IfOk result (λ c. (out-Command c).has_globals ≡ false) }
 {
     let workers = number_option(alloc, "workers", 1, 64);
     let ahead = number_option(alloc, "ahead", 1, 16);
     let no_hash = flag(alloc, "no-hash");
-    Command::new(alloc, "decode")
+    Command::new(alloc, name)
         .arg(workers)?
         .arg(ahead)?
         .arg(no_hash)
@@ -122,7 +136,11 @@ fn make_command<'a>(alloc: Global) -> Result<Command<'a>, AllocError>
 {
     let seed = required_option(alloc, "seed", 0, u64::MAX);
     let pictures = required_option(alloc, "pictures", 1, MOST_PICTURES);
-    Command::new(alloc, "make").arg(seed)?.arg(pictures)
+    let summary = flag(alloc, "summary");
+    Command::new(alloc, "make")
+        .arg(seed)?
+        .arg(pictures)?
+        .arg(summary)
 }
 
 /// An option whose value is a whole number from `least` to `most`.
@@ -160,7 +178,7 @@ fn requested(matches: &ArgMatches<'_>) -> Option<Request>
     if name == "make" {
         Some(Request::Make(making_of(options)?))
     } else {
-        Some(Request::Decode(options_of(options)?))
+        Some(Request::Decode(options_of(form_of(name), options)?))
     }
 }
 
@@ -170,15 +188,28 @@ fn making_of(make: &ArgMatches<'_>) -> Option<MakeOptions>
 {
     let seed = number_in(0, u64::MAX, text_of(make, "seed")?)?;
     let pictures = number_in(1, MOST_PICTURES, text_of(make, "pictures")?)?;
+    let summary = is_set(text_of(make, "summary"));
     Some(MakeOptions {
         seed,
         pictures: pictures as u32,
+        summary,
     })
 }
 
-/// What the matches of `decode` ask for.
-fn options_of(decode: &ArgMatches<'_>) -> Option<Options>
-    ensures value { result ≡ options_of (rows_of (found_of decode.now)) }
+/// What a command that decodes writes of each picture, by its name.
+fn form_of(name: &str) -> Form
+    ensures { result ≡ form_of name.now }
+{
+    match name {
+        "hash" => Form::Hash,
+        "list" => Form::List,
+        _ => Form::I420,
+    }
+}
+
+/// What the matches of a command that decodes ask for, where this is written of each picture.
+fn options_of(form: Form, decode: &ArgMatches<'_>) -> Option<Options>
+    ensures value { result ≡ options_of form (rows_of (found_of decode.now)) }
     ensures in_range { IfSome result IsInRange }
 {
     let workers = number_given(MOST_WORKERS, text_of(decode, "workers"))?;
@@ -188,6 +219,7 @@ fn options_of(decode: &ArgMatches<'_>) -> Option<Options>
         workers,
         ahead,
         hash,
+        form,
     })
 }
 

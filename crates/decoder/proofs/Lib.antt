@@ -1,5 +1,7 @@
 pub mod Buffers
 pub mod Building
+pub mod Entering
+pub mod Hashing
 pub mod HeadlineLaws
 pub mod Plannings
 pub mod Takings

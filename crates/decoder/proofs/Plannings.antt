@@ -16,16 +16,15 @@ use Rattle.picture_plan.specs.Flights.{Gathered, waiting, cut, with_pictures, cu
 use Rattle.picture_plan.specs.Plans.{Plans, Given, going_on, after_step, behind_unit, all_cut, at_end, halted}
 use Rattle.picture_plan.specs.Plans.{last_behind, stop_of}
 use Rattle.picture_plan.proofs.Pictures.{step-all, cut-all, cut-none}
-use Rattle.spec_picture_build.specs.References.{DecodedPicture}
-use Rattle.spec_decoder.specs.Decoder.{decoded, decoded_from, finished}
+use Rattle.spec_decoder.specs.Decoder.{BufferPicture, decoded, decoded_from, finished}
 use Rattle.decoder.specs.Owed.{planned_behind, decoded_behind, owed_behind}
 
 -- before the first unit all is owed
-pub owed-first : (ended : Bool) (bytes : List ℕ) (ahead : ℕ)
-    → decoded ended bytes
-    ≡ owed_behind ended (record { ahead = ahead; pending = []; next = Ok beginning }) [] (told_of ended bytes)
+pub owed-first : (hash : Bool) (ended : Bool) (bytes : List ℕ) (ahead : ℕ)
+    → decoded hash ended bytes
+    ≡ owed_behind hash ended (record { ahead = ahead; pending = []; next = Ok beginning }) [] (told_of ended bytes)
 unfolding decoded planned_of owed_behind planned_behind
-owed-first ended bytes ahead = refl
+owed-first hash ended bytes ahead = refl
 
 joined-closed : (a b c d : List PicturePlan) (x : Planned) → a ++ b ≡ c ++ d
     → behind_closed c (behind_closed d x) ≡ behind_closed a (behind_closed b x)
@@ -63,16 +62,16 @@ unfolding planned_behind behind_unit
 planned-unit ended p t later = unit-next ended p p.next t later
 
 -- a unit's flights come first, and then what is owed behind them
-pub owed-unit : (ended : Bool) (p : Plans) (old : List DecodedPicture) (t : Told) (later : List Told)
+pub owed-unit : (hash : Bool) (ended : Bool) (p : Plans) (old : List BufferPicture) (t : Told) (later : List Told)
     → (d : Planned)
-    × (owed_behind ended p old (t ∷ later)
-    ≡ decoded_from (finished d.last d.stop) (pictures_of (behind_unit p (t ∷ [])).flights ++ d.pictures) old)
-    × ((new : List DecodedPicture)
-    → owed_behind ended (behind_unit p (t ∷ [])).left new later ≡ decoded_from (finished d.last d.stop) d.pictures new)
+    × (owed_behind hash ended p old (t ∷ later)
+    ≡ decoded_from hash (finished d.last d.stop) (pictures_of (behind_unit p (t ∷ [])).flights ++ d.pictures) old)
+    × ((new : List BufferPicture)
+    → owed_behind hash ended (behind_unit p (t ∷ [])).left new later ≡ decoded_from hash (finished d.last d.stop) d.pictures new)
 unfolding owed_behind
-owed-unit ended p old t later = (
+owed-unit hash ended p old t later = (
   planned_behind ended (behind_unit p (t ∷ [])).left later,
-  ap (decoded_behind old) (planned-unit ended p t later),
+  ap (decoded_behind hash old) (planned-unit ended p t later),
   λ new. refl,
 )
 
@@ -113,18 +112,18 @@ stopped-owed ended p later e none is =
     ∙ ap (λ (next : Result Between Stop). behind_closed [] (planned_next next (λ s. planned_from ended s later))) is
 
 -- where a unit stops the stream, its flights are the last
-pub owed-stopped : (ended : Bool) (p : Plans) (buffer : List DecodedPicture) (t : Told) (later : List Told) (e : Stop)
+pub owed-stopped : (hash : Bool) (ended : Bool) (p : Plans) (buffer : List BufferPicture) (t : Told) (later : List Told) (e : Stop)
     → stop_of p.next ≡ None → stop_of (behind_unit p (t ∷ [])).left.next ≡ Some e
-    → owed_behind ended p buffer (t ∷ later)
-    ≡ decoded_from (finished [] (Some e)) (pictures_of (behind_unit p (t ∷ [])).flights) buffer
+    → owed_behind hash ended p buffer (t ∷ later)
+    ≡ decoded_from hash (finished [] (Some e)) (pictures_of (behind_unit p (t ∷ [])).flights) buffer
 unfolding owed_behind behind_unit
-owed-stopped ended p buffer t later e going is =
+owed-stopped hash ended p buffer t later e going is =
     let g : Given = behind_unit p (t ∷ []) in
     let next : g.left.next ≡ Err e = stop-is g.left.next e is in
-    ap (decoded_behind buffer) (planned-unit ended p t later)
-    ∙ ap (λ (d : Planned). decoded_behind buffer (behind_closed (pictures_of g.flights) d))
+    ap (decoded_behind hash buffer) (planned-unit ended p t later)
+    ∙ ap (λ (d : Planned). decoded_behind hash buffer (behind_closed (pictures_of g.flights) d))
     (stopped-owed ended g.left later e (unit-stopped p p.next t e going next) next)
-    ∙ ap (λ (ps : List PicturePlan). decoded_from (finished [] (Some e)) ps buffer) (append-nil (pictures_of g.flights))
+    ∙ ap (λ (ps : List PicturePlan). decoded_from hash (finished [] (Some e)) ps buffer) (append-nil (pictures_of g.flights))
 
 same_stop : (next : Result Between Stop) → plan.stop_of next ≡ stop_of next
 same_stop (Ok s) = refl
@@ -136,65 +135,65 @@ cut-flights g =
     sym (append-nil (pictures_of (cut g).flights))
     ∙ ap (λ (ps : List PicturePlan). pictures_of (cut g).flights ++ ps) (sym (cut-none g)) ∙ cut-all g
 
-last-of : (x : Planned) (buffer : List DecodedPicture) (ps : List PicturePlan) (last : List ℕ)
+last-of : (hash : Bool) (x : Planned) (buffer : List BufferPicture) (ps : List PicturePlan) (last : List ℕ)
     (next : Result Between Stop)
     → x.pictures ≡ ps → x.last ≡ last → x.stop ≡ stop_of next
-    → decoded_behind buffer x ≡ decoded_from (finished last (stop_of next)) ps buffer
-last-of x buffer ps last next a b c =
-    ap (λ (end : Option Stop). decoded_from (finished x.last end) x.pictures buffer) c
-    ∙ ap (λ (places : List ℕ). decoded_from (finished places (stop_of next)) x.pictures buffer) b
-    ∙ ap (λ (qs : List PicturePlan). decoded_from (finished last (stop_of next)) qs buffer) a
+    → decoded_behind hash buffer x ≡ decoded_from hash (finished last (stop_of next)) ps buffer
+last-of hash x buffer ps last next a b c =
+    ap (λ (end : Option Stop). decoded_from hash (finished x.last end) x.pictures buffer) c
+    ∙ ap (λ (places : List ℕ). decoded_from hash (finished places (stop_of next)) x.pictures buffer) b
+    ∙ ap (λ (qs : List PicturePlan). decoded_from hash (finished last (stop_of next)) qs buffer) a
 
-end-next : (p : Plans) (buffer : List DecodedPicture) (next : Result Between Stop)
-    → decoded_behind buffer (behind_closed p.pending (planned_next next (λ s. planned_end true s)))
-    ≡ decoded_from (finished (last_behind next)
+end-next : (hash : Bool) (p : Plans) (buffer : List BufferPicture) (next : Result Between Stop)
+    → decoded_behind hash buffer (behind_closed p.pending (planned_next next (λ s. planned_end true s)))
+    ≡ decoded_from hash (finished (last_behind next)
     (stop_of (all_cut (going_on p next (λ s. after_step p (close s)))).left.next))
     (pictures_of (all_cut (going_on p next (λ s. after_step p (close s)))).flights) buffer
-end-next p buffer (Ok s) =
+end-next hash p buffer (Ok s) =
     let u : Stepped = close s in
     let g : Given = after_step p u in
-    last-of (behind_closed p.pending (planned_end true s)) buffer (pictures_of (all_cut g).flights)
+    last-of hash (behind_closed p.pending (planned_end true s)) buffer (pictures_of (all_cut g).flights)
     (last_behind (Ok s)) u.next
     (sym (step-all p.ahead p.pending u.closed u.next)
     ∙ sym (cut-flights (record { flights = g.flights; pending = g.left.pending })))
     refl
     (same_stop u.next)
-end-next p buffer (Err e) =
-    last-of (behind_closed p.pending (record { pictures = []; last = []; stop = Some e })) buffer
+end-next hash p buffer (Err e) =
+    last-of hash (behind_closed p.pending (record { pictures = []; last = []; stop = Some e })) buffer
     (pictures_of (cut (waiting p.pending)).flights) [] (Err e)
     (append-nil p.pending ∙ sym (cut-flights (waiting p.pending)))
     refl
     refl
 
 -- the input's end
-pub owed-end : (p : Plans) (buffer : List DecodedPicture)
-    → owed_behind true p buffer []
-    ≡ decoded_from (finished (at_end p).last (stop_of (at_end p).left.next)) (pictures_of (at_end p).flights) buffer
+pub owed-end : (hash : Bool) (p : Plans) (buffer : List BufferPicture)
+    → owed_behind hash true p buffer []
+    ≡ decoded_from hash (finished (at_end p).last (stop_of (at_end p).left.next)) (pictures_of (at_end p).flights) buffer
 unfolding owed_behind planned_behind at_end
-owed-end p buffer = end-next p buffer p.next
+owed-end hash p buffer = end-next hash p buffer p.next
 
-halt-next : (p : Plans) (buffer : List DecodedPicture) (next : Result Between Stop)
-    → decoded_behind buffer (behind_closed p.pending (planned_next next (λ s. planned_end false s)))
-    ≡ decoded_from (finished [] (stop_of next)) (pictures_of (cut (waiting p.pending)).flights) buffer
-halt-next p buffer (Ok s) =
-    last-of (behind_closed p.pending (planned_end false s)) buffer (pictures_of (cut (waiting p.pending)).flights) []
+halt-next : (hash : Bool) (p : Plans) (buffer : List BufferPicture) (next : Result Between Stop)
+    → decoded_behind hash buffer (behind_closed p.pending (planned_next next (λ s. planned_end false s)))
+    ≡ decoded_from hash (finished [] (stop_of next)) (pictures_of (cut (waiting p.pending)).flights) buffer
+halt-next hash p buffer (Ok s) =
+    last-of hash (behind_closed p.pending (planned_end false s)) buffer (pictures_of (cut (waiting p.pending)).flights) []
     (Ok s)
     (append-nil p.pending ∙ sym (cut-flights (waiting p.pending)))
     refl
     refl
-halt-next p buffer (Err e) =
-    last-of (behind_closed p.pending (record { pictures = []; last = []; stop = Some e })) buffer
+halt-next hash p buffer (Err e) =
+    last-of hash (behind_closed p.pending (record { pictures = []; last = []; stop = Some e })) buffer
     (pictures_of (cut (waiting p.pending)).flights) [] (Err e)
     (append-nil p.pending ∙ sym (cut-flights (waiting p.pending)))
     refl
     refl
 
 -- no more units, though the input hasn't ended
-pub owed-halt : (p : Plans) (buffer : List DecodedPicture)
-    → owed_behind false p buffer []
-    ≡ decoded_from (finished (halted p).last (stop_of (halted p).left.next)) (pictures_of (halted p).flights) buffer
+pub owed-halt : (hash : Bool) (p : Plans) (buffer : List BufferPicture)
+    → owed_behind hash false p buffer []
+    ≡ decoded_from hash (finished (halted p).last (stop_of (halted p).left.next)) (pictures_of (halted p).flights) buffer
 unfolding owed_behind planned_behind halted
-owed-halt p buffer = halt-next p buffer p.next
+owed-halt hash p buffer = halt-next hash p buffer p.next
 
 then-stops : (closed : List PicturePlan) (next : Result Between Stop) (e : Stop)
     → stop_of (then_next closed next (λ t. Err e)).next ≡ None → ⊥

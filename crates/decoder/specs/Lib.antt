@@ -1,5 +1,7 @@
 pub mod Options
 pub mod Headline
+pub mod Buffers
+pub mod Digests
 pub mod Pictures
 pub mod Writing
 pub mod Owed

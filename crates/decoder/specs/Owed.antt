@@ -7,30 +7,37 @@ use Rattle.nal_stream.specs.Framing.{StandsFor, to_come}
 use Rattle.spec_picture_plan.specs.Pictures.{beginning}
 use Rattle.spec_picture_plan.specs.Planned.{Planned, behind_closed, planned_next, planned_from}
 use Rattle.picture_plan.specs.Plans.{Plans, stop_of}
-use Rattle.spec_picture_build.specs.References.{DecodedPicture}
-use Rattle.spec_decoder.specs.Decoder.{Decoded, decoded, decoded_from, finished}
+use Rattle.spec_decoder.specs.declared.form.Form.{Form}
+use Rattle.spec_decoder.specs.Decoder.{BufferPicture, Decoded, decoded, decoded_from, finished}
 use Rattle.decoder.specs.declared.stream.Decoder.{Decoder}
 use Rattle.decoder.specs.declared.stream.Taken.{Taken}
 use Rattle.decoder.specs.declared.stream.Taken.TheVariants as taken
-use Rattle.picture_build.specs.Pictures.{buffer_of}
+use Rattle.decoder.specs.Buffers.{HeldBuffer, buffer_of}
 use Rattle.decoder.specs.Headline.{Change}
-use Rattle.decoder.specs.Writing.{Wrote, IsAnswered}
+use Rattle.decoder.specs.Writing.{IsAnswered, Owed, Wrote, owed_from}
 
 -- the pictures that a planner holds, and those that it closes of an input that goes on with these units
 unfoldable pub planned_behind : Bool → Plans → List Told → Planned
 planned_behind ended p later = behind_closed p.pending (planned_next p.next (λ s. planned_from ended s later))
 
 -- what planned pictures owe from a buffer on
-abbrev pub decoded_behind : List DecodedPicture → Planned → Decoded
-decoded_behind buffer p = decoded_from (finished p.last p.stop) p.pictures buffer
+abbrev pub decoded_behind : Bool → List BufferPicture → Planned → Decoded
+decoded_behind hash buffer p = decoded_from hash (finished p.last p.stop) p.pictures buffer
 
-unfoldable pub owed_behind : Bool → Plans → List DecodedPicture → List Told → Decoded
-owed_behind ended p buffer later = decoded_behind buffer (planned_behind ended p later)
+unfoldable pub owed_behind : Bool → Bool → Plans → List BufferPicture → List Told → Decoded
+owed_behind hash ended p buffer later = decoded_behind hash buffer (planned_behind ended p later)
+
+-- what is owed of the pictures that a planner and a buffer hold, and of those that these units give, in a form and from
+-- the number of the next picture on
+abbrev pub still_owed : Form → Bool → Bool → Plans → HeldBuffer → List Told → Owed
+still_owed form hash ended p buffer later =
+    owed_from form buffer.number (owed_behind hash ended p (buffer_of buffer) later)
 
 -- before the first unit
 pub record IsFirst (d : Decoder) (ahead : ℕ) : Type 0 where
   pub planner : d.planner ≡ record { ahead = ahead; pending = []; next = Ok beginning }
-  pub buffer : d.buffer ≡ []
+  pub buffer : buffer_of d.buffer ≡ []
+  pub number : d.buffer.number ≡ 0
 
 -- what a framer that was fed all these bytes has still to tell of them
 pub record StillTells (f : Framer) (ended : Bool) (bytes : List ℕ) (later : List Told) : Type 0 where
@@ -43,26 +50,29 @@ unfoldable pub left_of : Framer → ℕ
 left_of f = length (to_come f f.finished [])
 
 -- how far the decoding of these bytes has come
-pub record Reached (out : Change) (f : Framer) (d : Decoder) (ended : Bool) (bytes : List ℕ) : Type 0 where
+pub record Reached (form : Form) (hash : Bool) (out : Change) (f : Framer) (d : Decoder) (ended : Bool)
+    (bytes : List ℕ) : Type 0 where
   pub later : List Told
   pub tells : StillTells f ended bytes later
   pub going : stop_of d.planner.next ≡ None
-  pub wrote : Wrote out (decoded ended bytes) (owed_behind ended d.planner (buffer_of d.buffer) later)
+  pub wrote : Wrote out (owed_from form 0 (decoded hash ended bytes))
+      (still_owed form hash ended d.planner d.buffer later)
 
 -- one more unit is taken
-pub record TookUnit (out : Change) (f : Framer) (old new : Decoder) (ended : Bool) (bytes : List ℕ)
-    (later : List Told) : Type 0 where
+pub record TookUnit (form : Form) (hash : Bool) (out : Change) (f : Framer) (old new : Decoder) (ended : Bool)
+    (bytes : List ℕ) (later : List Told) : Type 0 where
   pub rest : List Told
   pub shorter : length later ≡ suc (length rest)
   pub tells : StillTells f ended bytes rest
   pub going : stop_of new.planner.next ≡ None
-  pub wrote : Wrote out (owed_behind ended old.planner (buffer_of old.buffer) later)
-      (owed_behind ended new.planner (buffer_of new.buffer) rest)
+  pub wrote : Wrote out (still_owed form hash ended old.planner old.buffer later)
+      (still_owed form hash ended new.planner new.buffer rest)
 
-abbrev pub Takes : Change → Framer → Decoder → Decoder → Bool → List ℕ → List Told → Result Taken Outcome → Type 0
-Takes out f old new ended bytes later (Ok taken.Unit) = TookUnit out f old new ended bytes later
-Takes out f old new ended bytes later (Ok taken.Last) =
-    Wrote out (owed_behind ended old.planner (buffer_of old.buffer) later)
-    (owed_behind ended new.planner (buffer_of new.buffer) [])
-Takes out f old new ended bytes later (Err o) =
-    IsAnswered (owed_behind ended old.planner (buffer_of old.buffer) later) out o
+abbrev pub Takes : Form → Bool → Change → Framer → Decoder → Decoder → Bool → List ℕ → List Told
+    → Result Taken Outcome → Type 0
+Takes form hash out f old new ended bytes later (Ok taken.Unit) = TookUnit form hash out f old new ended bytes later
+Takes form hash out f old new ended bytes later (Ok taken.Last) =
+    Wrote out (still_owed form hash ended old.planner old.buffer later)
+    (still_owed form hash ended new.planner new.buffer [])
+Takes form hash out f old new ended bytes later (Err o) =
+    IsAnswered (still_owed form hash ended old.planner old.buffer later) out o

@@ -7,8 +7,10 @@ use Rattle.hv_base.specs.Stops.{stopped_at}
 use Rattle.picture_trees.specs.declared.trees.ReadError.{ReadError}
 use Rattle.picture_trees.specs.declared.trees.ReadError.TheVariants as error
 use Rattle.picture_buffer.specs.Pictures.{HeldPicture}
-use Rattle.picture_build.specs.Pictures.{decoded_of, buffer_of}
-use Rattle.spec_picture_build.specs.References.{DecodedPicture}
+use Rattle.picture_build.specs.Pictures.{decoded_of}
+use Rattle.plan_types.specs.declared.picture_plan.PicturePlan.{PicturePlan}
+use Rattle.spec_decoder.specs.Decoder.{BufferPicture, kept_as}
+use Rattle.decoder.specs.Buffers.{HeldBuffer, buffer_of}
 use Rattle.decoder.specs.Headline.{outcome_of}
 
 -- how decoding ends where the data of a picture aren't read to their end
@@ -17,21 +19,20 @@ IsTold error.Memory o = o ≡ outcome.Memory
 IsTold (error.Broken breach nal ctu) o = o ≡ outcome_of (Some (stopped_at nal (Some ctu) breach))
 
 -- how decoding ends where a picture can't be decoded: with what is broken or met in it, or, of any, with want of memory
-abbrev pub IsRefused : Result DecodedPicture Stop → Outcome → Type 0
+abbrev pub IsRefused : Result BufferPicture Stop → Outcome → Type 0
 IsRefused decoded o = (o ≡ outcome.Memory) ⊎ IsErrAnd decoded (λ s. o ≡ outcome_of (Some s))
 
--- the picture, or why it can't be decoded
-abbrev pub DecodesAs : Result HeldPicture Outcome → Result DecodedPicture Stop → Type 0
-DecodesAs (Ok held) decoded = decoded ≡ Ok (decoded_of held)
-DecodesAs (Err o) decoded = IsRefused decoded o
+-- the picture of a plan, or why it can't be decoded
+abbrev pub DecodesAs : PicturePlan → Result HeldPicture Outcome → Result BufferPicture Stop → Type 0
+DecodesAs p (Ok held) decoded = decoded ≡ Ok (kept_as p (decoded_of held))
+DecodesAs p (Err o) decoded = IsRefused decoded o
 
 -- a decoded picture stands behind the last of the buffer
-pub record EntersBuffer (old new : List DecodedPicture) (decoded : Result DecodedPicture Stop) : Type 0 where
-  pub picture : DecodedPicture
+pub record EntersBuffer (old new : List BufferPicture) (decoded : Result BufferPicture Stop) : Type 0 where
+  pub picture : BufferPicture
   pub decodes : decoded ≡ Ok picture
   pub buffer : new ≡ old ++ picture ∷ []
 
-abbrev pub Enters : {X : Type 0} → List HeldPicture → List HeldPicture → Result DecodedPicture Stop → Result X Outcome
-    → Type 0
+abbrev pub Enters : {X : Type 0} → HeldBuffer → HeldBuffer → Result BufferPicture Stop → Result X Outcome → Type 0
 Enters old new decoded (Ok x) = EntersBuffer (buffer_of old) (buffer_of new) decoded
 Enters old new decoded (Err o) = IsRefused decoded o

@@ -1,30 +1,36 @@
 //! The decoded picture buffer (C.5.2).
 
-ghost use Rattle.std.specs.Prelude.{◌≡◌, ◌<◌, ◌∷◌, [], length, slice_get, if◌then◌else◌};
+ghost use Rattle.std.specs.Prelude.{◌≡◌, ◌<◌, ◌++◌, ◌∷◌, [], OnOk, length, option_map, slice_get, if◌then◌else◌};
 ghost use Rattle.std.specs.List.{remove};
-ghost use Rattle.picture_build.specs.Pictures.{buffer_of, decoded_of};
-ghost use Rattle.spec_decoder.specs.Decoder.{decoded_picture, is_among, kept_from, next_out, out_at, picture_out};
+ghost use Rattle.spec_decoder.specs.Decoder.{decoded_picture, is_among, kept_from, next_out, out_at};
+ghost use Rattle.decoder.specs.Buffers.{buffer_of, tagged};
 ghost use Rattle.decoder.specs.Headline.{change_of};
 ghost use Rattle.decoder.specs.Pictures.{Enters};
 ghost use Rattle.decoder.specs.Writing.{GoOut};
 
 use crate::picture::decode_picture;
+use crate::pieces::write_piece;
+use crate::tag::Tag;
 use header_types::PictureFormat;
 use hv_base::Outcome;
 use hv_io::Sink;
 use loop_filters::FilterScratch;
 use picture_buffer::{Bases, Picture};
 use plan_types::PicturePlan;
-use std::alloc::Global;
+use spec_decoder::Form;
+use std::alloc::{AllocError, Global};
 use std::marker::Model;
-use yuv_writer::write_picture;
 
-/// The pictures of the decoded picture buffer, in decoding order. A picture is named by its place. Contracts see the
-/// list.
+/// The pictures of the decoded picture buffer, in decoding order, and how many pictures went out of it. A picture is
+/// named by its place.
 #[derive(Drop)]
 pub(crate) struct Buffer {
     alloc: Global,
+    /// What is told of each picture.
+    tags: Vec<Tag>,
     pictures: Bases,
+    /// The number of the next picture that goes out, up to 2^64 - 1.
+    number: u64,
     /// Pictures that left it, in whose memory later ones of their size are kept.
     spares: Bases,
     /// Memory in which they are filtered.
@@ -32,53 +38,138 @@ pub(crate) struct Buffer {
 }
 
 impl Model for Buffer {
-    ghost use Rattle.std.specs.Prelude.{List};
-    ghost use Rattle.picture_buffer.specs.Pictures.{HeldPicture};
+    ghost use Rattle.std.specs.Prelude.{◌≡◌, length};
+    ghost use Rattle.decoder.specs.Buffers.{HeldBuffer};
 
-    ghost Value = { List HeldPicture };
+    ghost Value = { HeldBuffer };
 
-    ghost view = { λ b. b.pictures };
+    ghost view = { λ b. record { tags = b.tags.items; pictures = b.pictures; number = b.number } };
+
+    ghost invariant = { λ b. length b.tags.items ≡ length b.pictures };
 }
 
 impl Buffer {
     /// An empty buffer.
     pub(crate) fn new(alloc: Global) -> Buffer
-        ensures { result ≡ [] }
+        ensures none { buffer_of result ≡ [] }
+        ensures first { result.number ≡ 0 }
     {
         Buffer {
             alloc,
+            tags: Vec::new(alloc),
             pictures: Bases::new(alloc),
+            number: 0,
             spares: Bases::new(alloc),
             scratch: FilterScratch::new(alloc),
         }
     }
 
-    /// Decodes a picture by those that are there; it then stands behind the last.
-    pub(crate) fn decode(&mut self, picture: &PicturePlan) -> Result<(), Outcome>
-        ensures { Enters self.old self.new (decoded_picture (buffer_of self.old) picture.now) result }
+    /// Decodes a picture by those that are there; it then stands behind the last. Its planes are compared with their
+    /// stated hashes, where `hash` is true.
+    pub(crate) fn decode(&mut self, hash: bool, picture: &PicturePlan) -> Result<(), Outcome>
+        ensures enters { Enters self.old self.new (decoded_picture hash (buffer_of self.old) picture.now) result }
+        ensures number { self.new.number ≡ self.old.number }
     {
         let spare = take_spare(self.alloc, &mut self.spares, &picture.sps.fields().format);
         let scratch = &mut self.scratch;
-        let decoded = decode_picture(self.alloc, picture, &self.pictures, spare, scratch)?;
-        match self.pictures.push(decoded) {
+        let decoded = decode_picture(self.alloc, hash, picture, &self.pictures, spare, scratch)?;
+        match self.push(Tag::of(picture), decoded) {
             Ok(()) => Ok(()),
             Err(_) => Err(Outcome::Memory),
         }
     }
 
-    /// Writes the pictures at these places, one after the other. A place behind the last has none.
-    pub(crate) fn write<O: Sink>(&self, places: &[u32], out: &mut O) -> Result<(), Outcome>
-        ensures { GoOut (change_of O.contents O.faults out.old out.new)
-            (out_at (buffer_of self.now) places.now) result }
+    /// A picture behind the last. `Err` is want of memory.
+    fn push(&mut self, tag: Tag, picture: Picture) -> Result<(), AllocError>
+        ensures tags { OnOk result (self.new.tags ≡ self.old.tags ++ tag ∷ []) }
+        ensures pictures { OnOk result (self.new.pictures ≡ self.old.pictures ++ picture ∷ []) }
+        ensures number { self.new.number ≡ self.old.number }
     {
-        write_places(&self.pictures, places, out)
+        if self.tags.push(tag).is_err() {
+            return Err(AllocError);
+        }
+        let pushed = self.pictures.push(picture);
+        if pushed.is_err() {
+            let _ = self.tags.pop();
+        }
+        pushed
+    }
+
+    /// Writes the pictures at these places, one after the other. A place behind the last has none.
+    pub(crate) fn write<O: Sink>(
+        &mut self,
+        form: Form,
+        places: &[u32],
+        out: &mut O,
+    ) -> Result<(), Outcome>
+        ensures wrote { GoOut form (change_of O.contents O.faults out.old out.new) self.old.number self.new.number
+            (out_at (buffer_of self.old) places.now) result }
+        ensures same { buffer_of self.new ≡ buffer_of self.old }
+    {
+        for place in places {
+            self.write_place(form, *place, out)?;
+        }
+        Ok(())
+    }
+
+    /// Writes the picture at a place.
+    fn write_place<O: Sink>(&mut self, form: Form, place: u32, out: &mut O) -> Result<(), Outcome>
+        ensures wrote { GoOut form (change_of O.contents O.faults out.old out.new) self.old.number self.new.number
+            (next_out (slice_get (buffer_of self.old) place) []) result }
+        ensures same { buffer_of self.new ≡ buffer_of self.old }
+    {
+        match self.at(place) {
+            None => Ok(()),
+            Some((tag, picture)) => match write_piece(form, self.number, tag, picture, out) {
+                Ok(()) => {
+                    self.number = self.number.saturating_add(1);
+                    Ok(())
+                }
+                Err(_) => Err(Outcome::WriteFault),
+            },
+        }
+    }
+
+    /// The picture at a place, with what is told of it.
+    fn at(&self, place: u32) -> Option<(Tag, &Picture)>
+        ensures { option_map (λ p. tagged p.0 p.1.now) result ≡ slice_get (buffer_of self.now) place }
+    {
+        match self.tags.get(place as usize) {
+            None => None,
+            Some(tag) => match self.pictures.get(place) {
+                None => None,
+                Some(picture) => Some((*tag, picture)),
+            },
+        }
     }
 
     /// Keeps the pictures at these places, in the buffer's order. The others are spare.
     pub(crate) fn keep(&mut self, places: &[u32])
-        ensures { buffer_of self.new ≡ kept_from places.now 0 (buffer_of self.old) }
+        ensures kept { buffer_of self.new ≡ kept_from places.now 0 (buffer_of self.old) }
+        ensures number { self.new.number ≡ self.old.number }
     {
-        keep_places(&mut self.pictures, places, &mut self.spares);
+        let mut place = self.pictures.len();
+        while 0 < place {
+            place -= 1;
+            self.judge_place(place, places);
+        }
+    }
+
+    /// Takes the picture at a place out, unless the place is one of these. It is spare then, or dropped for want of
+    /// memory.
+    fn judge_place(&mut self, place: usize, places: &[u32])
+        requires { place < length self.old.pictures }
+        ensures tags { self.new.tags
+            ≡ (if is_among places.now place then self.old.tags else remove self.old.tags place) }
+        ensures pictures { self.new.pictures
+            ≡ (if is_among places.now place then self.old.pictures else remove self.old.pictures place) }
+        ensures level { length self.new.tags ≡ length self.new.pictures }
+        ensures number { self.new.number ≡ self.old.number }
+    {
+        if !is_among(places, place) {
+            let _ = self.tags.remove(place);
+            let _pushed = self.spares.push(self.pictures.remove(place));
+        }
     }
 }
 
@@ -100,56 +191,6 @@ fn take_spare(alloc: Global, spares: &mut Bases, format: &PictureFormat) -> Opti
 fn has_size(picture: &Picture, format: &PictureFormat) -> bool {
     picture.format().pic_width_in_luma_samples == format.pic_width_in_luma_samples
         && picture.format().pic_height_in_luma_samples == format.pic_height_in_luma_samples
-}
-
-fn write_places<O: Sink>(pictures: &Bases, places: &[u32], out: &mut O) -> Result<(), Outcome>
-    ensures { GoOut (change_of O.contents O.faults out.old out.new)
-        (out_at (buffer_of pictures.now) places.now) result }
-{
-    for place in places {
-        write_place(pictures, *place, out)?;
-    }
-    Ok(())
-}
-
-fn write_place<O: Sink>(pictures: &Bases, place: u32, out: &mut O) -> Result<(), Outcome>
-    ensures { GoOut (change_of O.contents O.faults out.old out.new)
-        (next_out (slice_get (buffer_of pictures.now) place) []) result }
-{
-    match pictures.get(place) {
-        None => Ok(()),
-        Some(picture) => write_out(picture, out),
-    }
-}
-
-/// Writes a picture.
-fn write_out<O: Sink>(picture: &Picture, out: &mut O) -> Result<(), Outcome>
-    ensures { GoOut (change_of O.contents O.faults out.old out.new) (picture_out (decoded_of picture.now) ∷ []) result }
-{
-    match write_picture(picture, out) {
-        Ok(()) => Ok(()),
-        Err(_) => Err(Outcome::WriteFault),
-    }
-}
-
-fn keep_places(pictures: &mut Bases, places: &[u32], spares: &mut Bases)
-    ensures { buffer_of pictures.new ≡ kept_from places.now 0 (buffer_of pictures.old) }
-{
-    let mut place = pictures.len();
-    while 0 < place {
-        place -= 1;
-        judge_place(pictures, place, places, spares);
-    }
-}
-
-/// Takes the picture at a place out, unless the place is one of these. It is spare then, or dropped for want of memory.
-fn judge_place(pictures: &mut Bases, place: usize, places: &[u32], spares: &mut Bases)
-    requires { place < length pictures.old }
-    ensures { pictures.new ≡ (if is_among places.now place then pictures.old else remove pictures.old place) }
-{
-    if !is_among(places, place) {
-        let _pushed = spares.push(pictures.remove(place));
-    }
 }
 
 /// Whether a place is one of these.

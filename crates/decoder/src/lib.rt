@@ -3,10 +3,14 @@
 
 mod buffer;
 mod decoding;
+mod hashes;
 mod options;
 mod picture;
+mod pieces;
 mod stream;
+mod tag;
 mod writing;
 
 pub use decoding::decode;
 pub use options::Options;
+pub use spec_decoder::Form;

@@ -3,13 +3,12 @@
 ghost use Rattle.std.specs.Prelude.{◌≡◌, Bool, ℕ, List, ◌∷◌, [], None, IfOk, OnOk, true};
 ghost use Rattle.spec_nal_units.specs.Judged.{Told, told_of};
 ghost use Rattle.nal_stream.specs.Answers.{told_by};
-ghost use Rattle.picture_build.specs.Pictures.{buffer_of};
 ghost use Rattle.picture_plan.specs.Plans.{behind_unit, stop_of};
 ghost use Rattle.spec_decoder.specs.Decoder.{decoded};
 ghost use Rattle.decoder.specs.Headline.{change_of};
-ghost use Rattle.decoder.specs.Owed.{IsFirst, StillTells, Takes, owed_behind};
+ghost use Rattle.decoder.specs.Owed.{IsFirst, StillTells, Takes, still_owed};
 ghost use Rattle.decoder.specs.Options.{IsInRange};
-ghost use Rattle.decoder.specs.Writing.{IsAnswered, LeadsTo};
+ghost use Rattle.decoder.specs.Writing.{IsAnswered, LeadsTo, owed_from};
 
 use crate::buffer::Buffer;
 use crate::options::Options;
@@ -32,7 +31,8 @@ pub(crate) fn decode_bytes<O: Sink>(
     out: &mut O,
 ) -> Outcome
     requires { IsInRange options }
-    ensures { IsAnswered (decoded ended bytes.now) (change_of O.contents O.faults out.old out.new) result }
+    ensures { IsAnswered (owed_from options.form 0 (decoded options.hash ended bytes.now))
+        (change_of O.contents O.faults out.old out.new) result }
 {
     let Ok(mut framer) = framer_of(alloc, bytes, ended) else {
         return Outcome::Memory;
@@ -41,9 +41,9 @@ pub(crate) fn decode_bytes<O: Sink>(
         return Outcome::Memory;
     };
     'units: loop {
-        match decoder.take_unit(&mut framer, out) {
+        match decoder.take_unit(options, &mut framer, out) {
             Ok(Taken::Unit) => {}
-            Ok(Taken::Last) => return decoder.write_rest(ended, out),
+            Ok(Taken::Last) => return decoder.write_rest(options, ended, out),
             Err(outcome) => return outcome,
         }
     }
@@ -90,10 +90,15 @@ impl Decoder {
     }
 
     /// Takes a unit and writes the pictures that go out then.
-    fn take_unit<O: Sink>(&mut self, framer: &mut Framer, out: &mut O) -> Result<Taken, Outcome>
+    fn take_unit<O: Sink>(
+        &mut self,
+        options: Options,
+        framer: &mut Framer,
+        out: &mut O,
+    ) -> Result<Taken, Outcome>
         ensures { (ended : Bool) (bytes : List ℕ) (later : List Told) → StillTells framer.old ended bytes later
             → stop_of self.old.planner.next ≡ None
-            → Takes (change_of O.contents O.faults out.old out.new) framer.new self.old self.new
+            → Takes options.form options.hash (change_of O.contents O.faults out.old out.new) framer.new self.old self.new
             ended bytes later result }
     {
         let Ok(next) = framer.next() else {
@@ -103,19 +108,24 @@ impl Decoder {
             Next::More => Ok(Taken::Last),
             Next::End => Ok(Taken::Last),
             unit => {
-                self.plan_unit(unit, out)?;
+                self.plan_unit(options, unit, out)?;
                 Ok(Taken::Unit)
             }
         }
     }
 
     /// Plans a unit and writes the pictures that go out then.
-    fn plan_unit<O: Sink>(&mut self, next: Next, out: &mut O) -> Result<(), Outcome>
+    fn plan_unit<O: Sink>(
+        &mut self,
+        options: Options,
+        next: Next,
+        out: &mut O,
+    ) -> Result<(), Outcome>
         ensures wrote { (ended : Bool) (t : Told) (later : List Told) → told_by next ≡ t ∷ []
             → stop_of self.old.planner.next ≡ None
             → LeadsTo (change_of O.contents O.faults out.old out.new)
-            (owed_behind ended self.old.planner (buffer_of self.old.buffer) (t ∷ later))
-            (owed_behind ended self.new.planner (buffer_of self.new.buffer) later) result }
+            (still_owed options.form options.hash ended self.old.planner self.old.buffer (t ∷ later))
+            (still_owed options.form options.hash ended self.new.planner self.new.buffer later) result }
         ensures left { OnOk result ((behind_unit self.old.planner (told_by next)).left ≡ self.new.planner) }
         ensures going { OnOk result (stop_of self.new.planner.next ≡ None) }
     {
@@ -123,29 +133,29 @@ impl Decoder {
             return Err(Outcome::Memory);
         };
         match planned.stop {
-            None => decode_flights(planned.flights, &mut self.buffer, out),
-            Some(_) => Err(write_last(planned, &mut self.buffer, out)),
+            None => decode_flights(options, planned.flights, &mut self.buffer, out),
+            Some(_) => Err(write_last(options, planned, &mut self.buffer, out)),
         }
     }
 
     /// Writes the pictures that are left behind the last unit.
-    fn write_rest<O: Sink>(&mut self, ended: bool, out: &mut O) -> Outcome
-        ensures { IsAnswered (owed_behind ended self.old.planner (buffer_of self.old.buffer) [])
+    fn write_rest<O: Sink>(&mut self, options: Options, ended: bool, out: &mut O) -> Outcome
+        ensures { IsAnswered (still_owed options.form options.hash ended self.old.planner self.old.buffer [])
             (change_of O.contents O.faults out.old out.new) result }
     {
         if ended {
-            return self.write_end(out);
+            return self.write_end(options, out);
         }
-        write_last(self.planner.halt(), &mut self.buffer, out)
+        write_last(options, self.planner.halt(), &mut self.buffer, out)
     }
 
     /// Writes the pictures that are left where the input ended.
-    fn write_end<O: Sink>(&mut self, out: &mut O) -> Outcome
-        ensures { IsAnswered (owed_behind true self.old.planner (buffer_of self.old.buffer) [])
+    fn write_end<O: Sink>(&mut self, options: Options, out: &mut O) -> Outcome
+        ensures { IsAnswered (still_owed options.form options.hash true self.old.planner self.old.buffer [])
             (change_of O.contents O.faults out.old out.new) result }
     {
         match self.planner.finish() {
-            Ok(planned) => write_last(planned, &mut self.buffer, out),
+            Ok(planned) => write_last(options, planned, &mut self.buffer, out),
             Err(_) => Outcome::Memory,
         }
     }

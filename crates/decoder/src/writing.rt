@@ -2,36 +2,56 @@
 //! picture buffer.
 
 ghost use Rattle.std.specs.Prelude.{◌≡◌};
-ghost use Rattle.picture_build.specs.Pictures.{buffer_of};
 ghost use Rattle.picture_plan.specs.Flights.{pictures_of};
 ghost use Rattle.spec_decoder.specs.Decoder.{decoded_from, finished};
+ghost use Rattle.decoder.specs.Buffers.{buffer_of};
 ghost use Rattle.decoder.specs.Headline.{change_of, outcome_of};
-ghost use Rattle.decoder.specs.Writing.{IsAnswered, TakesPicture, WritesFirst};
+ghost use Rattle.decoder.specs.Writing.{IsAnswered, TakesPicture, WritesFirst, owed_from};
 
 use crate::buffer::Buffer;
+use crate::options::Options;
 use hv_base::{Outcome, Stop};
 use hv_io::Sink;
 use picture_plan::{Flights, Planned};
 use plan_types::PicturePlan;
+use spec_decoder::Form;
 
 /// Decodes the pictures of the last flights, writes what then goes out, and answers how decoding ends.
-pub(crate) fn write_last<O: Sink>(planned: Planned, buffer: &mut Buffer, out: &mut O) -> Outcome
-    ensures { IsAnswered
-        (decoded_from (finished planned.last planned.stop) (pictures_of planned.flights) (buffer_of buffer.old))
+pub(crate) fn write_last<O: Sink>(
+    options: Options,
+    planned: Planned,
+    buffer: &mut Buffer,
+    out: &mut O,
+) -> Outcome
+    ensures { IsAnswered (owed_from options.form buffer.old.number
+        (decoded_from options.hash (finished planned.last planned.stop) (pictures_of planned.flights)
+        (buffer_of buffer.old)))
         (change_of O.contents O.faults out.old out.new) result }
 {
-    match decode_flights(planned.flights, buffer, out) {
-        Ok(()) => write_end(planned.last.as_slice(), planned.stop, buffer, out),
+    match decode_flights(options, planned.flights, buffer, out) {
+        Ok(()) => write_end(
+            options.form,
+            planned.last.as_slice(),
+            planned.stop,
+            buffer,
+            out,
+        ),
         Err(outcome) => outcome,
     }
 }
 
 /// Writes the pictures that go out behind all others, and answers how decoding ends.
-fn write_end<O: Sink>(last: &[u32], stop: Option<Stop>, buffer: &Buffer, out: &mut O) -> Outcome
-    ensures { IsAnswered (finished last.now stop (buffer_of buffer.now))
+fn write_end<O: Sink>(
+    form: Form,
+    last: &[u32],
+    stop: Option<Stop>,
+    buffer: &mut Buffer,
+    out: &mut O,
+) -> Outcome
+    ensures { IsAnswered (owed_from form buffer.old.number (finished last.now stop (buffer_of buffer.old)))
         (change_of O.contents O.faults out.old out.new) result }
 {
-    match buffer.write(last, out) {
+    match buffer.write(form, last, out) {
         Ok(()) => outcome_of(stop),
         Err(outcome) => outcome,
     }
@@ -50,47 +70,50 @@ pub(crate) fn outcome_of(stop: Option<Stop>) -> Outcome
 
 /// Decodes the pictures of flights, and writes what goes out.
 pub(crate) fn decode_flights<O: Sink>(
+    options: Options,
     flights: Flights,
     buffer: &mut Buffer,
     out: &mut O,
 ) -> Result<(), Outcome>
-    ensures { WritesFirst (change_of O.contents O.faults out.old out.new) (pictures_of flights) (buffer_of buffer.old)
-        (buffer_of buffer.new) result }
+    ensures { WritesFirst options.form options.hash (change_of O.contents O.faults out.old out.new)
+        (pictures_of flights) buffer.old buffer.new result }
 {
     let mut left = flights;
     while let Some(flight) = left.next() {
-        decode_pictures(flight.as_slice(), buffer, out)?;
+        decode_pictures(options, flight.as_slice(), buffer, out)?;
     }
     Ok(())
 }
 
 /// Decodes these pictures, up to the first in which something is broken or met.
 fn decode_pictures<O: Sink>(
+    options: Options,
     pictures: &[PicturePlan],
     buffer: &mut Buffer,
     out: &mut O,
 ) -> Result<(), Outcome>
-    ensures { WritesFirst (change_of O.contents O.faults out.old out.new) pictures.now (buffer_of buffer.old)
-        (buffer_of buffer.new) result }
+    ensures { WritesFirst options.form options.hash (change_of O.contents O.faults out.old out.new) pictures.now
+        buffer.old buffer.new result }
 {
     for picture in pictures {
-        take_picture(picture, buffer, out)?;
+        take_picture(options, picture, buffer, out)?;
     }
     Ok(())
 }
 
 /// Decodes a picture, and writes what goes out before it and behind it (C.5.2).
 fn take_picture<O: Sink>(
+    options: Options,
     picture: &PicturePlan,
     buffer: &mut Buffer,
     out: &mut O,
 ) -> Result<(), Outcome>
-    ensures { TakesPicture (change_of O.contents O.faults out.old out.new) picture.now (buffer_of buffer.old)
-        (buffer_of buffer.new) result }
+    ensures { TakesPicture options.form options.hash (change_of O.contents O.faults out.old out.new) picture.now
+        buffer.old buffer.new result }
 {
-    buffer.write(picture.outputs.before.as_slice(), out)?;
-    buffer.decode(picture)?;
-    buffer.write(picture.outputs.behind.as_slice(), out)?;
+    buffer.write(options.form, picture.outputs.before.as_slice(), out)?;
+    buffer.decode(options.hash, picture)?;
+    buffer.write(options.form, picture.outputs.behind.as_slice(), out)?;
     buffer.keep(picture.outputs.kept.as_slice());
     Ok(())
 }

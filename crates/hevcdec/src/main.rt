@@ -1,4 +1,5 @@
-//! The program `hevcdec`: it decodes H.265 video from standard input to standard output, or makes a test stream.
+//! The program `hevcdec`: it decodes H.265 video from standard input to standard output, hashes or lists its pictures,
+//! or makes a test stream.
 #![tactic(auto)]
 
 use command_line::run;

@@ -4,14 +4,15 @@ use crate::byte_text::{UnitNames, bytes_of, name_and_columns, number_of};
 use crate::row_error::RowError;
 use crate::tally::Tally;
 use command_line::run;
-use hv_base::Status;
+use hv_base::{Outcome, Status};
 use hv_io::{MemSink, MemSource, OpenGate};
 use md5::{Digest, Md5};
 use std::alloc::Global;
 use std::sync::Wait;
 use std::thread::Threads;
+use stream_maker::make;
 
-/// How many bytes the sinks take.
+/// How many bytes a sink takes where a row doesn't say it.
 const ROOM: usize = 1 << 20;
 
 /// The sizes of pieces with which a row without faulty ends is run.
@@ -27,10 +28,11 @@ enum Output {
     Md5(String),
 }
 
-/// The pieces in which the source and the sinks work, and the calls that fail.
+/// The pieces in which the source and the sinks work, the bytes that the output takes, and the calls that fail.
 #[derive(Drop)]
 struct Ends {
     piece: Option<u32>,
+    room: usize,
     reads: Vec<u64>,
     writes: Vec<u64>,
     tells: Vec<u64>,
@@ -116,9 +118,28 @@ fn input_of(
     columns: Columns<'_>,
 ) -> Result<RunInput, RowError> {
     let words = words_of(alloc, columns.words)?;
-    let bytes = names.stream_of(alloc, columns.stream)?;
+    let bytes = bytes_of_stream(alloc, names, columns.stream)?;
     let ends = ends_of(alloc, columns.ends)?;
     Ok(RunInput { words, bytes, ends })
+}
+
+/// The bytes of a stream: of a made one behind `made`, else of its units.
+fn bytes_of_stream(alloc: Global, names: &UnitNames<'_>, text: &str) -> Result<Vec<u8>, RowError> {
+    match text.strip_prefix("made ") {
+        Some(seed_and_count) => made_stream(alloc, seed_and_count),
+        None => names.stream_of(alloc, text),
+    }
+}
+
+/// The stream of a seed with so many pictures.
+fn made_stream(alloc: Global, text: &str) -> Result<Vec<u8>, RowError> {
+    let (seed, count) = text.split_once(' ').unwrap_or((text, ""));
+    let seed = u64::from(number_of(seed)?);
+    let mut out = MemSink::new(alloc, ROOM, ROOM, &[])?;
+    match make(alloc, seed, number_of(count)?, &mut out) {
+        Outcome::Ok => Ok(Vec::from_slice(alloc, out.bytes())?),
+        _ => Err(RowError::Unreadable),
+    }
 }
 
 /// How a row says that its run ends.
@@ -170,11 +191,12 @@ fn words_of(alloc: Global, text: &str) -> Result<Vec<String>, RowError> {
     Ok(words)
 }
 
-/// Faulty ends: `by=N` for pieces of N bytes; `read=N`, `write=N` and `tell=N` for a failing call of the source, of the
-/// output and of the error sink, from 0; `-` for none.
+/// Faulty ends: `by=N` for pieces of N bytes; `room=N` for an output of N bytes; `read=N`, `write=N` and `tell=N` for a
+/// failing call of the source, of the output and of the error sink, from 0; `-` for none.
 fn ends_of(alloc: Global, text: &str) -> Result<Ends, RowError> {
     let mut ends = Ends {
         piece: None,
+        room: ROOM,
         reads: Vec::new(alloc),
         writes: Vec::new(alloc),
         tells: Vec::new(alloc),
@@ -189,7 +211,7 @@ fn ends_of(alloc: Global, text: &str) -> Result<Ends, RowError> {
 }
 
 impl Ends {
-    /// Takes a word that tells of the pieces or of a failing call.
+    /// Takes a word that tells of the pieces, of the output or of a failing call.
     fn take(&mut self, word: &str) -> Result<(), RowError> {
         match word.split_once('=') {
             Some((name, number)) => self.set(name, number_of(number)?),
@@ -201,6 +223,7 @@ impl Ends {
     fn set(&mut self, name: &str, number: u32) -> Result<(), RowError> {
         match name {
             "by" => self.piece = Some(number),
+            "room" => self.room = number as usize,
             "read" => self.reads.push(u64::from(number))?,
             "write" => self.writes.push(u64::from(number))?,
             "tell" => self.tells.push(u64::from(number))?,
@@ -210,7 +233,7 @@ impl Ends {
     }
 }
 
-/// The output: `-` for none, `grey N`, `md5 DIGITS`, or its bytes.
+/// The output: `-` for none, `grey N`, `md5 DIGITS`, `lines A, B`, or its bytes.
 fn output_of(alloc: Global, text: &str) -> Result<Output, RowError> {
     match text.split_once(' ') {
         Some((kind, rest)) => output_of_kind(alloc, kind, rest),
@@ -224,8 +247,19 @@ fn output_of_kind(alloc: Global, kind: &str, rest: &str) -> Result<Output, RowEr
     match kind {
         "grey" => Ok(Output::Grey(number_of(rest)?)),
         "md5" => Ok(Output::Md5(String::from_str(alloc, rest)?)),
+        "lines" => Ok(Output::Bytes(bytes_of_lines(alloc, rest)?)),
         _ => Err(RowError::Unreadable),
     }
+}
+
+/// The bytes of lines, each with its end.
+fn bytes_of_lines(alloc: Global, text: &str) -> Result<Vec<u8>, RowError> {
+    let mut bytes = Vec::new(alloc);
+    for line in text.split(", ") {
+        bytes.extend_from_slice(line.as_bytes())?;
+        bytes.push(b'\n')?;
+    }
+    Ok(bytes)
 }
 
 /// What the error sink gains: the line, or nothing for `-`; where a write to it fails, a front of the line.
@@ -247,7 +281,7 @@ fn difference<R: Threads + Wait + Sync>(
     let RunInput { words, bytes, ends } = &row.input;
     let size = (piece as usize).max(1);
     let mut src = MemSource::new(bytes.as_slice(), size, ends.reads.as_slice());
-    let mut out = MemSink::new(alloc, ROOM, size, ends.writes.as_slice())?;
+    let mut out = MemSink::new(alloc, ends.room, size, ends.writes.as_slice())?;
     let mut err = MemSink::new(alloc, ROOM, size, ends.tells.as_slice())?;
     let Status(status) = run(
         rt,

@@ -11,7 +11,6 @@ use Rattle.plan_types.specs.declared.picture_plan.PicturePlan.{PicturePlan}
 use Rattle.spec_bits.specs.Bits.{bits}
 use Rattle.spec_nal_units.specs.Judged.{NalUnit, Told, told_of}
 use Rattle.spec_output_order.specs.OutputOrder.{last_outputs}
-use Rattle.spec_picture_build.specs.References.{DecodedPicture}
 use Rattle.spec_picture_plan.specs.Closing.{broken_at_closing, broken_in, full_at, or_later}
 use Rattle.spec_picture_plan.specs.Pictures.{beginning}
 use Rattle.spec_picture_plan.specs.Planned.{Planned, at_end, behind_closed, planned_from, planned_next, planned_of}
@@ -21,7 +20,8 @@ use Rattle.spec_picture_plan.specs.Steps.{kind_step, slice_judged, slice_step, s
 use Rattle.spec_picture_plan.specs.UnitKinds.{is_rasl, kind_of_type}
 use Rattle.spec_picture_plan.specs.declared.unit_kind.UnitKind.{UnitKind}
 use Rattle.spec_picture_plan.specs.declared.unit_kind.UnitKind.TheVariants as unit
-use Rattle.spec_decoder.specs.Decoder.{Decoded, decoded, decoded_from, decoded_picture, entered, finished}
+use Rattle.spec_decoder.specs.Output.{OutPicture}
+use Rattle.spec_decoder.specs.Decoder.{BufferPicture, Decoded, decoded, decoded_from, decoded_picture, entered, finished}
 use Rattle.spec_decoder.specs.Decoder.{kept_from}
 use Rattle.spec_decoder.specs.Decoder.{out_at, put_out, with_picture}
 use Rattle.spec_decoder.specs.Trail.{Data, Event, Judge, Keep, Output, closed_events, closed_first, closes, end_events}
@@ -104,45 +104,45 @@ step_parts s (Told.Met l) = refl
 -- ---- what goes out
 
 -- what is decoded of these pictures, behind those of a buffer
-abbrev plan_decoded : Planned → List DecodedPicture → Decoded
-plan_decoded p buffer = decoded_from (finished p.last p.stop) p.pictures buffer
+abbrev plan_decoded : Bool → Planned → List BufferPicture → Decoded
+plan_decoded hash p buffer = decoded_from hash (finished p.last p.stop) p.pictures buffer
 
-entered_first : (p : PicturePlan) (next : List DecodedPicture → Decoded) (events : List Event)
-    (buffer : List DecodedPicture) (r : Result DecodedPicture Stop)
-    → ((b : List DecodedPicture) → next b ≡ first_of events b)
+entered_first : (hash : Bool) (p : PicturePlan) (next : List BufferPicture → Decoded) (events : List Event)
+    (buffer : List BufferPicture) (r : Result BufferPicture Stop)
+    → ((b : List BufferPicture) → next b ≡ first_of hash events b)
     → entered p next buffer r
-    ≡ with_decoded buffer r (first_of (Output p.outputs.behind ∷ Keep p.outputs.kept ∷ events))
-entered_first p next events buffer (Err e) same = refl
-entered_first p next events buffer (Ok picture) same =
-    let now : List DecodedPicture = buffer ++ picture ∷ [] in
+    ≡ with_decoded buffer r (first_of hash (Output p.outputs.behind ∷ Keep p.outputs.kept ∷ events))
+entered_first hash p next events buffer (Err e) same = refl
+entered_first hash p next events buffer (Ok picture) same =
+    let now : List BufferPicture = buffer ++ picture ∷ [] in
     ap (put_out (out_at now p.outputs.behind)) (same (kept_from p.outputs.kept 0 now))
 
-picture_first : (p : PicturePlan) (next : List DecodedPicture → Decoded) (events : List Event)
-    (buffer : List DecodedPicture)
-    → ((b : List DecodedPicture) → next b ≡ first_of events b)
-    → with_picture p next buffer
-    ≡ first_of (Output p.outputs.before ∷ Data p ∷ Output p.outputs.behind ∷ Keep p.outputs.kept ∷ events) buffer
-picture_first p next events buffer same =
-    ap (put_out (out_at buffer p.outputs.before)) (entered_first p next events buffer (decoded_picture buffer p) same)
+picture_first : (hash : Bool) (p : PicturePlan) (next : List BufferPicture → Decoded) (events : List Event)
+    (buffer : List BufferPicture)
+    → ((b : List BufferPicture) → next b ≡ first_of hash events b)
+    → with_picture hash p next buffer
+    ≡ first_of hash (Output p.outputs.before ∷ Data p ∷ Output p.outputs.behind ∷ Keep p.outputs.kept ∷ events) buffer
+picture_first hash p next events buffer same =
+    ap (put_out (out_at buffer p.outputs.before)) (entered_first hash p next events buffer (decoded_picture hash buffer p) same)
 
-module _ (g : Between → Planned) (h : Between → List Event)
-    (same : (n : Between) (b : List DecodedPicture) → plan_decoded (g n) b ≡ first_of (h n) b) where
+module _ (hash : Bool) (g : Between → Planned) (h : Between → List Event)
+    (same : (n : Between) (b : List BufferPicture) → plan_decoded hash (g n) b ≡ first_of hash (h n) b) where
   -- a unit by itself
-  judged_first : (r : Result Between Stop) (buffer : List DecodedPicture)
-      → plan_decoded (planned_next r g) buffer ≡ first_of (Judge (stop_of r) ∷ next_events r h) buffer
+  judged_first : (r : Result Between Stop) (buffer : List BufferPicture)
+      → plan_decoded hash (planned_next r g) buffer ≡ first_of hash (Judge (stop_of r) ∷ next_events r h) buffer
   unfolding out_at
   judged_first (Err e) buffer = refl
   judged_first (Ok n) buffer = same n buffer
 
   -- behind what it closes
   broken_first : (s : Between) (p : PicturePlan) (f : Between → Result Between Stop) (x y : Option Fault)
-      (buffer : List DecodedPicture)
-      → plan_decoded
+      (buffer : List BufferPicture)
+      → plan_decoded hash
       (behind_closed
       (then_next (closed_by s p (or_later x y)).closed (closed_by s p (or_later x y)).next f).closed
       (planned_next (then_next (closed_by s p (or_later x y)).closed (closed_by s p (or_later x y)).next f).next g))
       buffer
-      ≡ first_of
+      ≡ first_of hash
       (Judge (option_map stop.Fault x) ∷ Judge (option_map stop.Fault y) ∷ Output p.outputs.before ∷ Data p
       ∷ Output p.outputs.behind
       ∷ Keep p.outputs.kept
@@ -154,17 +154,17 @@ module _ (g : Between → Planned) (h : Between → List Event)
   broken_first s p f (Some x) y buffer = refl
   broken_first s p f None (Some y) buffer = refl
   broken_first s p f None None buffer =
-      picture_first p (plan_decoded (planned_next (f (behind s p)) g))
+      picture_first hash p (plan_decoded hash (planned_next (f (behind s p)) g))
       (Judge (stop_of (f (behind s p))) ∷ next_events (f (behind s p)) h) buffer
       (λ b. judged_first (f (behind s p)) b)
 
   open_first : (s : Between) (f : Between → Result Between Stop) (o : Option PicturePlan)
-      (buffer : List DecodedPicture)
-      → plan_decoded
+      (buffer : List BufferPicture)
+      → plan_decoded hash
       (behind_closed (then_next (closed_open s o).closed (closed_open s o).next f).closed
       (planned_next (then_next (closed_open s o).closed (closed_open s o).next f).next g))
       buffer
-      ≡ first_of
+      ≡ first_of hash
       (open_events o
       ++ Judge (stop_of (then_next (closed_open s o).closed (closed_open s o).next f).next)
       ∷ next_events (then_next (closed_open s o).closed (closed_open s o).next f).next h)
@@ -172,9 +172,9 @@ module _ (g : Between → Planned) (h : Between → List Event)
   open_first s f None buffer = judged_first (f s) buffer
   open_first s f (Some p) buffer = broken_first s p f (broken_in p) (full_at p) buffer
 
-  closed_then : (c : Bool) (s : Between) (f : Between → Result Between Stop) (buffer : List DecodedPicture)
-      → plan_decoded (behind_closed (closed_first c s f).closed (planned_next (closed_first c s f).next g)) buffer
-      ≡ first_of
+  closed_then : (c : Bool) (s : Between) (f : Between → Result Between Stop) (buffer : List BufferPicture)
+      → plan_decoded hash (behind_closed (closed_first c s f).closed (planned_next (closed_first c s f).next g)) buffer
+      ≡ first_of hash
       (closed_events c s ++ Judge (stop_of (closed_first c s f).next) ∷ next_events (closed_first c s f).next h) buffer
   unfolding close
   closed_then true s f buffer = open_first s f s.picture buffer
@@ -182,50 +182,50 @@ module _ (g : Between → Planned) (h : Between → List Event)
 
 -- ---- the end of the input
 
-last_first : (last : List ℕ) (buffer : List DecodedPicture)
-    → finished last None buffer ≡ first_of (Output last ∷ []) buffer
-last_first last buffer =
-    ap (λ (ps : List (List ℕ)). record { pictures = ps; stop = None }) (sym (append-nil (out_at buffer last)))
+last_first : (hash : Bool) (last : List ℕ) (buffer : List BufferPicture)
+    → finished last None buffer ≡ first_of hash (Output last ∷ []) buffer
+last_first hash last buffer =
+    ap (λ (ps : List OutPicture). record { pictures = ps; stop = None }) (sym (append-nil (out_at buffer last)))
 
-end_broken : (s : Between) (p : PicturePlan) (x y : Option Fault) (buffer : List DecodedPicture)
-    → plan_decoded (at_end (closed_by s p (or_later x y))) buffer
-    ≡ first_of
+end_broken : (hash : Bool) (s : Between) (p : PicturePlan) (x y : Option Fault) (buffer : List BufferPicture)
+    → plan_decoded hash (at_end (closed_by s p (or_later x y))) buffer
+    ≡ first_of hash
     (Judge (option_map stop.Fault x) ∷ Judge (option_map stop.Fault y) ∷ Output p.outputs.before ∷ Data p
     ∷ Output p.outputs.behind
     ∷ Keep p.outputs.kept
     ∷ last_events (closed_by s p (or_later x y)).next)
     buffer
 unfolding out_at
-end_broken s p (Some x) y buffer = refl
-end_broken s p None (Some y) buffer = refl
-end_broken s p None None buffer =
+end_broken hash s p (Some x) y buffer = refl
+end_broken hash s p None (Some y) buffer = refl
+end_broken hash s p None None buffer =
     let last : List ℕ = last_outputs (behind s p).former.dpb in
-    picture_first p (finished last None) (Output last ∷ []) buffer (last_first last)
+    picture_first hash p (finished last None) (Output last ∷ []) buffer (last_first hash last)
 
-end_open : (s : Between) (o : Option PicturePlan) (buffer : List DecodedPicture)
-    → plan_decoded (at_end (closed_open s o)) buffer
-    ≡ first_of (open_events o ++ last_events (closed_open s o).next) buffer
-end_open s None buffer = last_first _ buffer
-end_open s (Some p) buffer = end_broken s p (broken_in p) (full_at p) buffer
+end_open : (hash : Bool) (s : Between) (o : Option PicturePlan) (buffer : List BufferPicture)
+    → plan_decoded hash (at_end (closed_open s o)) buffer
+    ≡ first_of hash (open_events o ++ last_events (closed_open s o).next) buffer
+end_open hash s None buffer = last_first hash _ buffer
+end_open hash s (Some p) buffer = end_broken hash s p (broken_in p) (full_at p) buffer
 
-end_first : (ends : Bool) (s : Between) (buffer : List DecodedPicture)
-    → plan_decoded (planned_from ends s []) buffer ≡ first_of (end_events ends s) buffer
+end_first : (hash ends : Bool) (s : Between) (buffer : List BufferPicture)
+    → plan_decoded hash (planned_from ends s []) buffer ≡ first_of hash (end_events ends s) buffer
 unfolding close out_at
-end_first true s buffer = end_open s s.picture buffer
-end_first false s buffer = refl
+end_first hash true s buffer = end_open hash s s.picture buffer
+end_first hash false s buffer = refl
 
-trail_first : (ends : Bool) (s : Between) (told : List Told) (buffer : List DecodedPicture)
-    → plan_decoded (planned_from ends s told) buffer ≡ first_of (trail ends s told) buffer
-trail_first ends s [] buffer = end_first ends s buffer
-trail_first ends s (t ∷ ts) buffer =
+trail_first : (hash ends : Bool) (s : Between) (told : List Told) (buffer : List BufferPicture)
+    → plan_decoded hash (planned_from ends s told) buffer ≡ first_of hash (trail ends s told) buffer
+trail_first hash ends s [] buffer = end_first hash ends s buffer
+trail_first hash ends s (t ∷ ts) buffer =
     let g : Between → Planned = λ n. planned_from ends n ts in
     let h : Between → List Event = λ n. trail ends n ts in
     subst
-    (λ (u : Stepped). plan_decoded (behind_closed u.closed (planned_next u.next g)) buffer
-    ≡ first_of (closed_events (closes s t) s ++ Judge (stop_of u.next) ∷ next_events u.next h) buffer)
+    (λ (u : Stepped). plan_decoded hash (behind_closed u.closed (planned_next u.next g)) buffer
+    ≡ first_of hash (closed_events (closes s t) s ++ Judge (stop_of u.next) ∷ next_events u.next h) buffer)
     (sym (step_parts s t))
-    (closed_then g h (λ n b. trail_first ends n ts b) (closes s t) s (unit_judged t) buffer)
+    (closed_then hash g h (λ n b. trail_first hash ends n ts b) (closes s t) s (unit_judged t) buffer)
 
-pub in_order : (ends : Bool) (bytes : List ℕ) → decoded ends bytes ≡ first_of (trail_of ends bytes) []
+pub in_order : (hash ends : Bool) (bytes : List ℕ) → decoded hash ends bytes ≡ first_of hash (trail_of ends bytes) []
 unfolding decoded planned_of
-in_order ends bytes = trail_first ends beginning (told_of ends bytes) []
+in_order hash ends bytes = trail_first hash ends beginning (told_of ends bytes) []

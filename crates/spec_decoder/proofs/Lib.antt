@@ -1,3 +1,4 @@
+pub mod Written
 pub mod Continuing
 pub mod Units
 pub mod InOrder

@@ -1,2 +1,4 @@
+pub mod Output
+pub mod Hashes
 pub mod Decoder
 pub mod Trail

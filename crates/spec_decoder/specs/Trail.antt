@@ -14,7 +14,6 @@ use Rattle.spec_nal_units.specs.Judged.{NalUnit, Told, told_of}
 use Rattle.spec_output_order.specs.OutputOrder.{last_outputs}
 use Rattle.spec_parameter_sets.specs.PictureParameterSet.{picture_parameter_set_of}
 use Rattle.spec_parameter_sets.specs.SequenceParameterSet.{sequence_parameter_set_of}
-use Rattle.spec_picture_build.specs.References.{DecodedPicture}
 use Rattle.spec_picture_plan.specs.Closing.{broken_in, full_at}
 use Rattle.spec_picture_plan.specs.Pictures.{beginning}
 use Rattle.spec_picture_plan.specs.Planned.{stop_of}
@@ -23,7 +22,7 @@ use Rattle.spec_picture_plan.specs.Steps.{put_pps, put_sps, sequence_end, slice_
 use Rattle.spec_picture_plan.specs.UnitKinds.{is_rasl, kind_of_type}
 use Rattle.spec_picture_plan.specs.declared.unit_kind.UnitKind.{UnitKind}
 use Rattle.spec_picture_plan.specs.declared.unit_kind.UnitKind.TheVariants as unit
-use Rattle.spec_decoder.specs.Decoder.{Decoded, decoded_picture, ended, kept_from, out_at, put_out}
+use Rattle.spec_decoder.specs.Decoder.{BufferPicture, Decoded, decoded_picture, ended, kept_from, out_at, put_out}
 
 -- one thing after the other: something is judged, by what stops the stream there, if anything does; the pictures at
 -- these places of the buffer go out; the data of a picture are decoded, and it stands behind the last of the buffer;
@@ -121,7 +120,7 @@ abbrev pub trail_of : Bool → List ℕ → List Event
 trail_of ended bytes = trail ended beginning (told_of ended bytes)
 
 -- a picture that is decoded stands behind the last of the buffer; where it can't be, that ends decoding
-abbrev pub with_decoded : List DecodedPicture → Result DecodedPicture Stop → (List DecodedPicture → Decoded) → Decoded
+abbrev pub with_decoded : List BufferPicture → Result BufferPicture Stop → (List BufferPicture → Decoded) → Decoded
 with_decoded buffer (Err e) next = ended (Some e)
 with_decoded buffer (Ok picture) next = next (buffer ++ picture ∷ [])
 
@@ -130,9 +129,9 @@ unless None later = later
 unless (Some e) later = ended (Some e)
 
 -- what goes out as these things happen one after the other, up to the first that stops decoding
-abbrev pub first_of : List Event → List DecodedPicture → Decoded
-first_of [] buffer = ended None
-first_of (Judge s ∷ later) buffer = unless s (first_of later buffer)
-first_of (Output places ∷ later) buffer = put_out (out_at buffer places) (first_of later buffer)
-first_of (Data p ∷ later) buffer = with_decoded buffer (decoded_picture buffer p) (first_of later)
-first_of (Keep places ∷ later) buffer = first_of later (kept_from places 0 buffer)
+abbrev pub first_of : Bool → List Event → List BufferPicture → Decoded
+first_of hash [] buffer = ended None
+first_of hash (Judge s ∷ later) buffer = unless s (first_of hash later buffer)
+first_of hash (Output places ∷ later) buffer = put_out (out_at buffer places) (first_of hash later buffer)
+first_of hash (Data p ∷ later) buffer = with_decoded buffer (decoded_picture hash buffer p) (first_of hash later)
+first_of hash (Keep places ∷ later) buffer = first_of hash later (kept_from places 0 buffer)

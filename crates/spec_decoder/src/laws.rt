@@ -11,7 +11,8 @@ ghost use Rattle.spec_decoder.specs.Trail.{closed_first, closes, first_of, trail
 /// The pictures that a front of an input shows to be over begin those of the whole input, however it goes on; and where
 /// a rule is broken or a limit met in the front, the whole input has the front's pictures and is stopped by the same.
 pub fn open_prefixes_stay()
-    ensures { (front rest : List ℕ) (ended : Bool) → Continues (decoded false front) (decoded ended (front ++ rest)) }
+    ensures { (hash ended : Bool) (front rest : List ℕ)
+        → Continues (decoded hash false front) (decoded hash ended (front ++ rest)) }
 {}
 
 /// Each picture of a byte string is decoded from all its coding tree units, or breaks a rule: none is without a slice
@@ -30,5 +31,6 @@ pub fn decoded_pictures_have_all_units()
 ///   its closing, the last outputs. The first broken rule or limit in that order stops decoding.
 pub fn streams_are_judged_in_order()
     ensures units { (s : Between) (t : Told) → step s t ≡ closed_first (closes s t) s (unit_judged t) }
-    ensures trail { (ended : Bool) (bytes : List ℕ) → decoded ended bytes ≡ first_of (trail_of ended bytes) [] }
+    ensures trail { (hash ended : Bool) (bytes : List ℕ)
+        → decoded hash ended bytes ≡ first_of hash (trail_of ended bytes) [] }
 {}

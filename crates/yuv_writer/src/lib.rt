@@ -2,8 +2,10 @@
 #![tactic(auto)]
 
 mod gathering;
+mod hashing;
 mod pieces;
 mod window;
 mod writing;
 
+pub use hashing::picture_md5;
 pub use writing::write_picture;

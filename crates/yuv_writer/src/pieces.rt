@@ -15,7 +15,7 @@ use picture_buffer::Planes;
 pub(crate) const ROOM: usize = 65536;
 
 /// How many rows of a width a piece has at most.
-fn rows_of_piece(width: u32) -> u32
+pub(crate) fn rows_of_piece(width: u32) -> u32
     requires { width ≤ 8192 }
     ensures some { 0 < result }
     ensures few { width * result ≤ 65536 }

@@ -1,6 +1,5 @@
 use Rattle.std.proofs.Common.{subst, sym}
 use Rattle.picture_plan.specs.Flights.{pictures_of}
-use Rattle.picture_build.specs.Pictures.{buffer_of}
 use Rattle.decoder.specs.Headline.{change_of}
 use Rattle.decoder.specs.Writing.{WritesFirst}
 use Rattle.decoder.proofs.Writes.{exit-is, passes-flight, over-flight}
@@ -8,17 +7,20 @@ use Rattle.decoder.proofs.writing.decode_flights.Goals as goal
 
 pub loop-flight-preserved : goal.loop-flight-preserved
 loop-flight-preserved g c =
-    passes-flight g.O.Sink.contents g.O.Sink.faults c.args.out.now c.loop-flight.out c.decode_pictures.new.out
+    passes-flight g.O.Sink.contents g.O.Sink.faults c.args.options.form c.args.options.hash c.args.out.now
+    c.loop-flight.out c.decode_pictures.new.out
     (pictures_of c.args.flights) c.loop-flight.left c.next.new.self c.in-Some.flight c.as_slice.result.now
-    (buffer_of c.args.buffer.now) (buffer_of c.loop-flight.buffer) (buffer_of c.decode_pictures.new.buffer)
+    c.args.buffer.now c.loop-flight.buffer c.decode_pictures.new.buffer
     c.in-Some.ensures.value c.as_slice.ensures c.loop-flight.invariant c.in_ok-decode_pictures.ensures
 
 pub returns-in_err-decode_pictures : goal.returns-in_err-decode_pictures
 returns-in_err-decode_pictures g c =
-    subst (WritesFirst (change_of g.O.Sink.contents g.O.Sink.faults c.args.out.now c.decode_pictures.new.out)
-    (pictures_of c.args.flights) (buffer_of c.args.buffer.now) (buffer_of c.decode_pictures.new.buffer))
+    subst (WritesFirst c.args.options.form c.args.options.hash
+    (change_of g.O.Sink.contents g.O.Sink.faults c.args.out.now c.decode_pictures.new.out)
+    (pictures_of c.args.flights) c.args.buffer.now c.decode_pictures.new.buffer)
     (sym (exit-is c.from_residual.result c.in_err-decode_pictures.field-0.0 c.from_residual.ensures.1))
-    (over-flight g.O.Sink.contents g.O.Sink.faults c.args.out.now c.loop-flight.out c.decode_pictures.new.out
+    (over-flight g.O.Sink.contents g.O.Sink.faults c.args.options.form c.args.options.hash c.args.out.now
+    c.loop-flight.out c.decode_pictures.new.out
     (pictures_of c.args.flights) c.loop-flight.left c.next.new.self c.in-Some.flight c.as_slice.result.now
-    (buffer_of c.args.buffer.now) (buffer_of c.loop-flight.buffer) c.in_err-decode_pictures.field-0.0
+    c.args.buffer.now c.loop-flight.buffer c.in_err-decode_pictures.field-0.0
     c.in-Some.ensures.value c.as_slice.ensures c.loop-flight.invariant c.in_err-decode_pictures.ensures)

@@ -1,5 +1,4 @@
 use Rattle.std.proofs.Common.{subst, sym}
-use Rattle.picture_build.specs.Pictures.{buffer_of}
 use Rattle.decoder.specs.Headline.{change_of}
 use Rattle.decoder.specs.Writing.{WritesFirst}
 use Rattle.decoder.proofs.Writes.{exit-is, passes-one, over-one}
@@ -7,17 +6,20 @@ use Rattle.decoder.proofs.writing.decode_pictures.Goals as goal
 
 pub loop-picture-preserved : goal.loop-picture-preserved
 loop-picture-preserved g c =
-    passes-one g.O.Sink.contents g.O.Sink.faults c.args.out.now c.loop-picture.out c.take_picture.new.out
-    c.args.pictures.now (buffer_of c.args.buffer.now) (buffer_of c.loop-picture.buffer)
-    (buffer_of c.take_picture.new.buffer) c.loop-picture.picture-index c.picture-item.result
+    passes-one g.O.Sink.contents g.O.Sink.faults c.args.options.form c.args.options.hash c.args.out.now
+    c.loop-picture.out c.take_picture.new.out
+    c.args.pictures.now c.args.buffer.now c.loop-picture.buffer c.take_picture.new.buffer
+    c.loop-picture.picture-index c.picture-item.result
     c.loop-picture-test.true c.picture-item.is c.loop-picture.invariant c.in_ok-take_picture.ensures
 
 pub returns-in_err-take_picture : goal.returns-in_err-take_picture
 returns-in_err-take_picture g c =
-    subst (WritesFirst (change_of g.O.Sink.contents g.O.Sink.faults c.args.out.now c.take_picture.new.out)
-    c.args.pictures.now (buffer_of c.args.buffer.now) (buffer_of c.take_picture.new.buffer))
+    subst (WritesFirst c.args.options.form c.args.options.hash
+    (change_of g.O.Sink.contents g.O.Sink.faults c.args.out.now c.take_picture.new.out)
+    c.args.pictures.now c.args.buffer.now c.take_picture.new.buffer)
     (sym (exit-is c.from_residual.result c.in_err-take_picture.field-0.0 c.from_residual.ensures.1))
-    (over-one g.O.Sink.contents g.O.Sink.faults c.args.out.now c.loop-picture.out c.take_picture.new.out
-    c.args.pictures.now (buffer_of c.args.buffer.now) (buffer_of c.loop-picture.buffer) c.loop-picture.picture-index
+    (over-one g.O.Sink.contents g.O.Sink.faults c.args.options.form c.args.options.hash c.args.out.now
+    c.loop-picture.out c.take_picture.new.out
+    c.args.pictures.now c.args.buffer.now c.loop-picture.buffer c.loop-picture.picture-index
     c.picture-item.result c.in_err-take_picture.field-0.0
     c.loop-picture-test.true c.picture-item.is c.loop-picture.invariant c.in_err-take_picture.ensures)

@@ -7,14 +7,14 @@ use Rattle.decoder.proofs.stream.Decoder.plan_unit.Goals as goal
 pub returns-in-None-clause-wrote : goal.returns-in-None-clause-wrote
 returns-in-None-clause-wrote g c = λ ended t later is going.
     let new : Decoder = record { planner = c.unit.new.self; buffer = c.decode_flights.new.buffer } in
-    unit-leads (change_of g.O.Sink.contents g.O.Sink.faults c.args.out.now c.decode_flights.new.out) ended
+    unit-leads c.args.options.form c.args.options.hash (change_of g.O.Sink.contents g.O.Sink.faults c.args.out.now c.decode_flights.new.out) ended
     c.args.self.now new (told_by c.args.next) t later c.in-Ok.planned.flights c.in-Ok.planned.last
     c.decode_flights.result
     is c.in-Ok.ensures.value c.decode_flights.ensures
 
 pub returns-in-Some-clause-wrote : goal.returns-in-Some-clause-wrote
 returns-in-Some-clause-wrote g c = λ ended t later is going.
-    unit-ends (change_of g.O.Sink.contents g.O.Sink.faults c.args.out.now c.write_last.new.out) ended c.args.self.now
+    unit-ends c.args.options.form c.args.options.hash (change_of g.O.Sink.contents g.O.Sink.faults c.args.out.now c.write_last.new.out) ended c.args.self.now
     c.unit.new.self (told_by c.args.next) t later c.in-Ok.planned.flights c.in-Ok.planned.last c.in-Ok.planned.stop
     c.in-Some.field-0 c.write_last.result
     is c.in-Ok.ensures.value going c.in-Ok.ensures.stop c.in-Some.is c.write_last.ensures

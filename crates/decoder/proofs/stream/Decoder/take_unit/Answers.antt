@@ -7,14 +7,14 @@ use Rattle.decoder.proofs.stream.Decoder.take_unit.Goals as goal
 
 pub returns-in-More : goal.returns-in-More
 returns-in-More g c = λ ended bytes later t going.
-    took-last g.O.Sink.contents g.O.Sink.faults c.args.out.now c.args.self.now ended later
+    took-last g.O.Sink.contents g.O.Sink.faults c.args.options.form c.args.options.hash c.args.out.now c.args.self.now ended later
     (tells-more c.args.framer.now ended bytes later t
     (subst (IsNext (history t.given ended bytes)) c.in-More.is
     (c.in-Ok.ensures.value (history t.given ended bytes) t.stands).0))
 
 pub returns-in-End : goal.returns-in-End
 returns-in-End g c = λ ended bytes later t going.
-    took-last g.O.Sink.contents g.O.Sink.faults c.args.out.now c.args.self.now ended later
+    took-last g.O.Sink.contents g.O.Sink.faults c.args.options.form c.args.options.hash c.args.out.now c.args.self.now ended later
     (tells-end c.args.framer.now ended bytes later t
     (subst (IsNext (history t.given ended bytes)) c.in-End.is
     (c.in-Ok.ensures.value (history t.given ended bytes) t.stands).0))
@@ -26,7 +26,7 @@ returns-in_ok-plan_unit-in_default-next g c =
     let a : Ahead c.next.new.self ended bytes c.in-Ok.next later =
     ahead_of c.args.framer.now c.next.new.self ended bytes later c.in-Ok.next t c.in_default-next.not-More
     c.in_default-next.not-End told.0 told.1 in
-    took-unit (change_of g.O.Sink.contents g.O.Sink.faults c.args.out.now c.plan_unit.new.out) c.next.new.self
+    took-unit c.args.options.form c.args.options.hash (change_of g.O.Sink.contents g.O.Sink.faults c.args.out.now c.plan_unit.new.out) c.next.new.self
     c.args.self.now c.plan_unit.new.self ended bytes later c.in-Ok.next a
     c.in_ok-plan_unit-in_default-next.ensures.left c.in_ok-plan_unit-in_default-next.ensures.going
     (c.in_ok-plan_unit-in_default-next.ensures.wrote ended a.told a.rest a.is going)
@@ -38,10 +38,10 @@ returns-in_err-plan_unit-in_default-next g c =
     let a : Ahead c.next.new.self ended bytes c.in-Ok.next later =
     ahead_of c.args.framer.now c.next.new.self ended bytes later c.in-Ok.next t c.in_default-next.not-More
     c.in_default-next.not-End told.0 told.1 in
-    taken-over (change_of g.O.Sink.contents g.O.Sink.faults c.args.out.now c.plan_unit.new.out) c.next.new.self
+    taken-over c.args.options.form c.args.options.hash (change_of g.O.Sink.contents g.O.Sink.faults c.args.out.now c.plan_unit.new.out) c.next.new.self
     c.args.self.now c.plan_unit.new.self ended bytes later c.from_residual.result
     c.in_err-plan_unit-in_default-next.field-0.0
     c.from_residual.ensures.1
-    (ahead-answered (change_of g.O.Sink.contents g.O.Sink.faults c.args.out.now c.plan_unit.new.out) c.next.new.self
+    (ahead-answered c.args.options.form c.args.options.hash (change_of g.O.Sink.contents g.O.Sink.faults c.args.out.now c.plan_unit.new.out) c.next.new.self
     c.args.self.now ended bytes later c.in-Ok.next c.in_err-plan_unit-in_default-next.field-0.0 a
     (c.in_err-plan_unit-in_default-next.ensures.wrote ended a.told a.rest a.is going))

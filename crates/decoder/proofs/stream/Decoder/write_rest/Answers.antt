@@ -1,14 +1,15 @@
 use Rattle.std.proofs.Common.{false}
-use Rattle.picture_build.specs.Pictures.{buffer_of}
 use Rattle.decoder.specs.Headline.{change_of}
 use Rattle.decoder.proofs.Takings.{rest-halted, rest-by}
 use Rattle.decoder.proofs.stream.Decoder.write_rest.Goals as goal
 
 pub returns : goal.returns
 returns g c =
-    rest-by (change_of g.O.Sink.contents g.O.Sink.faults c.args.out.now c.write_last.new.out) c.args.self.now.planner
-    (buffer_of c.args.self.now.buffer) c.args.ended false c.write_last.result c.if-ended.false
-    (rest-halted (change_of g.O.Sink.contents g.O.Sink.faults c.args.out.now c.write_last.new.out)
-    c.args.self.now.planner c.halt.new.self (buffer_of c.args.self.now.buffer) c.halt.result.flights c.halt.result.last
+    rest-by c.args.options.form c.args.options.hash
+    (change_of g.O.Sink.contents g.O.Sink.faults c.args.out.now c.write_last.new.out) c.args.self.now.planner
+    c.args.self.now.buffer c.args.ended false c.write_last.result c.if-ended.false
+    (rest-halted c.args.options.form c.args.options.hash
+    (change_of g.O.Sink.contents g.O.Sink.faults c.args.out.now c.write_last.new.out)
+    c.args.self.now.planner c.halt.new.self c.args.self.now.buffer c.halt.result.flights c.halt.result.last
     c.halt.result.stop c.write_last.result
     c.halt.ensures.value c.halt.ensures.stop c.write_last.ensures)
