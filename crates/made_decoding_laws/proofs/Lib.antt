@@ -4,3 +4,7 @@ pub mod Planned
 pub mod Making
 pub mod Buffers
 pub mod Turns
+pub mod Whole
+pub mod Hashes
+pub mod Shown
+pub mod Bytes

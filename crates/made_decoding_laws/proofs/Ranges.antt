@@ -56,7 +56,7 @@ sample_byte units are c x y inside =
     let i : ℕ = 8 * (y / c.side) + x / c.side in
     unit_byte units are i (place_in_unit c (get_or units i no_samples) (x % c.side) (y % c.side)) inside
 
-pcm_bytes : (units : List PcmUnit) → ArePcmUnits units → AreBytes (pcm_planes units)
+pub pcm_bytes : (units : List PcmUnit) → ArePcmUnits units → AreBytes (pcm_planes units)
 pcm_bytes units are zero x y least few low =
     subst (λ v. v < 256) (sym (plane_at_16 (pcm_sample units luma) x y few low))
     (sample_byte units are luma x y (omega arith))

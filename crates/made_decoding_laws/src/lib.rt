@@ -4,5 +4,6 @@
 mod laws;
 
 pub use laws::{
-    made_pictures_are_decoded_in_turn, made_samples_are_bytes, planned_pictures_are_decoded,
+    made_pictures_are_decoded_in_turn, made_planes_are_drawn, made_samples_are_bytes,
+    made_streams_are_decoded, made_streams_are_written, planned_pictures_are_decoded,
 };

@@ -1,10 +1,9 @@
 //! Laws of the definitions.
 
-ghost use Rattle.std.specs.Prelude.{◌≡◌, ℕ, ◌<◌, Bool, true, false, List, None, length, slice_index_or};
+ghost use Rattle.std.specs.Prelude.{ℕ, ◌<◌, Bool, true, List, slice_index_or};
 ghost use Rattle.plan_types.specs.declared.picture_plan.PicturePlan.{PicturePlan};
 ghost use Rattle.plan_types.specs.declared.stated_hash.StatedHash.{StatedHash};
 ghost use Rattle.spec_made.specs.Stream.{Making, made};
-ghost use Rattle.spec_decoder.specs.Decoder.{decoded};
 ghost use Rattle.spec_picture_plan.specs.Planned.{planned_of};
 ghost use Rattle.made_laws.specs.Plans.{made_plan};
 ghost use Rattle.made_laws.specs.Streams.{slice_at};
@@ -19,11 +18,4 @@ pub fn made_streams_hold_their_units()
         → IsReadAs (made_plan first g nal (slice_at g m) hashes) (items_at g m) }
     ensures all { (seed pictures j : ℕ) (d : PicturePlan) → j < pictures
         → IsReadAs (slice_index_or (planned_of true (made seed pictures)).pictures j d) (items_of seed j) }
-{}
-
-/// Nothing stops the decoding of the stream of a seed where stated hashes aren't compared (`stop`), and as many pictures
-/// go out as were asked for (`count`).
-pub fn made_streams_are_decoded()
-    ensures stop { (seed pictures : ℕ) → (decoded false true (made seed pictures)).stop ≡ None }
-    ensures count { (seed pictures : ℕ) → length (decoded false true (made seed pictures)).pictures ≡ pictures }
 {}

@@ -3,4 +3,4 @@
 
 mod laws;
 
-pub use laws::{made_streams_are_decoded, made_streams_hold_their_units};
+pub use laws::made_streams_hold_their_units;
