@@ -102,6 +102,30 @@ pub next-value : {E : Type 0} (r : Result Next E) (old middle new : Framer) (h :
 next-value (Ok n) old middle new h g a s = answer_is_next n middle new h a (StandsFor-same old middle h g s)
 next-value (Err e) old middle new h g a s = tt
 
+goes-behind : (old middle new : Framer) (told : List Told) → Goes old middle [] → Goes middle new told
+    → Goes old new told
+goes-behind old middle new told g a = record {
+  finished = a.finished ∙ g.finished;
+  to_tell = λ ended rest c.
+      g.to_tell ended rest c
+      ∙ a.to_tell ended rest (go_along middle.finished old.finished ended rest g.finished c);
+}
+
+-- an answer behind padding that was passed over
+answers_behind : (n : Next) (old middle new : Framer) → Goes old middle [] → Answers n middle new → Answers n old new
+answers_behind (next.Unit n) old middle new g a = goes-behind old middle new (Whole (unit_of n) ∷ []) g a
+answers_behind (next.Fault f) old middle new g a = (goes-behind old middle new [] g a.0, a.1)
+answers_behind (next.Limit l) old middle new g a = (goes-behind old middle new [] g a.0, a.1)
+answers_behind next.More old middle new g a =
+    (goes-behind old middle new [] g a.0, sym g.finished ∙ a.1, a.2)
+answers_behind next.End old middle new g a =
+    (goes-behind old middle new [] g a.0, sym g.finished ∙ a.1, a.2)
+
+pub next-answers : {E : Type 0} (r : Result Next E) (old middle new : Framer) → Goes old middle []
+    → IfOk r (λ n. Answers n middle new) → IfOk r (λ n. Answers n old new)
+next-answers (Ok n) old middle new g a = answers_behind n old middle new g a
+next-answers (Err e) old middle new g a = tt
+
 before-told : (n : Next) (t : Told) (later : List Told) → told_by n ≡ t ∷ [] → then_told t later ≡ before n later
 before-told (next.Unit n) t later e = let is : Whole (unit_of n) ≡ t = cc in ap (λ u. then_told u later) (sym is)
 before-told (next.Fault f) t later e = let is : Broken f ≡ t = cc in ap (λ u. then_told u later) (sym is)

@@ -93,6 +93,7 @@ impl Framer {
     pub fn next(&mut self) -> Result<Next, AllocError>
         ensures value { (h : History) → StandsFor self.old h
             → IfOk result (λ next. IsNext h next × StandsFor self.new (with_answer h next)) }
+        ensures answers { IfOk result (λ next. Answers next self.old self.new) }
         ensures err { (h : History) → StandsFor self.old h → OnErr result (StandsFor self.new h) }
         ensures finished { self.new.finished ≡ self.old.finished }
     {
