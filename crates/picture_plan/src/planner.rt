@@ -1,6 +1,6 @@
 //! Plans the pictures of a stream, unit by unit.
 
-ghost use Rattle.std.specs.Prelude.{◌≡◌, ◌≤◌, ◌++◌, [], Ok, Some, OnErr, IfOk};
+ghost use Rattle.std.specs.Prelude.{◌≡◌, ◌≤◌, ◌++◌, [], Ok, Some, OnErr, IfOk, length};
 ghost use Rattle.spec_picture_plan.specs.Pictures.{beginning};
 ghost use Rattle.nal_stream.specs.Answers.{told_by};
 ghost use Rattle.picture_plan.specs.Flights.{some_flight};
@@ -56,6 +56,13 @@ impl Planner {
             state: State::new(alloc, ahead)?,
             stopped: None,
         })
+    }
+
+    /// How many pictures wait for their flight's end.
+    pub fn waiting(&self) -> usize
+        ensures { result ≡ length self.now.pending }
+    {
+        self.state.pending.len()
     }
 
     /// Plans the next unit, or what the framer answers in its place: the flights that end so, and what stops the
