@@ -87,7 +87,7 @@ frees-one places old now n lt among is =
 abbrev pub AreEven : HeldBuffer → Type 0
 AreEven b = length b.tags ≡ length b.pictures
 
-length-tagged : (tags : List Tag) (held : List HeldPicture) → length tags ≡ length held
+pub length-tagged : (tags : List Tag) (held : List HeldPicture) → length tags ≡ length held
     → length (all_tagged tags held) ≡ length held
 length-tagged [] [] e = refl
 length-tagged [] (p ∷ held) e = absurd (omega (arith, e))

@@ -28,7 +28,7 @@ always : (o : Option (List ℕ)) (P : List ℕ → Type 0) → ((b : List ℕ) �
 always None P f = tt
 always (Some b) P f = f b
 
-no_read_fault : (end : Option Stop) → outcome.ReadFault ≡ outcome_of end → ⊥
+pub no_read_fault : (end : Option Stop) → outcome.ReadFault ≡ outcome_of end → ⊥
 no_read_fault None e = absurd cc
 no_read_fault (Some (stop.Fault f)) e = absurd cc
 no_read_fault (Some (stop.Limit l)) e = absurd cc
@@ -40,7 +40,7 @@ not_stopped (Some (stop.Fault f)) e = absurd cc
 not_stopped (Some (stop.Limit l)) e = absurd cc
 
 -- the first pieces of a front are the first pieces of the whole
-take_front : (n : ℕ) (ps more : List (List ℕ)) → (m : ℕ) × (take m (ps ++ more) ≡ take n ps)
+pub take_front : (n : ℕ) (ps more : List (List ℕ)) → (m : ℕ) × (take m (ps ++ more) ≡ take n ps)
 take_front zero ps more = (0, refl)
 take_front (suc n) [] more = (0, sym (take-nil (suc n)))
 take_front (suc n) (p ∷ ps) more =
@@ -86,7 +86,7 @@ module _ (form : Form) (hash : Bool) where
   headline_ended src out read outcome.WriteFault takes spent quiet a =
       (a.0, of_ended src.before src.after read (GainsCut form out) takes spent a.1)
 
-  written_front : (short long : Decoded) → (c : Continues short long)
+  pub written_front : (short long : Decoded) → (c : Continues short long)
       → written form 0 long.pictures
       ≡ written form 0 short.pictures ++ written form (length short.pictures) c.more
   written_front short long c =

@@ -1,9 +1,11 @@
 pub mod Buffers
 pub mod Building
+pub mod Decodings
 pub mod Entering
 pub mod Hashing
 pub mod HeadlineLaws
 pub mod Plannings
+pub mod Sessions
 pub mod Takings
 pub mod Tellings
 pub mod Writes

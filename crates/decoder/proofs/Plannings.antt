@@ -6,25 +6,17 @@ use Rattle.hv_base.specs.declared.refusal.Stop.TheVariants as stop
 use Rattle.hv_base.specs.declared.fault.Fault.{Fault}
 use Rattle.hv_base.specs.declared.limit.Limit.{Limit}
 use Rattle.plan_types.specs.declared.picture_plan.PicturePlan.{PicturePlan}
-use Rattle.spec_nal_units.specs.Judged.{Told, Broken, Met, told_of}
+use Rattle.spec_nal_units.specs.Judged.{Told, Broken, Met}
 use Rattle.plan_types.specs.declared.between.Between.{Between}
-use Rattle.spec_picture_plan.specs.Pictures.{beginning}
 use Rattle.spec_picture_plan.specs.Steps.{Stepped, step, close, closing, then_next}
 use Rattle.spec_picture_plan.specs.Planned as plan
-use Rattle.spec_picture_plan.specs.Planned.{Planned, behind_closed, planned_next, planned_from, planned_of, planned_end}
+use Rattle.spec_picture_plan.specs.Planned.{Planned, behind_closed, planned_next, planned_from, planned_end}
 use Rattle.picture_plan.specs.Flights.{Gathered, waiting, cut, with_pictures, cut_at_stop, pictures_of}
 use Rattle.picture_plan.specs.Plans.{Plans, Given, going_on, after_step, behind_unit, all_cut, at_end, halted}
 use Rattle.picture_plan.specs.Plans.{last_behind, stop_of}
 use Rattle.picture_plan.proofs.Pictures.{step-all, cut-all, cut-none}
-use Rattle.spec_decoder.specs.Decoder.{BufferPicture, decoded, decoded_from, finished}
+use Rattle.spec_decoder.specs.Decoder.{BufferPicture, decoded_from, finished}
 use Rattle.decoder.specs.Owed.{planned_behind, decoded_behind, owed_behind}
-
--- before the first unit all is owed
-pub owed-first : (hash : Bool) (ended : Bool) (bytes : List ℕ) (ahead : ℕ)
-    → decoded hash ended bytes
-    ≡ owed_behind hash ended (record { ahead = ahead; pending = []; next = Ok beginning }) [] (told_of ended bytes)
-unfolding decoded planned_of owed_behind planned_behind
-owed-first hash ended bytes ahead = refl
 
 joined-closed : (a b c d : List PicturePlan) (x : Planned) → a ++ b ≡ c ++ d
     → behind_closed c (behind_closed d x) ≡ behind_closed a (behind_closed b x)
@@ -54,7 +46,7 @@ unfolding planned_behind
 unit-next ended p (Ok s) t later = after-step ended p s t later
 unit-next ended p (Err e) t later = refl
 
-planned-unit : (ended : Bool) (p : Plans) (t : Told) (later : List Told)
+pub planned-unit : (ended : Bool) (p : Plans) (t : Told) (later : List Told)
     → planned_behind ended p (t ∷ later)
     ≡ behind_closed (pictures_of (behind_unit p (t ∷ [])).flights)
     (planned_behind ended (behind_unit p (t ∷ [])).left later)

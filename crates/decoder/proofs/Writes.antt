@@ -1,13 +1,15 @@
 -- What several writes of pictures do, one after the other.
-use Rattle.std.proofs.Common.{◌≡◌, inl, inr, ℕ, suc, ◌+◌, ◌<◌, ◌≤◌, Bool, get_or, drop, drop-cons, add-one, List, []}
-use Rattle.std.proofs.Common.{◌∷◌, ◌++◌, length, take, Option, Some, None, Result, Ok, Err, refl, sym, ap, subst, ◌∙◌}
-use Rattle.std.proofs.Common.{append_assoc, append-nil}
+use Rattle.std.proofs.Common.{◌≡◌, inl, inr, ℕ, suc, ◌+◌, ◌<◌, ◌≤◌, Bool, All, get_or, drop, drop-cons, add-one, List}
+use Rattle.std.proofs.Common.{[], ◌∷◌, ◌++◌, length, take, Option, Some, None, Result, Ok, Err, refl, sym, ap, subst}
+use Rattle.std.proofs.Common.{◌∙◌, append_assoc, append-nil, arith}
 use Rattle.std.specs.Prelude.{IsErrAnd, slice_get}
 use Rattle.std.proofs.lemmas.Result.{err_from_is_err_and}
 use Rattle.std.specs.List.{concat}
 use Rattle.std.proofs.lemmas.List.Folds.{concat-append}
 use Rattle.std.proofs.Math.Seq.{take-append-add}
 use Rattle.std.proofs.lemmas.List.{drop_all}
+use Rattle.std.proofs.lemmas.List.Elements.{All-cons, All-head, All-nil, All-tail}
+use Rattle.std.proofs.lemmas.List.{length-append}
 use Rattle.hv_base.specs.declared.outcome.Outcome.{Outcome}
 use Rattle.hv_base.specs.declared.outcome.Outcome.TheVariants as outcome
 use Rattle.hv_base.specs.declared.refusal.Stop.{Stop}
@@ -22,15 +24,16 @@ use Rattle.spec_decoder.specs.Decoder.{BufferPicture, Decoded, behind_picture, d
 use Rattle.spec_decoder.specs.Decoder.{entered, finished, kept_from, next_out, out_at, picture_out, put_out}
 use Rattle.spec_decoder.specs.Decoder.{with_picture}
 use Rattle.spec_decoder.proofs.Written.{written_append, written_told}
+use Rattle.session_laws.proofs.Places.{few_places}
 use Rattle.decoder.specs.Buffers.{HeldBuffer, buffer_of}
 use Rattle.decoder.specs.Headline.{Change, IsQuiet, change_of, outcome_of}
 use Rattle.decoder.specs.Pictures.{EntersBuffer, IsRefused}
-use Rattle.decoder.specs.Writing.{Ends, IsAnswered, Leaves, Owed, Passes, Wrote, behind, owed_from}
+use Rattle.decoder.specs.Writing.{Breaks, Ends, IsAnswered, KeepsAtMost, Leaves, Owed, Passes, RanPicture, Run, Went}
+use Rattle.decoder.specs.Writing.{owed_from}
 
-wrote-both : (d : Owed) (ps qs : List (List ℕ)) → behind ps (behind qs d) ≡ behind (ps ++ qs) d
-wrote-both d ps qs =
-    ap (λ (rs : List (List ℕ)). let e : Owed = record { pieces = rs; stop = d.stop } in e)
-    (sym (append_assoc ps qs d.pieces))
+-- pieces, and what is owed behind them
+abbrev pub behind : List (List ℕ) → Owed → Owed
+behind pieces later = record { pieces = pieces ++ later.pieces; stop = later.stop }
 
 gains-behind : (a b c : Option (List ℕ)) (ps qs : List (List ℕ)) → Gains a b (concat ps) → Gains b c (concat qs)
     → Gains a c (concat (ps ++ qs))
@@ -64,7 +67,7 @@ exit-is r o is =
     p.1 ∙ ap (λ (y : Outcome). let q : Result (Unit {0}) Outcome = Err y in q) p.2
 
 -- pictures that go out one after the other
-put-both : (d : Decoded) (ps qs : List OutPicture) → put_out (ps ++ qs) d ≡ put_out ps (put_out qs d)
+pub put-both : (d : Decoded) (ps qs : List OutPicture) → put_out (ps ++ qs) d ≡ put_out ps (put_out qs d)
 put-both d ps qs =
     ap (λ (rs : List OutPicture). let e : Decoded = record { pictures = rs; stop = d.stop } in e)
     (append_assoc ps qs d.pictures)
@@ -82,30 +85,57 @@ out-next buffer places i x d lt is =
     ∙ next-first (slice_get buffer x) (out_at buffer (drop (i + 1) places))
 
 -- pictures that go out are pieces; those behind them are numbered on
-owed-put : (form : Form) (k j : ℕ) (ps : List OutPicture) (later : Decoded) → told_number (k + length ps) ≡ told_number j
+pub owed-put : (form : Form) (k j : ℕ) (ps : List OutPicture) (later : Decoded) → told_number (k + length ps) ≡ told_number j
     → owed_from form k (put_out ps later) ≡ behind (written form k ps) (owed_from form j later)
 owed-put form k j ps later e =
     ap (λ (rs : List (List ℕ)). let o : Owed = record { pieces = rs; stop = later.stop } in o)
     (written_append form k ps later.pictures
     ∙ ap (λ (rs : List (List ℕ)). written form k ps ++ rs) (written_told form (k + length ps) j later.pictures e))
 
+-- a number behind those that are told alike
+pub told-add : (a b n : ℕ) → told_number a ≡ told_number b → told_number (a + n) ≡ told_number (b + n)
+told-add a b n e = omega (arith, e)
+
+-- the number behind more pictures
+pub number-then : (k j m : ℕ) (ps qs : List OutPicture) → told_number (k + length ps) ≡ told_number j
+    → told_number (j + length qs) ≡ told_number m → told_number (k + length (ps ++ qs)) ≡ told_number m
+number-then k j m ps qs p q =
+    let e : k + length (ps ++ qs) ≡ k + length ps + length qs = omega (arith, length-append ps qs) in
+    ap told_number e ∙ told-add (k + length ps) j (length qs) p ∙ q
+
+-- what is written of pictures and of those behind them
+pub written-then : (form : Form) (k j : ℕ) (ps qs : List OutPicture) → told_number (k + length ps) ≡ told_number j
+    → written form k (ps ++ qs) ≡ written form k ps ++ written form j qs
+written-then form k j ps qs e =
+    written_append form k ps qs
+    ∙ ap (λ (rs : List (List ℕ)). written form k ps ++ rs) (written_told form (k + length ps) j qs e)
+
+-- the front of pictures of which each leaves so few
+pub all-front : (n : ℕ) (ps qs : List PicturePlan) → All (KeepsAtMost n) (ps ++ qs) → All (KeepsAtMost n) ps
+all-front n [] qs h = All-nil (KeepsAtMost n)
+all-front n (p ∷ ps) qs h =
+    All-cons (KeepsAtMost n) p ps (All-head (KeepsAtMost n) p (ps ++ qs) h)
+    (all-front n ps qs (All-tail (KeepsAtMost n) p (ps ++ qs) h))
+
+pub all-back : (n : ℕ) (ps qs : List PicturePlan) → All (KeepsAtMost n) (ps ++ qs) → All (KeepsAtMost n) qs
+all-back n [] qs h = h
+all-back n (p ∷ ps) qs h = all-back n ps qs (All-tail (KeepsAtMost n) p (ps ++ qs) h)
+
+-- pictures that run one after the other
+pub run-none : (hash : Bool) (b : List BufferPicture) → Run hash [] b [] b
+run-none hash b = λ end later. refl
+
+pub run-then : (hash : Bool) (ps qs : List PicturePlan) (a b c : List BufferPicture) (outs more : List OutPicture)
+    → Run hash ps a outs b → Run hash qs b more c → Run hash (ps ++ qs) a (outs ++ more) c
+run-then hash ps qs a b c outs more p q = λ end later.
+    ap (λ (rs : List PicturePlan). decoded_from hash end rs a) (append_assoc ps qs later)
+    ∙ p end (qs ++ later) ∙ ap (put_out outs) (q end later)
+    ∙ sym (put-both (decoded_from hash end later c) outs more)
+
 -- by the meanings of a sink: its bytes and its count of faults
 module _ {X : Type 0} (bytes : X → Option (List ℕ)) (faults : X → ℕ) where
   abbrev pub by : X → X → Change
   by a b = change_of bytes faults a b
-
-  -- nothing is written where nothing is called
-  pub wrote-none : (a : X) (d : Owed) → Wrote (by a a) d d
-  wrote-none a d = record { pieces = []; owed = refl; gained = Gains-nil (bytes a); quiet = refl }
-
-  -- one write after the other
-  pub wrote-then : (a b c : X) (d e f : Owed) → Wrote (by a b) d e → Wrote (by b c) e f → Wrote (by a c) d f
-  wrote-then a b c d e f p q = record {
-    pieces = p.pieces ++ q.pieces;
-    owed = p.owed ∙ ap (behind p.pieces) q.owed ∙ wrote-both f p.pieces q.pieces;
-    gained = gains-behind (bytes a) (bytes b) (bytes c) p.pieces q.pieces p.gained q.gained;
-    quiet = q.quiet ∙ p.quiet;
-  }
 
   answered-behind : (a b c : X) (ps : List (List ℕ)) (e : Owed) (o : Outcome) → Gains (bytes a) (bytes b) (concat ps)
       → IsQuiet (by a b)
@@ -123,13 +153,6 @@ module _ {X : Type 0} (bytes : X → Option (List ℕ)) (faults : X → ℕ) whe
   answered-behind a b c ps e outcome.WriteFault p s q =
       (subst (λ (n : ℕ). Rose n (faults c)) s q.0, prefix-behind (bytes a) (bytes b) (bytes c) ps e.pieces p q.1)
 
-  -- an end after a write
-  pub answered-then : (a b c : X) (d e : Owed) (o : Outcome) → Wrote (by a b) d e → IsAnswered e (by b c) o
-      → IsAnswered d (by a c) o
-  answered-then a b c d e o p q =
-      subst (λ (x : Owed). IsAnswered x (by a c) o) (sym p.owed)
-      (answered-behind a b c p.pieces e o p.gained p.quiet q)
-
   -- nothing is owed but this end
   nothing_owed : (form : Form) (k : ℕ) (a : X) (end : Option Stop)
       → IsAnswered (owed_from form k (ended end)) (by a a) (outcome_of end)
@@ -138,151 +161,170 @@ module _ {X : Type 0} (bytes : X → Option (List ℕ)) (faults : X → ℕ) whe
   nothing_owed form k a (Some (stop.Limit l)) = ((refl, Gains-nil (bytes a)), refl)
 
   -- want of memory before anything is written
-  no_memory : (a : X) (d : Owed) → IsAnswered d (by a a) outcome.Memory
+  pub no_memory : (a : X) (d : Owed) → IsAnswered d (by a a) outcome.Memory
   no_memory a d = ((0, Gains-nil (bytes a)), refl)
 
   -- ---- pictures that go out, in a form
 
-  module _ (form : Form) (hash : Bool) where
-    -- these pictures are written, the first of them by this number, whatever is owed behind them by the next number
-    abbrev pub Puts : X → X → ℕ → ℕ → List OutPicture → Type 0
-    Puts a b k j ps =
-        (later : Decoded) → Wrote (by a b) (owed_from form k (put_out ps later)) (owed_from form j later)
+  module _ (form : Form) where
+    pub went-none : (a : X) (k : ℕ) → Went form (by a a) k [] k
+    went-none a k = record { gained = Gains-nil (bytes a); quiet = refl; number = omega arith }
 
-    -- decoding ended in them
-    abbrev pub Breaks : X → X → ℕ → List OutPicture → Outcome → Type 0
-    Breaks a b k ps o = (later : Decoded) → IsAnswered (owed_from form k (put_out ps later)) (by a b) o
+    pub went-then : (a b c : X) (k j m : ℕ) (ps qs : List OutPicture) → Went form (by a b) k ps j
+        → Went form (by b c) j qs m → Went form (by a c) k (ps ++ qs) m
+    went-then a b c k j m ps qs p q = record {
+      gained =
+          subst (λ (rs : List (List ℕ)). Gains (bytes a) (bytes c) (concat rs))
+          (sym (written-then form k j ps qs p.number))
+          (gains-behind (bytes a) (bytes b) (bytes c) (written form k ps) (written form j qs) p.gained q.gained);
+      quiet = q.quiet ∙ p.quiet;
+      number = number-then k j m ps qs p.number q.number;
+    }
+
+    -- an end behind pictures that went out
+    pub went-answered : (a b c : X) (k j : ℕ) (ps : List OutPicture) (later : Decoded) (o : Outcome)
+        → Went form (by a b) k ps j → IsAnswered (owed_from form j later) (by b c) o
+        → IsAnswered (owed_from form k (put_out ps later)) (by a c) o
+    went-answered a b c k j ps later o w answered =
+        subst (λ (d : Owed). IsAnswered d (by a c) o) (sym (owed-put form k j ps later w.number))
+        (answered-behind a b c (written form k ps) (owed_from form j later) o w.gained w.quiet answered)
 
     -- one picture
-    pub out-written : (a b : X) (k j : ℕ) (picture : OutPicture) → told_number (k + 1) ≡ told_number j
-        → Gains (bytes a) (bytes b) (piece_of form k picture) → IsQuiet (by a b) → Puts a b k j (picture ∷ [])
-    out-written a b k j picture e g q = λ later. record {
-      pieces = written form k (picture ∷ []);
-      owed = owed-put form k j (picture ∷ []) later e;
+    out-written : (a b : X) (k j : ℕ) (picture : OutPicture) → told_number (k + 1) ≡ told_number j
+        → Gains (bytes a) (bytes b) (piece_of form k picture) → IsQuiet (by a b)
+        → Went form (by a b) k (picture ∷ []) j
+    out-written a b k j picture e g q = record {
       gained = subst (Gains (bytes a) (bytes b)) (sym (append-nil (piece_of form k picture))) g;
       quiet = q;
+      number = e;
     }
 
     -- one that is cut by a write fault
-    pub out-cut : (a b : X) (k : ℕ) (picture : OutPicture)
+    out-cut : (a b : X) (k : ℕ) (picture : OutPicture)
         → GainsPrefix (bytes a) (bytes b) (piece_of form k picture) → Rose (faults a) (faults b)
-        → Breaks a b k (picture ∷ []) outcome.WriteFault
+        → Breaks form (by a b) k (picture ∷ []) outcome.WriteFault
     out-cut a b k picture g rose = λ later. (
       rose,
       GainsPrefix-front (bytes a) (bytes b) (piece_of form k picture) (concat (written form (suc k) later.pictures)) g,
     )
 
-    pub puts-none : (a : X) (k : ℕ) → Puts a a k k []
-    puts-none a k = λ later. wrote-none a (owed_from form k later)
-
     pub leaves-none : (a : X) (k : ℕ) (pictures : List OutPicture) → Leaves form (by a a) k pictures k pictures
-    leaves-none a k pictures = λ later. wrote-none a (owed_from form k (put_out pictures later))
-
-    -- those at the places before this one are written
-    leaves-to : (a b : X) (k j : ℕ) (buffer : List BufferPicture) (all : List OutPicture) (places : List ℕ) (i x d : ℕ)
-        → i < length places → x ≡ get_or places i d
-        → Leaves form (by a b) k all j (out_at buffer (drop i places)) → (later : Decoded)
-        → Wrote (by a b) (owed_from form k (put_out all later))
-        (owed_from form j
-        (put_out (next_out (slice_get buffer x) []) (put_out (out_at buffer (drop (i + 1) places)) later)))
-    leaves-to a b k j buffer all places i x d lt is l later =
-        subst (λ (e : Decoded). Wrote (by a b) (owed_from form k (put_out all later)) (owed_from form j e))
-        (ap (λ (ps : List OutPicture). put_out ps later) (out-next buffer places i x d lt is)
-        ∙ put-both later (next_out (slice_get buffer x) []) (out_at buffer (drop (i + 1) places)))
-        (l later)
+    leaves-none a k pictures = record { front = []; order = refl; went = went-none a k }
 
     -- one more is written
     pub leaves-one : (a b c : X) (k j m : ℕ) (buffer : List BufferPicture) (all : List OutPicture) (places : List ℕ)
         (i x d : ℕ)
         → i < length places → x ≡ get_or places i d
         → Leaves form (by a b) k all j (out_at buffer (drop i places))
-        → Puts b c j m (next_out (slice_get buffer x) [])
+        → Went form (by b c) j (next_out (slice_get buffer x) []) m
         → Leaves form (by a c) k all m (out_at buffer (drop (i + 1) places))
-    leaves-one a b c k j m buffer all places i x d lt is l w = λ later.
-        let rest : Decoded = put_out (out_at buffer (drop (i + 1) places)) later in
-        wrote-then a b c (owed_from form k (put_out all later))
-        (owed_from form j (put_out (next_out (slice_get buffer x) []) rest)) (owed_from form m rest)
-        (leaves-to a b k j buffer all places i x d lt is l later) (w rest)
+    leaves-one a b c k j m buffer all places i x d lt is l w =
+        let now : List OutPicture = next_out (slice_get buffer x) [] in
+        record {
+          front = l.front ++ now;
+          order = l.order
+              ∙ ap (λ (ps : List OutPicture). l.front ++ ps) (out-next buffer places i x d lt is)
+              ∙ sym (append_assoc l.front now (out_at buffer (drop (i + 1) places)));
+          went = went-then a b c k j m l.front now l.went w;
+        }
+
+    leaves-to : (buffer : List BufferPicture) (all front : List OutPicture) (places : List ℕ) (i x d : ℕ)
+        (later : Decoded)
+        → i < length places → x ≡ get_or places i d → all ≡ front ++ out_at buffer (drop i places)
+        → put_out all later
+        ≡ put_out front
+        (put_out (next_out (slice_get buffer x) []) (put_out (out_at buffer (drop (i + 1) places)) later))
+    leaves-to buffer all front places i x d later lt is order =
+        ap (λ (ps : List OutPicture). put_out ps later)
+        (order ∙ ap (λ (ps : List OutPicture). front ++ ps) (out-next buffer places i x d lt is))
+        ∙ put-both later front (next_out (slice_get buffer x) [] ++ out_at buffer (drop (i + 1) places))
+        ∙ ap (put_out front)
+        (put-both later (next_out (slice_get buffer x) []) (out_at buffer (drop (i + 1) places)))
 
     pub leaves-over : (a b c : X) (k j : ℕ) (buffer : List BufferPicture) (all : List OutPicture) (places : List ℕ)
         (i x d : ℕ) (o : Outcome)
         → i < length places → x ≡ get_or places i d
         → Leaves form (by a b) k all j (out_at buffer (drop i places))
-        → Breaks b c j (next_out (slice_get buffer x) []) o → Breaks a c k all o
+        → Breaks form (by b c) j (next_out (slice_get buffer x) []) o → Breaks form (by a c) k all o
     leaves-over a b c k j buffer all places i x d o lt is l w = λ later.
         let rest : Decoded = put_out (out_at buffer (drop (i + 1) places)) later in
-        answered-then a b c (owed_from form k (put_out all later))
-        (owed_from form j (put_out (next_out (slice_get buffer x) []) rest)) o
-        (leaves-to a b k j buffer all places i x d lt is l later) (w rest)
+        subst (λ (e : Decoded). IsAnswered (owed_from form k e) (by a c) o)
+        (sym (leaves-to buffer all l.front places i x d later lt is l.order))
+        (went-answered a b c k j l.front (put_out (next_out (slice_get buffer x) []) rest) o l.went (w rest))
 
     -- nothing goes out at a place behind the last
     pub place-none : (a : X) (k x : ℕ) (buffer : List BufferPicture) → slice_get buffer x ≡ None
-        → Puts a a k k (next_out (slice_get buffer x) [])
+        → Went form (by a a) k (next_out (slice_get buffer x) []) k
     place-none a k x buffer is =
-        subst (λ (p : Option BufferPicture). Puts a a k k (next_out p [])) (sym is) (puts-none a k)
+        subst (λ (p : Option BufferPicture). Went form (by a a) k (next_out p []) k) (sym is) (went-none a k)
 
     -- a picture does at its place
     pub place-written : (a b : X) (k j x : ℕ) (buffer : List BufferPicture) (picture : BufferPicture)
         → slice_get buffer x ≡ Some picture → told_number (k + 1) ≡ told_number j
         → Gains (bytes a) (bytes b) (piece_of form k (picture_out picture)) → IsQuiet (by a b)
-        → Puts a b k j (next_out (slice_get buffer x) [])
+        → Went form (by a b) k (next_out (slice_get buffer x) []) j
     place-written a b k j x buffer picture is e g q =
-        subst (λ (p : Option BufferPicture). Puts a b k j (next_out p [])) (sym is)
+        subst (λ (p : Option BufferPicture). Went form (by a b) k (next_out p []) j) (sym is)
         (out-written a b k j (picture_out picture) e g q)
 
     pub place-cut : (a b : X) (k x : ℕ) (buffer : List BufferPicture) (picture : BufferPicture)
         → slice_get buffer x ≡ Some picture
         → GainsPrefix (bytes a) (bytes b) (piece_of form k (picture_out picture)) → Rose (faults a) (faults b)
-        → Breaks a b k (next_out (slice_get buffer x) []) outcome.WriteFault
+        → Breaks form (by a b) k (next_out (slice_get buffer x) []) outcome.WriteFault
     place-cut a b k x buffer picture is g rose =
-        subst (λ (p : Option BufferPicture). Breaks a b k (next_out p []) outcome.WriteFault) (sym is)
+        subst (λ (p : Option BufferPicture). Breaks form (by a b) k (next_out p []) outcome.WriteFault) (sym is)
         (out-cut a b k (picture_out picture) g rose)
 
     -- what goes out of a buffer goes out of one with the same pictures
-    pub puts-of : (a b : X) (k j x : ℕ) (buffer same : List BufferPicture) → buffer ≡ same
-        → Puts a b k j (next_out (slice_get buffer x) []) → Puts a b k j (next_out (slice_get same x) [])
-    puts-of a b k j x buffer same is w =
-        subst (λ (ps : List BufferPicture). Puts a b k j (next_out (slice_get ps x) [])) is w
+    pub went-of : (a b : X) (k j x : ℕ) (buffer same : List BufferPicture) → buffer ≡ same
+        → Went form (by a b) k (next_out (slice_get buffer x) []) j
+        → Went form (by a b) k (next_out (slice_get same x) []) j
+    went-of a b k j x buffer same is w =
+        subst (λ (ps : List BufferPicture). Went form (by a b) k (next_out (slice_get ps x) []) j) is w
 
     pub breaks-of : (a b : X) (k x : ℕ) (buffer same : List BufferPicture) (o : Outcome) → buffer ≡ same
-        → Breaks a b k (next_out (slice_get buffer x) []) o → Breaks a b k (next_out (slice_get same x) []) o
+        → Breaks form (by a b) k (next_out (slice_get buffer x) []) o
+        → Breaks form (by a b) k (next_out (slice_get same x) []) o
     breaks-of a b k x buffer same o is w =
-        subst (λ (ps : List BufferPicture). Breaks a b k (next_out (slice_get ps x) []) o) is w
+        subst (λ (ps : List BufferPicture). Breaks form (by a b) k (next_out (slice_get ps x) []) o) is w
 
     -- all are written
     pub leaves-end : (a b : X) (k j : ℕ) (buffer : List BufferPicture) (all : List OutPicture) (places : List ℕ) (i : ℕ)
         → length places ≤ i
-        → Leaves form (by a b) k all j (out_at buffer (drop i places)) → Puts a b k j all
+        → Leaves form (by a b) k all j (out_at buffer (drop i places)) → Went form (by a b) k all j
     unfolding out_at
-    leaves-end a b k j buffer all places i le l = λ later.
-        subst (λ (rest : List ℕ). Wrote (by a b) (owed_from form k (put_out all later))
-        (owed_from form j (put_out (out_at buffer rest) later)))
-        (drop_all i places le) (l later)
+    leaves-end a b k j buffer all places i le l =
+        let none : out_at buffer (drop i places) ≡ [] = ap (out_at buffer) (drop_all i places le) in
+        subst (λ (ps : List OutPicture). Went form (by a b) k ps j)
+        (sym (l.order ∙ ap (λ (ps : List OutPicture). l.front ++ ps) none ∙ append-nil l.front)) l.went
 
     -- ---- a picture
 
     -- what was written at these places is what was written at those
-    puts-at : (a b : X) (k j : ℕ) (buffer : List BufferPicture) (places same : List ℕ) → places ≡ same
-        → Puts a b k j (out_at buffer places) → Puts a b k j (out_at buffer same)
-    puts-at a b k j buffer places same is w = subst (λ (ps : List ℕ). Puts a b k j (out_at buffer ps)) is w
+    went-at : (a b : X) (k j : ℕ) (buffer : List BufferPicture) (places same : List ℕ) → places ≡ same
+        → Went form (by a b) k (out_at buffer places) j → Went form (by a b) k (out_at buffer same) j
+    went-at a b k j buffer places same is w =
+        subst (λ (ps : List ℕ). Went form (by a b) k (out_at buffer ps) j) is w
 
     breaks-at : (a b : X) (k : ℕ) (buffer : List BufferPicture) (places same : List ℕ) (o : Outcome) → places ≡ same
-        → Breaks a b k (out_at buffer places) o → Breaks a b k (out_at buffer same) o
-    breaks-at a b k buffer places same o is w = subst (λ (ps : List ℕ). Breaks a b k (out_at buffer ps) o) is w
+        → Breaks form (by a b) k (out_at buffer places) o → Breaks form (by a b) k (out_at buffer same) o
+    breaks-at a b k buffer places same o is w =
+        subst (λ (ps : List ℕ). Breaks form (by a b) k (out_at buffer ps) o) is w
 
     -- what goes out before a picture is written, and the buffer has the same pictures
     pub record Began (a b : X) (p : PicturePlan) (old mid : HeldBuffer) : Type 0 where
-      pub wrote : Puts a b old.number mid.number (out_at (buffer_of old) p.outputs.before)
+      pub went : Went form (by a b) old.number (out_at (buffer_of old) p.outputs.before) mid.number
       pub same : buffer_of mid ≡ buffer_of old
 
     pub began : (a b : X) (p : PicturePlan) (old mid : HeldBuffer) (places : List ℕ) → places ≡ p.outputs.before
-        → Puts a b old.number mid.number (out_at (buffer_of old) places) → buffer_of mid ≡ buffer_of old
+        → Went form (by a b) old.number (out_at (buffer_of old) places) mid.number → buffer_of mid ≡ buffer_of old
         → Began a b p old mid
     began a b p old mid places is w same = record {
-      wrote = puts-at a b old.number mid.number (buffer_of old) places p.outputs.before is w;
+      went = went-at a b old.number mid.number (buffer_of old) places p.outputs.before is w;
       same = same;
     }
 
+  module _ (form : Form) (hash : Bool) where
     -- and the picture is decoded
     pub record Entered (p : PicturePlan) (mid with : HeldBuffer) : Type 0 where
       pub enters : EntersBuffer (buffer_of mid) (buffer_of with) (decoded_picture hash (buffer_of mid) p)
@@ -293,55 +335,56 @@ module _ {X : Type 0} (bytes : X → Option (List ℕ)) (faults : X → ℕ) whe
         → entered p next mid (decoded_picture hash mid p) ≡ behind_picture p next with
     entered-is p next mid with e = ap (entered p next mid) e.decodes ∙ ap (behind_picture p next) (sym e.buffer)
 
+    -- a picture that entered the buffer owes what goes out behind it
     decoded-to : (a b : X) (p : PicturePlan) (old mid with : HeldBuffer) (next : List BufferPicture → Decoded)
-        → Began a b p old mid → Entered p mid with
-        → Wrote (by a b) (owed_from form old.number (with_picture hash p next (buffer_of old)))
-        (owed_from form with.number (behind_picture p next (buffer_of with)))
+        → Began form a b p old mid → Entered p mid with
+        → with_picture hash p next (buffer_of old)
+        ≡ put_out (out_at (buffer_of old) p.outputs.before) (behind_picture p next (buffer_of with))
     decoded-to a b p old mid with next before e =
-        let rest : Decoded = entered p next (buffer_of old) (decoded_picture hash (buffer_of old) p) in
-        let now : rest ≡ behind_picture p next (buffer_of with) =
-        ap (λ (buffer : List BufferPicture). entered p next buffer (decoded_picture hash buffer p)) (sym before.same)
-        ∙ entered-is p next (buffer_of mid) (buffer_of with) e.enters in
-        subst (λ (k : ℕ). Wrote (by a b) (owed_from form old.number (with_picture hash p next (buffer_of old)))
-        (owed_from form k (behind_picture p next (buffer_of with))))
-        (sym e.number)
-        (subst (λ (d : Decoded). Wrote (by a b) (owed_from form old.number (with_picture hash p next (buffer_of old)))
-        (owed_from form mid.number d))
-        now (before.wrote rest))
+        ap (put_out (out_at (buffer_of old) p.outputs.before))
+        (ap (λ (buffer : List BufferPicture). entered p next buffer (decoded_picture hash buffer p)) (sym before.same)
+        ∙ entered-is p next (buffer_of mid) (buffer_of with) e.enters)
+
+    went-by : (a b : X) (k mid with : ℕ) (ps : List OutPicture) → with ≡ mid → Went form (by a b) k ps mid
+        → Went form (by a b) k ps with
+    went-by a b k mid with ps is w = subst (λ (n : ℕ). Went form (by a b) k ps n) (sym is) w
 
     -- and what goes out behind it is written; last is the buffer behind that, of which these stay
     pub picture-taken : (a b c : X) (p : PicturePlan) (old mid with last new : HeldBuffer) (behind kept : List ℕ)
-        → Began a b p old mid → Entered p mid with
-        → behind ≡ p.outputs.behind → Puts b c with.number last.number (out_at (buffer_of with) behind)
+        → Began form a b p old mid → Entered p mid with
+        → behind ≡ p.outputs.behind → Went form (by b c) with.number (out_at (buffer_of with) behind) last.number
         → buffer_of last ≡ buffer_of with
         → kept ≡ p.outputs.kept → buffer_of new ≡ kept_from kept 0 (buffer_of last) → new.number ≡ last.number
-        → (next : List BufferPicture → Decoded)
-        → Wrote (by a c) (owed_from form old.number (with_picture hash p next (buffer_of old)))
-        (owed_from form new.number (next (buffer_of new)))
-    picture-taken a b c p old mid with last new behind kept before e is w same stay stays number next =
-        let left : next (kept_from p.outputs.kept 0 (buffer_of with)) ≡ next (buffer_of new) =
-        ap next (sym (stays ∙ ap (kept_from kept 0) same
-        ∙ ap (λ (ps : List ℕ). kept_from ps 0 (buffer_of with)) stay)) in
-        wrote-then a b c (owed_from form old.number (with_picture hash p next (buffer_of old)))
-        (owed_from form with.number (behind_picture p next (buffer_of with)))
-        (owed_from form new.number (next (buffer_of new)))
-        (decoded-to a b p old mid with next before e)
-        (subst (λ (k : ℕ). Wrote (by b c) (owed_from form with.number (behind_picture p next (buffer_of with)))
-        (owed_from form k (next (buffer_of new))))
-        (sym number)
-        (subst (λ (d : Decoded). Wrote (by b c) (owed_from form with.number (behind_picture p next (buffer_of with)))
-        (owed_from form last.number d))
-        left
-        (puts-at b c with.number last.number (buffer_of with) behind p.outputs.behind is w
-        (next (kept_from p.outputs.kept 0 (buffer_of with))))))
+        → RanPicture form hash (by a c) p old new
+    picture-taken a b c p old mid with last new behind kept before e is w same stay stays number =
+        let now : List BufferPicture = buffer_of with in
+        let left : kept_from p.outputs.kept 0 now ≡ buffer_of new =
+        sym (stays ∙ ap (kept_from kept 0) same ∙ ap (λ (ps : List ℕ). kept_from ps 0 now) stay) in
+        let front : List OutPicture = out_at (buffer_of old) p.outputs.before in
+        let back : List OutPicture = out_at now p.outputs.behind in
+        record {
+          outs = front ++ back;
+          went =
+              went-by a c old.number last.number new.number (front ++ back) number
+              (went-then form a b c old.number with.number last.number front back
+              (went-by a b old.number mid.number with.number front e.number before.went)
+              (went-at form b c with.number last.number now behind p.outputs.behind is w));
+          run = λ next.
+              decoded-to a b p old mid with next before e
+              ∙ ap (λ (d : Decoded). put_out front (put_out back d)) (ap next left)
+              ∙ sym (put-both (next (buffer_of new)) front back);
+          few =
+              subst (λ (ps : List BufferPicture). length ps ≤ length p.outputs.kept) left
+              (few_places p.outputs.kept 0 now);
+        }
 
     -- decoding ended in what goes out before it
     pub picture-before : (a b : X) (p : PicturePlan) (old : HeldBuffer) (places : List ℕ) (o : Outcome)
-        → places ≡ p.outputs.before → Breaks a b old.number (out_at (buffer_of old) places) o
+        → places ≡ p.outputs.before → Breaks form (by a b) old.number (out_at (buffer_of old) places) o
         → (next : List BufferPicture → Decoded)
         → IsAnswered (owed_from form old.number (with_picture hash p next (buffer_of old))) (by a b) o
     picture-before a b p old places o is w next =
-        breaks-at a b old.number (buffer_of old) places p.outputs.before o is w
+        breaks-at form a b old.number (buffer_of old) places p.outputs.before o is w
         (entered p next (buffer_of old) (decoded_picture hash (buffer_of old) p))
 
     refused : (b : X) (k : ℕ) (p : PicturePlan) (buffer : List BufferPicture) (r : Result BufferPicture Stop)
@@ -355,7 +398,7 @@ module _ {X : Type 0} (bytes : X → Option (List ℕ)) (faults : X → ℕ) whe
         subst (IsAnswered (owed_from form k (ended (Some s))) (by b b)) (sym e) (nothing_owed form k b (Some s))
 
     -- something is broken or met in it, or there was no memory
-    pub picture-refused : (a b : X) (p : PicturePlan) (old mid : HeldBuffer) (o : Outcome) → Began a b p old mid
+    pub picture-refused : (a b : X) (p : PicturePlan) (old mid : HeldBuffer) (o : Outcome) → Began form a b p old mid
         → IsRefused (decoded_picture hash (buffer_of mid) p) o
         → (next : List BufferPicture → Decoded)
         → IsAnswered (owed_from form old.number (with_picture hash p next (buffer_of old))) (by a b) o
@@ -363,22 +406,23 @@ module _ {X : Type 0} (bytes : X → Option (List ℕ)) (faults : X → ℕ) whe
         let rest : Decoded = entered p next (buffer_of old) (decoded_picture hash (buffer_of old) p) in
         let same : IsRefused (decoded_picture hash (buffer_of old) p) o =
         subst (λ (buffer : List BufferPicture). IsRefused (decoded_picture hash buffer p) o) before.same e in
-        answered-then a b b (owed_from form old.number (with_picture hash p next (buffer_of old)))
-        (owed_from form mid.number rest) o (before.wrote rest)
+        went-answered form a b b old.number mid.number (out_at (buffer_of old) p.outputs.before) rest o before.went
         (refused b mid.number p (buffer_of old) (decoded_picture hash (buffer_of old) p) o next same)
 
     -- decoding ended in what goes out behind it
     pub picture-behind : (a b c : X) (p : PicturePlan) (old mid with : HeldBuffer) (behind : List ℕ) (o : Outcome)
-        → Began a b p old mid → Entered p mid with
-        → behind ≡ p.outputs.behind → Breaks b c with.number (out_at (buffer_of with) behind) o
+        → Began form a b p old mid → Entered p mid with
+        → behind ≡ p.outputs.behind → Breaks form (by b c) with.number (out_at (buffer_of with) behind) o
         → (next : List BufferPicture → Decoded)
         → IsAnswered (owed_from form old.number (with_picture hash p next (buffer_of old))) (by a c) o
     picture-behind a b c p old mid with behind o before e is w next =
-        answered-then a b c (owed_from form old.number (with_picture hash p next (buffer_of old)))
-        (owed_from form with.number (behind_picture p next (buffer_of with))) o
-        (decoded-to a b p old mid with next before e)
-        (breaks-at b c with.number (buffer_of with) behind p.outputs.behind o is w
-        (next (kept_from p.outputs.kept 0 (buffer_of with))))
+        let front : List OutPicture = out_at (buffer_of old) p.outputs.before in
+        subst (λ (d : Decoded). IsAnswered (owed_from form old.number d) (by a c) o)
+        (sym (decoded-to a b p old mid with next before e))
+        (went-answered form a b c old.number with.number front (behind_picture p next (buffer_of with)) o
+        (went-by a b old.number mid.number with.number front e.number before.went)
+        (breaks-at form b c with.number (buffer_of with) behind p.outputs.behind o is w
+        (next (kept_from p.outputs.kept 0 (buffer_of with)))))
 
     -- ---- pictures
 
@@ -389,30 +433,51 @@ module _ {X : Type 0} (bytes : X → Option (List ℕ)) (faults : X → ℕ) whe
     -- none is decoded yet
     pub passes-none : (a : X) (pictures : List PicturePlan) (b : HeldBuffer)
         → Passes form hash (by a a) pictures b pictures b
-    passes-none a pictures b = λ end later. wrote-none a (owed-of end (pictures ++ later) b)
+    passes-none a pictures b = record {
+      front = [];
+      order = refl;
+      outs = [];
+      went = went-none form a b.number;
+      run = run-none hash (buffer_of b);
+      few = λ n le all. le;
+    }
 
-    passes-to : (a b : X) (pictures : List PicturePlan) (old mid : HeldBuffer) (i : ℕ) (x : PicturePlan)
-        → i < length pictures → x ≡ get_or pictures i x
-        → Passes form hash (by a b) pictures old (drop i pictures) mid
-        → Passes form hash (by a b) pictures old (x ∷ drop (i + 1) pictures) mid
-    passes-to a b pictures old mid i x lt is p =
-        subst (λ (ps : List PicturePlan). Passes form hash (by a b) pictures old ps mid)
-        (drop-next pictures i x x lt is) p
+    -- an end behind the first of these pictures
+    ends-behind : (a b c : X) (pictures rest : List PicturePlan) (old mid : HeldBuffer) (o : Outcome)
+        → (p : Passes form hash (by a b) pictures old rest mid)
+        → (end : List BufferPicture → Decoded) (later : List PicturePlan)
+        → IsAnswered (owed-of end (rest ++ later) mid) (by b c) o
+        → IsAnswered (owed-of end (pictures ++ later) old) (by a c) o
+    ends-behind a b c pictures rest old mid o p end later answered =
+        let is : decoded_from hash end (pictures ++ later) (buffer_of old)
+        ≡ put_out p.outs (decoded_from hash end (rest ++ later) (buffer_of mid)) =
+        ap (λ (ps : List PicturePlan). decoded_from hash end ps (buffer_of old))
+        (ap (λ (ps : List PicturePlan). ps ++ later) p.order ∙ append_assoc p.front rest later)
+        ∙ p.run end (rest ++ later) in
+        subst (λ (d : Decoded). IsAnswered (owed_from form old.number d) (by a c) o) (sym is)
+        (went-answered form a b c old.number mid.number p.outs
+        (decoded_from hash end (rest ++ later) (buffer_of mid)) o p.went answered)
 
     -- one more of these pictures is decoded
     pub passes-one : (a b c : X) (pictures : List PicturePlan) (old mid new : HeldBuffer) (i : ℕ) (x : PicturePlan)
         → i < length pictures → x ≡ get_or pictures i x
-        → Passes form hash (by a b) pictures old (drop i pictures) mid
-        → ((next : List BufferPicture → Decoded)
-        → Wrote (by b c) (owed_from form mid.number (with_picture hash x next (buffer_of mid)))
-        (owed_from form new.number (next (buffer_of new))))
+        → Passes form hash (by a b) pictures old (drop i pictures) mid → RanPicture form hash (by b c) x mid new
         → Passes form hash (by a c) pictures old (drop (i + 1) pictures) new
-    passes-one a b c pictures old mid new i x lt is p q = λ end later.
-        let next : List BufferPicture → Decoded = decoded_from hash end (drop (i + 1) pictures ++ later) in
-        wrote-then a b c (owed-of end (pictures ++ later) old)
-        (owed_from form mid.number (with_picture hash x next (buffer_of mid)))
-        (owed_from form new.number (next (buffer_of new)))
-        (passes-to a b pictures old mid i x lt is p end later) (q next)
+    passes-one a b c pictures old mid new i x lt is p q = record {
+      front = p.front ++ x ∷ [];
+      order = p.order
+          ∙ ap (λ (ps : List PicturePlan). p.front ++ ps) (drop-next pictures i x x lt is)
+          ∙ sym (append_assoc p.front (x ∷ []) (drop (i + 1) pictures));
+      outs = p.outs ++ q.outs;
+      went = went-then form a b c old.number mid.number new.number p.outs q.outs p.went q.went;
+      run =
+          run-then hash p.front (x ∷ []) (buffer_of old) (buffer_of mid) (buffer_of new) p.outs q.outs p.run
+          (λ end later. q.run (decoded_from hash end later));
+      few = λ n le all.
+          let last : length x.outputs.kept ≤ n =
+          All-head (KeepsAtMost n) x [] (all-back n p.front (x ∷ []) all) in
+          omega (arith, last, q.few);
+    }
 
     pub over-one : (a b c : X) (pictures : List PicturePlan) (old mid : HeldBuffer) (i : ℕ) (x : PicturePlan)
         (o : Outcome)
@@ -422,10 +487,10 @@ module _ {X : Type 0} (bytes : X → Option (List ℕ)) (faults : X → ℕ) whe
         → IsAnswered (owed_from form mid.number (with_picture hash x next (buffer_of mid))) (by b c) o)
         → Ends form hash (by a c) pictures old o
     over-one a b c pictures old mid i x o lt is p q = λ end later.
-        let next : List BufferPicture → Decoded = decoded_from hash end (drop (i + 1) pictures ++ later) in
-        answered-then a b c (owed-of end (pictures ++ later) old)
-        (owed_from form mid.number (with_picture hash x next (buffer_of mid))) o
-        (passes-to a b pictures old mid i x lt is p end later) (q next)
+        ends-behind a b c pictures (drop i pictures) old mid o p end later
+        (subst (λ (ps : List PicturePlan). IsAnswered (owed-of end (ps ++ later) mid) (by b c) o)
+        (sym (drop-next pictures i x x lt is))
+        (q (decoded_from hash end (drop (i + 1) pictures ++ later))))
 
     pub passes-end : (a b : X) (pictures : List PicturePlan) (old new : HeldBuffer) (i : ℕ) → length pictures ≤ i
         → Passes form hash (by a b) pictures old (drop i pictures) new
@@ -433,21 +498,10 @@ module _ {X : Type 0} (bytes : X → Option (List ℕ)) (faults : X → ℕ) whe
     passes-end a b pictures old new i le p =
         subst (λ (ps : List PicturePlan). Passes form hash (by a b) pictures old ps new) (drop_all i pictures le) p
 
-    wrote-front : (a b : X) (pictures first rest : List PicturePlan) (old mid : HeldBuffer)
-        → Passes form hash (by a b) pictures old (first ++ rest) mid
-        → (end : List BufferPicture → Decoded) (later : List PicturePlan)
-        → Wrote (by a b) (owed-of end (pictures ++ later) old) (owed-of end (first ++ (rest ++ later)) mid)
-    wrote-front a b pictures first rest old mid p end later =
-        subst (λ (ps : List PicturePlan). Wrote (by a b) (owed-of end (pictures ++ later) old) (owed-of end ps mid))
-        (append_assoc first rest later) (p end later)
-
-    left-first : (a b : X) (all : List PicturePlan) (left new : List (List PicturePlan))
-        (flight pictures : List PicturePlan) (old mid : HeldBuffer)
-        → left ≡ flight ∷ new → pictures ≡ flight → Passes form hash (by a b) all old (pictures_of left) mid
-        → Passes form hash (by a b) all old (pictures ++ pictures_of new) mid
-    left-first a b all left new flight pictures old mid e is p =
-        subst (λ (ps : List PicturePlan). Passes form hash (by a b) all old (ps ++ pictures_of new) mid) (sym is)
-        (subst (λ (fs : List (List PicturePlan)). Passes form hash (by a b) all old (pictures_of fs) mid) e p)
+    left-first : (flight pictures : List PicturePlan) (left new : List (List PicturePlan))
+        → left ≡ flight ∷ new → pictures ≡ flight → pictures_of left ≡ pictures ++ pictures_of new
+    left-first flight pictures left new e is =
+        ap pictures_of e ∙ ap (λ (ps : List PicturePlan). ps ++ pictures_of new) (sym is)
 
     -- one more flight is decoded
     pub passes-flight : (a b c : X) (all : List PicturePlan) (left rest : List (List PicturePlan))
@@ -455,13 +509,22 @@ module _ {X : Type 0} (bytes : X → Option (List ℕ)) (faults : X → ℕ) whe
         → left ≡ flight ∷ rest → pictures ≡ flight
         → Passes form hash (by a b) all old (pictures_of left) mid → Passes form hash (by b c) pictures mid [] new
         → Passes form hash (by a c) all old (pictures_of rest) new
-    passes-flight a b c all left rest flight pictures old mid new e is p q = λ end later.
-        wrote-then a b c (owed-of end (all ++ later) old)
-        (owed-of end (pictures ++ (pictures_of rest ++ later)) mid)
-        (owed-of end (pictures_of rest ++ later) new)
-        (wrote-front a b all pictures (pictures_of rest) old mid
-        (left-first a b all left rest flight pictures old mid e is p) end later)
-        (q end (pictures_of rest ++ later))
+    passes-flight a b c all left rest flight pictures old mid new e is p q =
+        let whole : pictures ≡ q.front = q.order ∙ append-nil q.front in
+        record {
+          front = p.front ++ q.front;
+          order = p.order
+              ∙ ap (λ (ps : List PicturePlan). p.front ++ ps)
+              (left-first flight pictures left rest e is
+              ∙ ap (λ (ps : List PicturePlan). ps ++ pictures_of rest) whole)
+              ∙ sym (append_assoc p.front q.front (pictures_of rest));
+          outs = p.outs ++ q.outs;
+          went = went-then form a b c old.number mid.number new.number p.outs q.outs p.went q.went;
+          run =
+              run-then hash p.front q.front (buffer_of old) (buffer_of mid) (buffer_of new) p.outs q.outs p.run q.run;
+          few = λ n le kept.
+              q.few n (p.few n le (all-front n p.front q.front kept)) (all-back n p.front q.front kept);
+        }
 
     pub over-flight : (a b c : X) (all : List PicturePlan) (left rest : List (List PicturePlan))
         (flight pictures : List PicturePlan) (old mid : HeldBuffer) (o : Outcome)
@@ -469,28 +532,27 @@ module _ {X : Type 0} (bytes : X → Option (List ℕ)) (faults : X → ℕ) whe
         → Passes form hash (by a b) all old (pictures_of left) mid → Ends form hash (by b c) pictures mid o
         → Ends form hash (by a c) all old o
     over-flight a b c all left rest flight pictures old mid o e is p q = λ end later.
-        answered-then a b c (owed-of end (all ++ later) old)
-        (owed-of end (pictures ++ (pictures_of rest ++ later)) mid) o
-        (wrote-front a b all pictures (pictures_of rest) old mid
-        (left-first a b all left rest flight pictures old mid e is p) end later)
-        (q end (pictures_of rest ++ later))
+        ends-behind a b c all (pictures_of left) old mid o p end later
+        (subst (λ (ps : List PicturePlan). IsAnswered (owed-of end ps mid) (by b c) o)
+        (sym (ap (λ (ps : List PicturePlan). ps ++ later) (left-first flight pictures left rest e is)
+        ∙ append_assoc pictures (pictures_of rest) later))
+        (q end (pictures_of rest ++ later)))
 
     -- ---- the end
 
     -- the pictures that go out at the input's end are written
     pub end-written : (a b : X) (k j : ℕ) (buffer : List BufferPicture) (last : List ℕ) (end : Option Stop)
-        → Puts a b k j (out_at buffer last)
+        → Went form (by a b) k (out_at buffer last) j
         → IsAnswered (owed_from form k (finished last end buffer)) (by a b) (outcome_of end)
     end-written a b k j buffer last end w =
-        let later : Decoded = ended end in
         subst (λ (ps : List OutPicture). IsAnswered (owed_from form k (record { pictures = ps; stop = end })) (by a b)
         (outcome_of end))
         (append-nil (out_at buffer last))
-        (answered-then a b b (owed_from form k (put_out (out_at buffer last) later)) (owed_from form j later)
-        (outcome_of end) (w later) (nothing_owed form j b end))
+        (went-answered form a b b k j (out_at buffer last) (ended end) (outcome_of end) w (nothing_owed form j b end))
 
     pub end-over : (a b : X) (k : ℕ) (buffer : List BufferPicture) (last : List ℕ) (end : Option Stop) (o : Outcome)
-        → Breaks a b k (out_at buffer last) o → IsAnswered (owed_from form k (finished last end buffer)) (by a b) o
+        → Breaks form (by a b) k (out_at buffer last) o
+        → IsAnswered (owed_from form k (finished last end buffer)) (by a b) o
     end-over a b k buffer last end o w =
         subst (λ (ps : List OutPicture). IsAnswered (owed_from form k (record { pictures = ps; stop = end })) (by a b) o)
         (append-nil (out_at buffer last)) (w (ended end))
@@ -503,8 +565,7 @@ module _ {X : Type 0} (bytes : X → Option (List ℕ)) (faults : X → ℕ) whe
         → IsAnswered (owed-of end pictures old) (by a c) o
     last-written a b c pictures old new end o w answered =
         subst (λ (ps : List PicturePlan). IsAnswered (owed-of end ps old) (by a c) o) (append-nil pictures)
-        (answered-then a b c (owed-of end (pictures ++ []) old) (owed_from form new.number (end (buffer_of new))) o
-        (w end []) answered)
+        (ends-behind a b c pictures [] old new o w end [] answered)
 
     pub last-over : (a b : X) (pictures : List PicturePlan) (old : HeldBuffer) (end : List BufferPicture → Decoded)
         (o : Outcome)

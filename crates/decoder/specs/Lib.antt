@@ -5,3 +5,5 @@ pub mod Digests
 pub mod Pictures
 pub mod Writing
 pub mod Owed
+pub mod Taking
+pub mod Session

@@ -79,6 +79,13 @@ impl Buffer {
         }
     }
 
+    /// How many pictures it holds.
+    pub(crate) fn len(&self) -> usize
+        ensures { result ≡ length (buffer_of self.now) }
+    {
+        self.pictures.len()
+    }
+
     /// A picture behind the last. `Err` is want of memory.
     fn push(&mut self, tag: Tag, picture: Picture) -> Result<(), AllocError>
         ensures tags { OnOk result (self.new.tags ≡ self.old.tags ++ tag ∷ []) }

@@ -1,4 +1,4 @@
-//! Decodes a stream: reads its bytes from a source and writes its pictures to a sink.
+//! Decodes a stream: reads its bytes from a source, or takes them in pieces, and writes its pictures to a sink.
 #![tactic(auto)]
 
 mod buffer;
@@ -7,10 +7,13 @@ mod hashes;
 mod options;
 mod picture;
 mod pieces;
+mod session;
+mod session_calls;
 mod stream;
 mod tag;
 mod writing;
 
 pub use decoding::decode;
 pub use options::Options;
+pub use session::Session;
 pub use spec_decoder::Form;

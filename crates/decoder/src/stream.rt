@@ -1,14 +1,14 @@
-//! From the bytes of a stream to those of its pictures.
+//! From the units of a stream to its pictures.
 
-ghost use Rattle.std.specs.Prelude.{◌≡◌, Bool, ℕ, List, ◌∷◌, [], None, IfOk, OnOk, true};
-ghost use Rattle.spec_nal_units.specs.Judged.{Told, told_of};
+ghost use Rattle.std.specs.Prelude.{◌≡◌, ℕ, Bool, List, [], IfOk, length, true, false};
+ghost use Rattle.spec_nal_units.specs.Judged.{Told};
 ghost use Rattle.nal_stream.specs.Answers.{told_by};
-ghost use Rattle.picture_plan.specs.Plans.{behind_unit, stop_of};
-ghost use Rattle.spec_decoder.specs.Decoder.{decoded};
+ghost use Rattle.decoder.specs.Buffers.{buffer_of};
 ghost use Rattle.decoder.specs.Headline.{change_of};
-ghost use Rattle.decoder.specs.Owed.{IsFirst, StillTells, Takes, still_owed};
 ghost use Rattle.decoder.specs.Options.{IsInRange};
-ghost use Rattle.decoder.specs.Writing.{IsAnswered, LeadsTo, owed_from};
+ghost use Rattle.decoder.specs.Owed.{still_owed};
+ghost use Rattle.decoder.specs.Taking.{HasTaken, Lessens, PlansUnit, StillTells, TakesUnit, TakesUnits};
+ghost use Rattle.decoder.specs.Writing.{IsAnswered};
 
 use crate::buffer::Buffer;
 use crate::options::Options;
@@ -18,48 +18,6 @@ use hv_io::Sink;
 use nal_stream::{Framer, Next};
 use picture_plan::Planner;
 use std::alloc::{AllocError, Global};
-
-/// Writes the pictures of a stream in output order, and answers how decoding ended.
-///
-/// Where the stream hasn't `ended` these are the bytes that came of it: the picture whose segments come isn't written
-/// then, nor a unit read that isn't whole.
-pub(crate) fn decode_bytes<O: Sink>(
-    alloc: Global,
-    bytes: &[u8],
-    ended: bool,
-    options: Options,
-    out: &mut O,
-) -> Outcome
-    requires { IsInRange options }
-    ensures { IsAnswered (owed_from options.form 0 (decoded options.hash ended bytes.now))
-        (change_of O.contents O.faults out.old out.new) result }
-{
-    let Ok(mut framer) = framer_of(alloc, bytes, ended) else {
-        return Outcome::Memory;
-    };
-    let Ok(mut decoder) = Decoder::new(alloc, options) else {
-        return Outcome::Memory;
-    };
-    'units: loop {
-        match decoder.take_unit(options, &mut framer, out) {
-            Ok(Taken::Unit) => {}
-            Ok(Taken::Last) => return decoder.write_rest(options, ended, out),
-            Err(outcome) => return outcome,
-        }
-    }
-}
-
-/// A framer that was fed all these bytes.
-fn framer_of(alloc: Global, bytes: &[u8], ended: bool) -> Result<Framer, AllocError>
-    ensures { IfOk result (λ f. StillTells f ended bytes.now (told_of ended bytes.now)) }
-{
-    let mut framer = Framer::new(alloc)?;
-    framer.feed(bytes)?;
-    if ended {
-        framer.finish();
-    }
-    Ok(framer)
-}
 
 /// What was taken of a stream.
 #[derive(Clone, Copy)]
@@ -79,14 +37,49 @@ pub(crate) struct Decoder {
 
 impl Decoder {
     /// Before the first unit.
-    fn new(alloc: Global, options: Options) -> Result<Decoder, AllocError>
+    pub(crate) fn new(alloc: Global, options: Options) -> Result<Decoder, AllocError>
         requires { IsInRange options }
-        ensures { IfOk result (λ d. IsFirst d options.ahead) }
+        ensures { IfOk result (λ d. HasTaken options d [] []) }
     {
         Ok(Decoder {
             planner: Planner::new(alloc, options.ahead, options.hash)?,
             buffer: Buffer::new(alloc),
         })
+    }
+
+    /// How many pictures wait for their flight's end.
+    pub(crate) fn waiting(&self) -> usize
+        ensures { result ≡ length self.now.planner.pending }
+    {
+        self.planner.waiting()
+    }
+
+    /// How many pictures the buffer holds.
+    pub(crate) fn held(&self) -> usize
+        ensures { result ≡ length (buffer_of self.now.buffer) }
+    {
+        self.buffer.len()
+    }
+
+    /// Takes all whole units that a framer holds, and writes the pictures that go out then.
+    pub(crate) fn take_units<O: Sink>(
+        &mut self,
+        options: Options,
+        framer: &mut Framer,
+        out: &mut O,
+    ) -> Result<(), Outcome>
+        ensures taken { (ended : Bool) (bytes : List ℕ) (given later : List Told) (gained : List ℕ)
+            → StillTells framer.old ended bytes given later → HasTaken options self.old given gained
+            → TakesUnits options (change_of O.contents O.faults out.old out.new) framer.new self.new ended bytes gained
+            result }
+        ensures finished { framer.new.finished ≡ framer.old.finished }
+    {
+        'units: loop {
+            match self.take_unit(options, framer, out)? {
+                Taken::Unit => {}
+                Taken::Last => return Ok(()),
+            }
+        }
     }
 
     /// Takes a unit and writes the pictures that go out then.
@@ -96,10 +89,12 @@ impl Decoder {
         framer: &mut Framer,
         out: &mut O,
     ) -> Result<Taken, Outcome>
-        ensures { (ended : Bool) (bytes : List ℕ) (later : List Told) → StillTells framer.old ended bytes later
-            → stop_of self.old.planner.next ≡ None
-            → Takes options.form options.hash (change_of O.contents O.faults out.old out.new) framer.new self.old self.new
-            ended bytes later result }
+        ensures taken { (ended : Bool) (bytes : List ℕ) (given later : List Told) (gained : List ℕ)
+            → StillTells framer.old ended bytes given later → HasTaken options self.old given gained
+            → TakesUnit options (change_of O.contents O.faults out.old out.new) framer.new self.new ended bytes gained
+            result }
+        ensures less { Lessens framer.old framer.new result }
+        ensures finished { framer.new.finished ≡ framer.old.finished }
     {
         let Ok(next) = framer.next() else {
             return Err(Outcome::Memory);
@@ -121,13 +116,8 @@ impl Decoder {
         next: Next,
         out: &mut O,
     ) -> Result<(), Outcome>
-        ensures wrote { (ended : Bool) (t : Told) (later : List Told) → told_by next ≡ t ∷ []
-            → stop_of self.old.planner.next ≡ None
-            → LeadsTo (change_of O.contents O.faults out.old out.new)
-            (still_owed options.form options.hash ended self.old.planner self.old.buffer (t ∷ later))
-            (still_owed options.form options.hash ended self.new.planner self.new.buffer later) result }
-        ensures left { OnOk result ((behind_unit self.old.planner (told_by next)).left ≡ self.new.planner) }
-        ensures going { OnOk result (stop_of self.new.planner.next ≡ None) }
+        ensures { PlansUnit options (change_of O.contents O.faults out.old out.new) self.old (told_by next) self.new
+            result }
     {
         let Ok(planned) = self.planner.unit(next) else {
             return Err(Outcome::Memory);
@@ -138,19 +128,8 @@ impl Decoder {
         }
     }
 
-    /// Writes the pictures that are left behind the last unit.
-    fn write_rest<O: Sink>(&mut self, options: Options, ended: bool, out: &mut O) -> Outcome
-        ensures { IsAnswered (still_owed options.form options.hash ended self.old.planner self.old.buffer [])
-            (change_of O.contents O.faults out.old out.new) result }
-    {
-        if ended {
-            return self.write_end(options, out);
-        }
-        write_last(options, self.planner.halt(), &mut self.buffer, out)
-    }
-
-    /// Writes the pictures that are left where the input ended.
-    fn write_end<O: Sink>(&mut self, options: Options, out: &mut O) -> Outcome
+    /// Writes the pictures that are left where the input ended, and answers how decoding ends.
+    pub(crate) fn write_end<O: Sink>(&mut self, options: Options, out: &mut O) -> Outcome
         ensures { IsAnswered (still_owed options.form options.hash true self.old.planner self.old.buffer [])
             (change_of O.contents O.faults out.old out.new) result }
     {
@@ -158,5 +137,13 @@ impl Decoder {
             Ok(planned) => write_last(options, planned, &mut self.buffer, out),
             Err(_) => Outcome::Memory,
         }
+    }
+
+    /// Writes the pictures that are over where no more of the input comes, and answers how decoding ends.
+    pub(crate) fn write_halted<O: Sink>(&mut self, options: Options, out: &mut O) -> Outcome
+        ensures { IsAnswered (still_owed options.form options.hash false self.old.planner self.old.buffer [])
+            (change_of O.contents O.faults out.old out.new) result }
+    {
+        write_last(options, self.planner.halt(), &mut self.buffer, out)
     }
 }

@@ -2,7 +2,7 @@ use Rattle.std.proofs.Common.{subst, sym}
 use Rattle.picture_plan.specs.Flights.{pictures_of}
 use Rattle.decoder.specs.Headline.{change_of}
 use Rattle.decoder.specs.Writing.{WritesFirst}
-use Rattle.decoder.proofs.Writes.{exit-is, passes-flight, over-flight}
+use Rattle.decoder.proofs.Writes.{exit-is, passes-none, passes-flight, over-flight}
 use Rattle.decoder.proofs.writing.decode_flights.Goals as goal
 
 pub loop-flight-preserved : goal.loop-flight-preserved
@@ -24,3 +24,8 @@ returns-in_err-decode_pictures g c =
     (pictures_of c.args.flights) c.loop-flight.left c.next.new.self c.in-Some.flight c.as_slice.result.now
     c.args.buffer.now c.loop-flight.buffer c.in_err-decode_pictures.field-0.0
     c.in-Some.ensures.value c.as_slice.ensures c.loop-flight.invariant c.in_err-decode_pictures.ensures)
+
+pub loop-flight-init : goal.loop-flight-init
+loop-flight-init g c =
+    passes-none g.O.Sink.contents g.O.Sink.faults c.args.options.form c.args.options.hash c.args.out.now
+    (pictures_of c.args.flights) c.args.buffer.now

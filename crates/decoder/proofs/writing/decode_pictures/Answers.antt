@@ -1,7 +1,7 @@
 use Rattle.std.proofs.Common.{subst, sym}
 use Rattle.decoder.specs.Headline.{change_of}
 use Rattle.decoder.specs.Writing.{WritesFirst}
-use Rattle.decoder.proofs.Writes.{exit-is, passes-one, over-one}
+use Rattle.decoder.proofs.Writes.{exit-is, passes-none, passes-one, over-one}
 use Rattle.decoder.proofs.writing.decode_pictures.Goals as goal
 
 pub loop-picture-preserved : goal.loop-picture-preserved
@@ -23,3 +23,8 @@ returns-in_err-take_picture g c =
     c.args.pictures.now c.args.buffer.now c.loop-picture.buffer c.loop-picture.picture-index
     c.picture-item.result c.in_err-take_picture.field-0.0
     c.loop-picture-test.true c.picture-item.is c.loop-picture.invariant c.in_err-take_picture.ensures)
+
+pub loop-picture-init : goal.loop-picture-init
+loop-picture-init g c =
+    passes-none g.O.Sink.contents g.O.Sink.faults c.args.options.form c.args.options.hash c.args.out.now
+    c.args.pictures.now c.args.buffer.now

@@ -23,7 +23,7 @@ returns-in_err-decode g c =
     c.from_residual-in_err-decode.ensures.1))
     (picture-refused g.O.Sink.contents g.O.Sink.faults c.args.options.form c.args.options.hash c.args.out.now
     c.write.new.out c.args.picture.now c.args.buffer.now c.write.new.self c.in_err-decode.field-0.0
-    (began g.O.Sink.contents g.O.Sink.faults c.args.options.form c.args.options.hash c.args.out.now c.write.new.out
+    (began g.O.Sink.contents g.O.Sink.faults c.args.options.form c.args.out.now c.write.new.out
     c.args.picture.now c.args.buffer.now c.write.new.self c.as_slice.result.now c.as_slice.ensures
     c.in_ok-write.ensures.wrote c.in_ok-write.ensures.same)
     c.in_err-decode.ensures.enters)
@@ -39,7 +39,7 @@ returns-in_err-write-2 g c =
     c.write.new.out c.write-2.new.out
     c.args.picture.now c.args.buffer.now c.write.new.self c.decode.new.self c.as_slice-2.result.now
     c.in_err-write-2.field-0.0
-    (began g.O.Sink.contents g.O.Sink.faults c.args.options.form c.args.options.hash c.args.out.now c.write.new.out
+    (began g.O.Sink.contents g.O.Sink.faults c.args.options.form c.args.out.now c.write.new.out
     c.args.picture.now c.args.buffer.now c.write.new.self c.as_slice.result.now c.as_slice.ensures
     c.in_ok-write.ensures.wrote c.in_ok-write.ensures.same)
     (record { enters = c.in_ok-decode.ensures.enters; number = c.in_ok-decode.ensures.number })
@@ -51,7 +51,7 @@ returns g c =
     c.write.new.out c.write-2.new.out c.args.picture.now
     c.args.buffer.now c.write.new.self c.decode.new.self c.write-2.new.self c.keep.new.self
     c.as_slice-2.result.now c.as_slice-3.result.now
-    (began g.O.Sink.contents g.O.Sink.faults c.args.options.form c.args.options.hash c.args.out.now c.write.new.out
+    (began g.O.Sink.contents g.O.Sink.faults c.args.options.form c.args.out.now c.write.new.out
     c.args.picture.now c.args.buffer.now c.write.new.self c.as_slice.result.now c.as_slice.ensures
     c.in_ok-write.ensures.wrote c.in_ok-write.ensures.same)
     (record { enters = c.in_ok-decode.ensures.enters; number = c.in_ok-decode.ensures.number })

@@ -9,7 +9,7 @@ use Rattle.decoder.proofs.buffer.Buffer.write_place.Goals as goal
 
 pub returns-in-None : goal.returns-in-None
 returns-in-None g c = record {
-  wrote = place-none g.O.Sink.contents g.O.Sink.faults c.args.form true c.args.out.now c.args.self.now.number
+  wrote = place-none g.O.Sink.contents g.O.Sink.faults c.args.form c.args.out.now c.args.self.now.number
       c.args.place (buffer_of c.args.self.now) (sym c.in-None.ensures);
   same = refl;
 }
@@ -17,7 +17,7 @@ returns-in-None g c = record {
 pub returns-in-Ok-clause-wrote : goal.returns-in-Ok-clause-wrote
 returns-in-Ok-clause-wrote g c =
     let number : c.self.inside.number ≡ c.args.self.now.number = ap (λ (b : HeldBuffer). b.number) c.self.view_is in
-    place-written g.O.Sink.contents g.O.Sink.faults c.args.form true c.args.out.now c.write_piece.new.out
+    place-written g.O.Sink.contents g.O.Sink.faults c.args.form c.args.out.now c.write_piece.new.out
     c.args.self.now.number c.saturating_add-self-inside.result c.args.place (buffer_of c.args.self.now)
     (tagged c.in-Some.tag c.in-Some.picture.now) (sym c.in-Some.ensures)
     (subst (λ (k : ℕ). told_number (k + 1) ≡ told_number c.saturating_add-self-inside.result) number
@@ -29,7 +29,7 @@ returns-in-Ok-clause-wrote g c =
 pub returns-in-Err-clause-wrote : goal.returns-in-Err-clause-wrote
 returns-in-Err-clause-wrote g c =
     let number : c.self.inside.number ≡ c.args.self.now.number = ap (λ (b : HeldBuffer). b.number) c.self.view_is in
-    place-cut g.O.Sink.contents g.O.Sink.faults c.args.form true c.args.out.now c.write_piece.new.out
+    place-cut g.O.Sink.contents g.O.Sink.faults c.args.form c.args.out.now c.write_piece.new.out
     c.args.self.now.number c.args.place (buffer_of c.args.self.now)
     (tagged c.in-Some.tag c.in-Some.picture.now) (sym c.in-Some.ensures)
     (subst (λ (k : ℕ). GainsPrefix (g.O.Sink.contents c.args.out.now) (g.O.Sink.contents c.write_piece.new.out)
