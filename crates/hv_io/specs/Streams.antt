@@ -26,10 +26,6 @@ Gains None after piece = Unit {0}
 Gains (Some bytes) None piece = ⊥
 Gains (Some bytes) (Some more) piece = more ≡ bytes ++ piece
 
--- some bytes were taken from the front of those that were left
-abbrev pub TakesSome : Option (List ℕ) → Option (List ℕ) → Type 0
-TakesSome before after = (got : List ℕ) × Takes before after got
-
 -- the bytes so far have a front of these, maybe all or none, at their end
 abbrev pub GainsPrefix : Option (List ℕ) → Option (List ℕ) → List ℕ → Type 0
 GainsPrefix before after piece = (n : ℕ) × ((n ≤ length piece) × Gains before after (take n piece))

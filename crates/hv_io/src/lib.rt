@@ -17,7 +17,7 @@ pub use memory_sink::MemSink;
 pub use memory_source::MemSource;
 pub use sink::Sink;
 pub use source::Source;
-pub use transfers::{Input, InputEnd, read_available, write_all};
+pub use transfers::write_all;
 
 #[cfg(test)]
 mod tests;

@@ -5,15 +5,24 @@ use std::io::{ErrorKind, Read, Write};
 
 const HELLO: &[u8] = b"hello, world";
 
-/// Whether a memory source's bytes are read, and written whole to a memory sink, in pieces of this size.
+/// Whether a memory source's bytes are read, and each read's written whole to a memory sink, in pieces of this size.
 fn is_carried(alloc: Global, piece: usize) -> bool {
     let mut src = MemSource::new(HELLO, piece.max(1), &[]);
-    let input = read_available(alloc, &mut src);
     let Ok(mut out) = MemSink::new(alloc, 12, piece.max(1), &[]) else {
         return false;
     };
-    let written = write_all(&mut out, input.bytes.as_slice());
-    input.end == InputEnd::Ended && written.is_ok() && out.bytes() == HELLO
+    let mut buf = [0; 5];
+    for _ in 0..HELLO.len() {
+        match src.read(&mut buf) {
+            Ok(n) => {
+                if write_all(&mut out, &buf[..n]).is_err() {
+                    return false;
+                }
+            }
+            Err(Failed) => return false,
+        }
+    }
+    out.bytes() == HELLO
 }
 
 #[test]
