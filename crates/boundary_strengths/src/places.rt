@@ -18,8 +18,8 @@ use crate::sides::UnitSides;
 use ctu_records::Records;
 use spec_boundary_strengths::UnitPlace;
 
-/// What deblocking asks of the places of a unit of so many places a side, in 16 rows of 16: of others nothing is told. A
-/// prediction unit that doesn't lie in the greatest unit is passed over.
+/// What deblocking asks of the places of a unit of so many places a side, in 16 rows of 16: of others nothing is told.
+/// A prediction unit that doesn't lie in the greatest unit is passed over.
 pub fn unit_places<V: PlaceMotions>(
     records: &Records,
     sides: &UnitSides,

@@ -11,7 +11,8 @@ beside_count known n x y = length-map-range_with_len (known_beside known n x y) 
 pub beside_at : (known : ℕ → ℕ → Option ℕ) (n x y k : ℕ) → k < 4 * n + 1
     → get_or (beside known n x y) k None ≡ known_beside known n x y k
 unfolding beside
-beside_at known n x y k lt = get_or-map-range_with_len (known_beside known n x y) 0 (4 * n + 1) k k None lt (omega arith)
+beside_at known n x y k lt =
+    get_or-map-range_with_len (known_beside known n x y) 0 (4 * n + 1) k k None lt (omega arith)
 
 pub beside_left : (known : ℕ → ℕ → Option ℕ) (n x y k : ℕ) → k < 2 * n + 1
     → get_or (beside known n x y) k None ≡ known x (y + (2 * n - k))

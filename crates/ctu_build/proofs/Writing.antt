@@ -54,7 +54,8 @@ pub block_at : (a k n from : ℕ) (xs ys block : List ℕ) (q : ℕ) → a + n �
     → get_or (put_mid a k xs ys) q 0
     ≡ cond (nat_le a q && nat_lt q (a + n)) (get_or block (from + (q - a)) 0) (get_or xs q 0)
 block_at a k n from xs ys block q room enough many same =
-    let count : length (between from (from + n) block) ≡ n = length-between block from (from + n) enough ∙ omega arith in
+    let count : length (between from (from + n) block) ≡ n =
+    length-between block from (from + n) enough ∙ omega arith in
     let t = part_at a k n xs ys (between from (from + n) block) q room many count same in
     let inside : (nat_le a q && nat_lt q (a + n)) ≡ true
     → get_or (between from (from + n) block) (q - a) 0 ≡ get_or block (from + (q - a)) 0 =

@@ -1,7 +1,8 @@
 //! What a NAL unit is to the pictures of a stream, by its nal_unit_type (7.4.2.2, 7.4.2.4.4).
 
 ghost use Rattle.std.specs.Prelude.{◌≡◌};
-ghost use Rattle.spec_picture_plan.specs.UnitKinds.{is_radl, is_rasl, is_slice, is_sub_layer_non_reference, kind_of_type};
+ghost use Rattle.spec_picture_plan.specs.UnitKinds.{is_radl, is_rasl, is_slice, is_sub_layer_non_reference};
+ghost use Rattle.spec_picture_plan.specs.UnitKinds.{kind_of_type};
 
 use hv_base::{
     AUD_NUT, BLA_W_LP, CRA_NUT, EOB_NUT, EOS_NUT, PPS_NUT, PREFIX_SEI_NUT, RADL_N, RADL_R, RASL_N,

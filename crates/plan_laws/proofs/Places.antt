@@ -92,8 +92,11 @@ first_given : (sets : Sets) (former : Former) (u : NalUnit) (h : SliceHeaderFiel
     → CanBe (slice_segment_header (context_of sets former [] u)) h
     → IsFirst (context_of sets former [] u) (record (h) { data_place = at })
 unfolding slice_segment_header front place
-first_given sets former u h at
-    (f, (first, a, (opened, opened-is, (unit, b, (prior, d, (output, g, (id, id-is, front-is)))))), (n, n-is, (segment, segment-is, (s, i, (points, j, (extension, k, e)))))) =
+first_given sets former u h at (
+  f,
+  (first, a, (opened, opened-is, (unit, b, (prior, d, (output, g, (id, id-is, front-is)))))),
+  (n, n-is, (segment, segment-is, (s, i, (points, j, (extension, k, e))))),
+) =
     let c = context_of sets former [] u in
     let began : first ≡ true = or_false first (wanted_is (first || false) _ opened opened-is) in
     let same : f.first_slice_segment_in_pic_flag ≡ true =
@@ -162,8 +165,11 @@ first_of_later c false test e h = h
 later_given : (c : Context) (h : SliceHeaderFields) (at : ℕ) → CanBe (behind_flag false (slice_segment_header c)) h
     → IsLater c (record (h) { data_place = at })
 unfolding slice_segment_header front
-later_given c h at
-    (f, (first, first-is, (opened, a, (unit, b, (prior, d, (output, g, (id, id-is, front-is)))))), (n, n-is, (segment, segment-is, (s, i, (points, j, (extension, k, e)))))) =
+later_given c h at (
+  f,
+  (first, first-is, (opened, a, (unit, b, (prior, d, (output, g, (id, id-is, front-is)))))),
+  (n, n-is, (segment, segment-is, (s, i, (points, j, (extension, k, e))))),
+) =
     let same : f.first_slice_segment_in_pic_flag ≡ false =
     ap (λ (x : SegmentFields). x.first_slice_segment_in_pic_flag) (sym front-is) ∙ sym first-is in
     let named = are_named c f.first_slice_segment_in_pic_flag f.slice_pic_parameter_set_id n n-is in

@@ -30,10 +30,10 @@ use Rattle.spec_picture_plan.specs.declared.unit_kind.UnitKind.TheVariants as un
 use Rattle.spec_picture_plan.specs.UnitKinds.{is_rasl, kind_of_type}
 use Rattle.spec_picture_plan.specs.Closing.{broken_at_closing, broken_in, full_at, or_later}
 use Rattle.spec_picture_plan.specs.Pictures.{beginning}
-use Rattle.spec_picture_plan.specs.Steps.{Stepped, begun, behind_read, close, closed_by, closed_open, closing, context_of}
-use Rattle.spec_picture_plan.specs.Steps.{continued, continued_by, continuing, first_flag, goes_on, informed, joined}
-use Rattle.spec_picture_plan.specs.Steps.{judged_header, kind_step, opened_by, opening, picture_of, put_pps, put_sps}
-use Rattle.spec_picture_plan.specs.Steps.{sequence_end}
+use Rattle.spec_picture_plan.specs.Steps.{Stepped, begun, behind_read, close, closed_by, closed_open, closing}
+use Rattle.spec_picture_plan.specs.Steps.{context_of, continued, continued_by, continuing, first_flag, goes_on}
+use Rattle.spec_picture_plan.specs.Steps.{informed, joined, judged_header, kind_step, opened_by, opening, picture_of}
+use Rattle.spec_picture_plan.specs.Steps.{put_pps, put_sps, sequence_end}
 use Rattle.spec_picture_plan.specs.Steps.{slice_judged, slice_step, step, then_next, unit_step, with_order, with_set}
 use Rattle.spec_picture_plan.specs.Steps.{with_hashes, with_sets}
 use Rattle.spec_picture_plan.specs.Planned.{Planned, planned_end, planned_from, planned_next, planned_of}

@@ -1,6 +1,7 @@
 -- Samples that are hashed piece by piece.
 use Rattle.std.proofs.Common.{◌≡◌, ℕ, ◌+◌, ◌<◌, ◌≤◌, ◌%◌, List, [], ◌∷◌, ◌++◌, length, get_or, take, map, true, refl}
-use Rattle.std.proofs.Common.{Bool, sym, ap, subst, ◌∙◌, append_assoc, append-nil, length-append, length-drop, drop, arith}
+use Rattle.std.proofs.Common.{Bool, sym, ap, subst, ◌∙◌, append_assoc, append-nil, length-append, length-drop, drop}
+use Rattle.std.proofs.Common.{arith}
 use Rattle.std.specs.Prelude.{◌/◌, if◌then◌else◌, nat_le}
 use Rattle.std.proofs.lemmas.Bool.Decides.{nat_tests}
 use Rattle.std.specs.List.{flat_map}
@@ -49,7 +50,8 @@ piece_added depth before now after samples rest piece behind is a q = record {
 }
 
 -- all
-pub all_added : (depth : ℕ) (before after : Md5) (samples rest : List ℕ) → rest ≡ [] → Added depth before after samples rest
+pub all_added : (depth : ℕ) (before after : Md5) (samples rest : List ℕ) → rest ≡ []
+    → Added depth before after samples rest
     → AddsSamples depth before after samples
 all_added depth before after samples rest none a =
     subst (AddsSamples depth before after)

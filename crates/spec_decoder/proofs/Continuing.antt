@@ -1,6 +1,6 @@
 -- What is decoded of the front of an input stays as the input goes on.
-use Rattle.std.proofs.Common.{◌≡◌, ℕ, Bool, false, List, [], ◌∷◌, ◌++◌, length, Option, Some, None, Result, Ok, Err, refl, sym}
-use Rattle.std.proofs.Common.{ap, subst, ◌∙◌, append_assoc}
+use Rattle.std.proofs.Common.{◌≡◌, ℕ, Bool, false, List, [], ◌∷◌, ◌++◌, length, Option, Some, None, Result, Ok, Err}
+use Rattle.std.proofs.Common.{refl, sym, ap, subst, ◌∙◌, append_assoc}
 use Rattle.std.specs.List.{concat}
 use Rattle.std.proofs.lemmas.List.{append-nil}
 use Rattle.std.proofs.lemmas.List.Folds.{concat-append}
@@ -15,8 +15,8 @@ use Rattle.spec_picture_plan.proofs.Fronts.{of_extends}
 use Rattle.spec_decoder.specs.declared.form.Form.{Form}
 use Rattle.spec_decoder.specs.Output.{OutPicture, written}
 use Rattle.spec_decoder.proofs.Written.{written_first}
-use Rattle.spec_decoder.specs.Decoder.{BufferPicture, Decoded, Continues, decoded_picture, out_at, kept_from, put_out, ended, entered}
-use Rattle.spec_decoder.specs.Decoder.{with_picture, decoded_from, finished, decoded_plan, decoded}
+use Rattle.spec_decoder.specs.Decoder.{BufferPicture, Decoded, Continues, decoded_picture, out_at, kept_from, put_out}
+use Rattle.spec_decoder.specs.Decoder.{ended, entered, with_picture, decoded_from, finished, decoded_plan, decoded}
 
 -- the bytes follow from the pictures
 continues : (short long : Decoded) (more : List OutPicture) → long.pictures ≡ short.pictures ++ more

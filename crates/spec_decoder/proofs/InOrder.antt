@@ -21,8 +21,8 @@ use Rattle.spec_picture_plan.specs.UnitKinds.{is_rasl, kind_of_type}
 use Rattle.spec_picture_plan.specs.declared.unit_kind.UnitKind.{UnitKind}
 use Rattle.spec_picture_plan.specs.declared.unit_kind.UnitKind.TheVariants as unit
 use Rattle.spec_decoder.specs.Output.{OutPicture}
-use Rattle.spec_decoder.specs.Decoder.{BufferPicture, Decoded, decoded, decoded_from, decoded_picture, entered, finished}
-use Rattle.spec_decoder.specs.Decoder.{kept_from}
+use Rattle.spec_decoder.specs.Decoder.{BufferPicture, Decoded, decoded, decoded_from, decoded_picture, entered}
+use Rattle.spec_decoder.specs.Decoder.{finished, kept_from}
 use Rattle.spec_decoder.specs.Decoder.{out_at, put_out, with_picture}
 use Rattle.spec_decoder.specs.Trail.{Data, Event, Judge, Keep, Output, closed_events, closed_first, closes, end_events}
 use Rattle.spec_decoder.specs.Trail.{first_of, is_dropped, kind_closes, kind_judged, last_events, next_events}
@@ -123,7 +123,8 @@ picture_first : (hash : Bool) (p : PicturePlan) (next : List BufferPicture → D
     → with_picture hash p next buffer
     ≡ first_of hash (Output p.outputs.before ∷ Data p ∷ Output p.outputs.behind ∷ Keep p.outputs.kept ∷ events) buffer
 picture_first hash p next events buffer same =
-    ap (put_out (out_at buffer p.outputs.before)) (entered_first hash p next events buffer (decoded_picture hash buffer p) same)
+    ap (put_out (out_at buffer p.outputs.before))
+    (entered_first hash p next events buffer (decoded_picture hash buffer p) same)
 
 module _ (hash : Bool) (g : Between → Planned) (h : Between → List Event)
     (same : (n : Between) (b : List BufferPicture) → plan_decoded hash (g n) b ≡ first_of hash (h n) b) where

@@ -5,7 +5,8 @@ use Rattle.std.specs.Prelude.{⊤, not, ◌&&◌, ◌==◌, nat_le}
 use borrow.Author.Tests.{leb-false}
 use Rattle.std.proofs.lemmas.Bool.Decides.{Decides-eqb}
 use Rattle.spec_nal_units.specs.ByteStream.{AtLeastBehindZeros, EndsInNoZero, IsNalUnit}
-use Rattle.spec_nal_units.specs.Escaped.{needs_prevention, escaped, unit_with, added, ends_in_words, IsWritable, IsReadBack}
+use Rattle.spec_nal_units.specs.Escaped.{needs_prevention, escaped, unit_with, added, ends_in_words, IsWritable}
+use Rattle.spec_nal_units.specs.Escaped.{IsReadBack}
 use Rattle.spec_nal_units.proofs.Ends.{decide, if_true, if_false, and_left, and_right}
 use Rattle.spec_nal_units.proofs.Walking.{is_prevention, stripped, marked, payload_of-stripped, removed_of-marked}
 

@@ -7,8 +7,8 @@ use Rattle.std.proofs.lemmas.List.{take-append-le, drop-append-le}
 use Rattle.spec_nal_units.specs.Units.{ends_unit, unit_end, Part, Raw, Stray, unit_to, unit_at, Place, Padding, Inside}
 use Rattle.spec_nal_units.specs.Units.{parts}
 use Rattle.spec_nal_units.specs.Judged.{Told, Whole, Broken, Met, judged, next_number, then_told, told_from, told_of}
-use Rattle.spec_nal_units.proofs.Ends.{decide, known, if_true, if_false, ends_unit-append, unit_end-none, unit_end-append}
-use Rattle.spec_nal_units.proofs.Ends.{unit_end-length, parts-past, parts-inside}
+use Rattle.spec_nal_units.proofs.Ends.{decide, known, if_true, if_false, ends_unit-append, unit_end-none}
+use Rattle.spec_nal_units.proofs.Ends.{unit_end-append, unit_end-length, parts-past, parts-inside}
 
 -- a unit that is whole is the same however the bytes go on
 pub unit_at-whole : (ended : Bool) (bs r : List ℕ) (k : ℕ) → unit_end bs ≡ Some k

@@ -7,13 +7,13 @@ use Rattle.std.specs.Prelude.{◌&&◌, ◌==◌, min, map, nat_le, nat_lt, opti
 use lib.Seq.{take-append_seam, drop-append_seam}
 use borrow.Author.Tests.{le-leb, leb-true, ltb-true, ltb-false}
 use Rattle.std.proofs.lemmas.Bool.Decides.{Decides-eqb}
-use Rattle.spec_nal_units.specs.Units.{ends_unit, unit_end, all_zero, trimmed, Part, Raw, Stray, unit_to, unit_at, Place}
-use Rattle.spec_nal_units.specs.Units.{Padding, Inside, parts, parts_of}
-use Rattle.spec_nal_units.specs.ByteStream.{AtLeastBehindZeros, EndsInNoZero, IsNalUnit, byte_stream_nal_unit, IsByteStream}
-use Rattle.spec_nal_units.specs.ByteStream.{IsSplitInto}
+use Rattle.spec_nal_units.specs.Units.{ends_unit, unit_end, all_zero, trimmed, Part, Raw, Stray, unit_to, unit_at}
+use Rattle.spec_nal_units.specs.Units.{Place, Padding, Inside, parts, parts_of}
+use Rattle.spec_nal_units.specs.ByteStream.{AtLeastBehindZeros, EndsInNoZero, IsNalUnit, byte_stream_nal_unit}
+use Rattle.spec_nal_units.specs.ByteStream.{IsByteStream, IsSplitInto}
 use Rattle.spec_nal_units.proofs.Ends.{decide, known, if_true, if_false, and_left, and_right, ends_unit-zero}
-use Rattle.spec_nal_units.proofs.Ends.{option_map-suc, unit_end-length, unit_end-nowhere, unit_end-here, unit_end-before}
-use Rattle.spec_nal_units.proofs.Ends.{parts-past, parts-inside}
+use Rattle.spec_nal_units.proofs.Ends.{option_map-suc, unit_end-length, unit_end-nowhere, unit_end-here}
+use Rattle.spec_nal_units.proofs.Ends.{unit_end-before, parts-past, parts-inside}
 
 -- ---- a unit and what stands behind it
 

@@ -28,11 +28,11 @@ use Rattle.spec_picture_plan.specs.declared.unit_kind.UnitKind.TheVariants as un
 use Rattle.spec_picture_plan.specs.UnitKinds.{is_rasl, is_slice, kind_of_type}
 use Rattle.spec_picture_plan.specs.Closing.{broken_at_closing}
 use Rattle.spec_picture_plan.specs.Pictures.{beginning}
-use Rattle.spec_picture_plan.specs.Steps.{Stepped, begun, behind_read, close, closed_by, closed_open, closing, continued}
-use Rattle.spec_picture_plan.specs.Steps.{continued_by, continuing, first_flag, goes_on, joined, judged_header, kind_step}
-use Rattle.spec_picture_plan.specs.Steps.{opened_by, opening, picture_of, put_pps, put_sps, segment_of, sequence_end}
-use Rattle.spec_picture_plan.specs.Steps.{slice_judged, slice_step, step, then_next, unit_step, with_hashes, with_order}
-use Rattle.spec_picture_plan.specs.Steps.{with_set, with_sets}
+use Rattle.spec_picture_plan.specs.Steps.{Stepped, begun, behind_read, close, closed_by, closed_open, closing}
+use Rattle.spec_picture_plan.specs.Steps.{continued, continued_by, continuing, first_flag, goes_on, joined}
+use Rattle.spec_picture_plan.specs.Steps.{judged_header, kind_step, opened_by, opening, picture_of, put_pps, put_sps}
+use Rattle.spec_picture_plan.specs.Steps.{segment_of, sequence_end, slice_judged, slice_step, step, then_next}
+use Rattle.spec_picture_plan.specs.Steps.{unit_step, with_hashes, with_order, with_set, with_sets}
 use Rattle.spec_picture_plan.specs.Planned.{Planned, at_end, behind_closed, planned_end, planned_from, planned_next}
 use Rattle.spec_picture_plan.specs.Grouping.{AreGrouped, AreOfPicture, AreOfPictureAtMost, HasFirstFlag, IsSegmentOf}
 use Rattle.spec_picture_plan.specs.Grouping.{decoded_unit, decoded_units, segments_of, units_next}

@@ -100,7 +100,8 @@ explicit_is greatest s (a, is_a, (b, is_b, (fact, in_range, (before, negatives, 
     let few : a + b ≤ greatest = leb-true (a + b) greatest in_range in
     let negative = outward_is true 0 a before negatives in
     let positive = outward_is false 0 b after positives in
-    let out = λ (m n : ℕ) (rs : List ShortTermRef) (le : m ≤ n + 1) (h : All (λ (r : ShortTermRef). nat_abs r.delta_poc ≤ 0 + 32768 * m) rs). All-weaker
+    let out = λ (m n : ℕ) (rs : List ShortTermRef) (le : m ≤ n + 1)
+    (h : All (λ (r : ShortTermRef). nat_abs r.delta_poc ≤ 0 + 32768 * m) rs). All-weaker
     (λ (r : ShortTermRef). nat_abs r.delta_poc ≤ 0 + 32768 * m)
     (λ (r : ShortTermRef). nat_abs r.delta_poc ≤ 32768 * (n + 1)) (λ r k. omega arith) rs h in
     rw (← e) (

@@ -79,8 +79,8 @@ module _ {O : Type 0} (contents : O → Option (List ℕ)) (faults : O → ℕ) 
       → StreamCut contents faults a b (made_by t seed) n e
   sets_why a b seed n error.Memory cut = (inl cut.0, cut.1)
   sets_why a b seed n error.Write cut = (
-    front_of (contents a) (contents b) set_units (made_by t seed n) (pictures_by t 0 n (start_of seed)) (made_sets t seed n)
-        cut.0,
+    front_of (contents a) (contents b) set_units (made_by t seed n) (pictures_by t 0 n (start_of seed))
+        (made_sets t seed n) cut.0,
     cut.1,
   )
 

@@ -105,7 +105,8 @@ fn make_turned<O: Sink>(
     out: &mut O,
 ) -> Outcome
     ensures ends { (result ≡ Outcome.Ok) ⊎ ((result ≡ Outcome.Memory) ⊎ (result ≡ Outcome.WriteFault)) }
-    ensures ok { result ≡ Outcome.Ok → Gains (O.contents out.old) (O.contents out.new) (made_by turned.now seed pictures) }
+    ensures ok { result ≡ Outcome.Ok
+        → Gains (O.contents out.old) (O.contents out.new) (made_by turned.now seed pictures) }
     ensures front { GainsPrefix (O.contents out.old) (O.contents out.new) (made_by turned.now seed pictures) }
     ensures whole { result ≡ Outcome.Memory
         → GainsWhole (O.contents out.old) (O.contents out.new) (made_by turned.now seed) pictures }

@@ -1,11 +1,12 @@
 -- What a unit begins with, in two readings that agree.
-use Rattle.std.proofs.Common.{◌≡◌, ℕ, Bool, true, false, ◌||◌, ◌&&◌, not, List, [], get_or, Option, Some, None, Result, Ok, Err}
-use Rattle.std.proofs.Common.{refl, ap, ◌∙◌, if◌then◌else◌}
+use Rattle.std.proofs.Common.{◌≡◌, ℕ, Bool, true, false, ◌||◌, ◌&&◌, not, List, [], get_or, Option, Some, None, Result}
+use Rattle.std.proofs.Common.{Ok, Err, refl, ap, ◌∙◌, if◌then◌else◌}
 use Rattle.hv_base.specs.declared.breach.Breach.{Breach}
 use Rattle.spec_bits.specs.Bits.{bits}
 use Rattle.spec_cabac.specs.Engine.{Engine, start_at}
-use Rattle.spec_slice_data.specs.Segment.{PictureShape, SegmentShape, Between, before_unit, begins_row, begins_substream}
-use Rattle.spec_slice_data.specs.Segment.{contexts_before, has_stored, qp_before, restarted, substream_of}
+use Rattle.spec_slice_data.specs.Segment.{PictureShape, SegmentShape, Between, before_unit, begins_row}
+use Rattle.spec_slice_data.specs.Segment.{begins_substream, contexts_before, has_stored, qp_before, restarted}
+use Rattle.spec_slice_data.specs.Segment.{substream_of}
 use Rattle.unit_tree_laws.specs.Agreement.{Agree, begins_slice}
 
 -- the same engine, contexts and Qp'Y, before which nothing was read

@@ -11,8 +11,8 @@ use Rattle.spec_cabac.specs.Bins.{State, read}
 use Rattle.spec_slice_data.specs.declared.syntax.CtuSyntax.{CtuSyntax}
 use Rattle.spec_slice_data.specs.declared.syntax.End.{End}
 use Rattle.spec_slice_data.specs.Segment.{PictureShape, SegmentShape, Between, Broken, and_then, before_unit}
-use Rattle.spec_slice_data.specs.Segment.{begins_substream, behind_unit, judged_end, read_unit, restarted, stored_behind}
-use Rattle.spec_slice_data.specs.Segment.{then_unit, unit_at, unit_step, units_from}
+use Rattle.spec_slice_data.specs.Segment.{begins_substream, behind_unit, judged_end, read_unit, restarted}
+use Rattle.spec_slice_data.specs.Segment.{stored_behind, then_unit, unit_at, unit_step, units_from}
 use Rattle.coding_quadtree.specs.Next.{next_between}
 use Rattle.unit_tree_laws.specs.Agreement.{stores}
 
@@ -20,8 +20,13 @@ restart_keeps : (contexts : List ℕ) (last : ℕ) (before after : Between) (eng
     → restarted contexts last before engine ≡ Ok after → after.stored ≡ before.stored
 restart_keeps contexts last before after None e = absurd cc
 restart_keeps contexts last before after (Some engine) e =
-    let same : record { engine = engine; contexts = contexts; stored = before.stored; last = last; units = before.units }
-    ≡ after = cc in
+    let same : record {
+      engine = engine;
+      contexts = contexts;
+      stored = before.stored;
+      last = last;
+      units = before.units;
+    } ≡ after = cc in
     ap (λ (b : Between). b.stored) (sym same)
 
 start_if : (anew : Bool) (before after : Between) (start : Result Between Breach)

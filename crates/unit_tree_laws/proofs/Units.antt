@@ -45,7 +45,8 @@ read_same common picture segment address a b x y h s =
     } in
     let beside_y : IsBeside picture segment address y left above = record {
       on_left = λ e. h.left e ∙ ap (λ units. right_of n (unit_at picture units (address - 1))) (sym s.units_b);
-      on_top = λ e. h.above e ∙ ap (λ units. bottom_of n (unit_at picture units (address - picture.width))) (sym s.units_b);
+      on_top = λ e.
+          h.above e ∙ ap (λ units. bottom_of n (unit_at picture units (address - picture.width))) (sym s.units_b);
     } in
     let read : Result ((Ctu × End) × State) Breach =
     unit_over common picture segment address left above y.last (y.engine, y.contexts) in
@@ -60,7 +61,8 @@ read_same common picture segment address a b x y h s =
 then_same : (common : CtuSyntax) (picture : PictureShape) (segment : SegmentShape) (address : ℕ) (a b : Between)
     (start_a start_b : Result Between Breach)
     → Agree picture segment address a b → IsSameStart a b start_a start_b
-    → IsSameStep a b (then_unit common picture segment address start_a) (then_unit common picture segment address start_b)
+    → IsSameStep a b (then_unit common picture segment address start_a)
+    (then_unit common picture segment address start_b)
 then_same common picture segment address a b (Ok x) (Ok y) h s =
     read_same common picture segment address a b x y h s
 then_same common picture segment address a b (Err e) (Err f) h s = s

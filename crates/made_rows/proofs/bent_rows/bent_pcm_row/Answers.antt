@@ -8,8 +8,9 @@ use Rattle.made_rows.proofs.bent_rows.bent_pcm_row.Goals as goal
 
 pub returns-clause-bytes : goal.returns-clause-bytes
 returns-clause-bytes c =
-    let joined = row_joined_by (λ l. bent_end c.args.kind (8 * c.args.r + 7) (no_bins, l)) c.args.units.now c.args.r c.args.contexts c.in_ok-behind.behind c.in_ok-last.last
-    c.requires.row c.in_ok-behind.ensures.behind c.in_ok-last.ensures.behind in
+    let joined = row_joined_by (λ l. bent_end c.args.kind (8 * c.args.r + 7) (no_bins, l)) c.args.units.now c.args.r
+    c.args.contexts c.in_ok-behind.behind c.in_ok-last.last c.requires.row c.in_ok-behind.ensures.behind
+    c.in_ok-last.ensures.behind in
     let two : List ℕ = part_bytes (parts_from c.args.units.now (8 * c.args.r) 2 []) c.args.contexts in
     let six : List ℕ =
     part_bytes (parts_from c.args.units.now (8 * c.args.r + 2) 6 (before_words true)) c.in_ok-behind.behind in

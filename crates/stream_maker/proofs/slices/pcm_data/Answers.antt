@@ -15,11 +15,12 @@ loop-r-init c = record {
 pub loop-r-preserved : goal.loop-r-preserved
 loop-r-preserved c = record {
   rows =
-      rows_step (λ r. pcm_row_by (bend_at c.args.bends.now c.args.picture r) c.args.units.now r) c.loop-r.r c.len-before.result c.in_ok-offset_behind.field-0
-      c.loop-r.bytes.items c.append_pcm_row.new.bytes.items
+      rows_step (λ r. pcm_row_by (bend_at c.args.bends.now c.args.picture r) c.args.units.now r) c.loop-r.r
+      c.len-before.result c.in_ok-offset_behind.field-0 c.loop-r.bytes.items c.append_pcm_row.new.bytes.items
       (drop c.len-before.result c.append_pcm_row.new.bytes.items) c.loop-r.offsets.items c.push.new.self.items
       c.loop-r.invariant.rows
-      (c.in_ok-contexts.ensures.bytes ∙ ap (λ b. c.loop-r.bytes.items ++ pcm_row_by b c.args.units.now c.loop-r.r) c.bend_at-bend.ensures)
+      (c.in_ok-contexts.ensures.bytes
+      ∙ ap (λ b. c.loop-r.bytes.items ++ pcm_row_by b c.args.units.now c.loop-r.r) c.bend_at-bend.ensures)
       (search rules) refl (search rules) (search rules);
   contexts = c.in_ok-contexts.ensures.behind;
   small = c.in_ok-contexts.ensures.small;

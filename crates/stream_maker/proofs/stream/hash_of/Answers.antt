@@ -9,4 +9,7 @@ returns c =
     let small : (i : ℕ) → get_or c.args.plane.now i 0 < 256 = λ i. omega (arith, c.type_inv.plane i) in
     let given = c.plane_md5.ensures in
     hash_is given.0 c.args.plane.now _ small
-    (all_given given.0 c.args.plane.now given.1 (YieldsList-from_map _ (λ (x : ℕ). x) (YieldsList-from_slice c.args.plane.now (search rules)) c.map.ensures.closure (λ x r q k. search rules))) given.2
+    (all_given given.0 c.args.plane.now given.1
+    (YieldsList-from_map _ (λ (x : ℕ). x) (YieldsList-from_slice c.args.plane.now (search rules))
+    c.map.ensures.closure (λ x r q k. search rules)))
+    given.2

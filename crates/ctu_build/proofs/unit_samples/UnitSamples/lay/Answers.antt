@@ -16,7 +16,8 @@ invariant_of-self c =
     are_laid _ _ _ _ _ _ (inside_of p (2 ^ p.log2))
     (λ d i j. get_or c.args.block.now (2 ^ p.log2 * (j - (p.y + 1)) + (i - (p.x + 1))) 0)
     c.self.invariant
-    (λ d. c.with-self-inside.ensures.few d 65 (omega (arith, c.requires.place.y, c.side.ensures.value)) (c.self.invariant.few d))
+    (λ d. c.with-self-inside.ensures.few d 65 (omega (arith, c.requires.place.y, c.side.ensures.value))
+    (c.self.invariant.few d))
     c.with-self-inside.ensures.more
     (place_lines p (2 ^ p.log2) _ c.from.result _ (search rules) (omega (arith, c.side.ensures.value))
     c.with-self-inside.ensures.here)

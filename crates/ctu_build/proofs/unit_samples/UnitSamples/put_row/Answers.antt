@@ -6,12 +6,13 @@ pub returns : goal.returns
 returns g c =
     let a = c.args in
     let r = c.requires in
-    λ i j k. held_laid _ _ c.self.inside.values _ c.self.inside.known _ i j k (get_or a.samples.now (a.from + (j - a.column)) 0) _
-    (search rules) (search rules) refl refl
+    λ i j k. held_laid _ _ c.self.inside.values _ c.self.inside.known _ i j k
+    (get_or a.samples.now (a.from + (j - a.column)) 0) _ (search rules) (search rules) refl refl
     (line_bounds a.c a.column a.line (g.row.N) i j k r.columns r.c r.line)
     (line_marked _ _ a.c a.column a.line (g.row.N) _ c.cell-first.ensures r.columns r.c r.line
     c.mark_line.ensures i j k)
-    (line_copied _ _ (λ m. get_or a.samples.now (a.from + m) 0) a.c a.column a.line (g.row.N) _ c.cell-first.ensures r.columns r.c r.line c.lay_line.ensures i j k)
+    (line_copied _ _ (λ m. get_or a.samples.now (a.from + m) 0) a.c a.column a.line (g.row.N) _
+    c.cell-first.ensures r.columns r.c r.line c.lay_line.ensures i j k)
 
 pub invariant_of-self : goal.invariant_of-self
 invariant_of-self g c =
@@ -20,8 +21,10 @@ invariant_of-self g c =
     are_laid _ _ _ _ _ _
     (λ i j k. (i == a.c) && ((k == a.line) && (nat_le a.column j && nat_lt j (a.column + g.row.N))))
     (λ i j k. get_or a.samples.now (a.from + (j - a.column)) 0)
-    c.self.invariant (λ d. c.with-self-inside.ensures.few d 65 (omega (arith, r.line)) (c.self.invariant.few d)) c.with-self-inside.ensures.more
+    c.self.invariant (λ d. c.with-self-inside.ensures.few d 65 (omega (arith, r.line)) (c.self.invariant.few d))
+    c.with-self-inside.ensures.more
     (line_lines a.c a.column a.line (g.row.N) _ c.with-self-inside.ensures.here)
     (line_marked _ _ a.c a.column a.line (g.row.N) _ c.cell-first.ensures r.columns r.c r.line
     c.mark_line.ensures)
-    (line_copied _ _ (λ m. get_or a.samples.now (a.from + m) 0) a.c a.column a.line (g.row.N) _ c.cell-first.ensures r.columns r.c r.line c.lay_line.ensures)
+    (line_copied _ _ (λ m. get_or a.samples.now (a.from + m) 0) a.c a.column a.line (g.row.N) _
+    c.cell-first.ensures r.columns r.c r.line c.lay_line.ensures)
