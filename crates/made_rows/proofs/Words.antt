@@ -6,7 +6,8 @@ use Rattle.spec_bits.specs.Spelling.{u_bits}
 use Rattle.spec_cabac.specs.Bins.{Bypass}
 use Rattle.cabac_writer.specs.Coding.{Writing, with_word, with_words}
 use Rattle.spec_made.specs.Written.{Bins}
-use Rattle.spec_made.specs.InterRows.{bypasses, words_at, words_from}
+use Rattle.spec_made.specs.Bends.{bare_words}
+use Rattle.spec_made.specs.InterRows.{bypasses, end_words, words_at, words_from}
 use Rattle.spec_made.specs.declared.units.InterUnit.{InterUnit}
 use Rattle.spec_made.specs.declared.units.Motion.{Motion}
 
@@ -20,6 +21,12 @@ pub then_words : (s t u : Writing) (front back : Bins) → t ≡ with_words s fr
     → u ≡ with_words s (front ++ back)
 then_words s t u front back e f =
     f ∙ ap (λ r. with_words r back) e ∙ sym (with_words_append s front back)
+
+-- a unit, and what follows it
+pub words_at_append : (s : Writing) (m : Motion) (units : List InterUnit) (i : ℕ) → with_words s (words_at m units i)
+    ≡ with_words (with_words s (bare_words m units i)) (end_words i)
+unfolding words_at bare_words
+words_at_append s m units i = with_words_append s (bare_words m units i) (end_words i)
 
 -- one of so many ones
 pub ones_step : (s next whole : Writing) (i n : ℕ) → i < n → next ≡ with_word s (Bypass, true)

@@ -362,7 +362,7 @@ pub(crate) fn write_bare(
 }
 
 /// The unit of a number and what follows it.
-#[tactic(auto, using(crate::proofs::Words::with_words_append), unfolding(spec_made::specs::InterRows::words_at, spec_made::specs::Bends::bare_words))]
+#[tactic(auto, using(crate::proofs::Words::words_at_append))]
 fn write_at(
     writer: &mut BinWriter,
     motion: Motion,

@@ -96,7 +96,7 @@ impl CodingTreeUnit {
     }
 
     /// Whether a place of the picture is available for it, where it isn't of the unit itself (6.4.1).
-    #[tactic(auto, unfolding(spec_picture_trees::specs::Places::is_available, spec_picture_trees::specs::Places::unit_at))]
+    #[tactic(auto, using(crate::proofs::Places::availability))]
     pub fn is_available(&self, x: usize, y: usize) -> bool
         ensures { result ≡ is_available self.now.layout self.now.slice self.now.address x y }
     {

@@ -24,7 +24,7 @@ pub(crate) struct CurrentPicture {
 }
 
 /// DeltaPocMsbCycleLt of entry `i`, where `before` is that of the entry before it (7-38).
-#[tactic(auto, using(crate::proofs::Cycles::cycle_more), unfolding(spec_reference_pictures::specs::ReferencePictureSet::msb_cycle_before))]
+#[tactic(auto, using(crate::proofs::Cycles::cycle_more))]
 fn msb_cycle(long: &LongTermRefs, i: usize, before: u64) -> u64
     requires inside { i < length long.now.entries }
     requires before { before ≡ msb_cycle_before long.now i }

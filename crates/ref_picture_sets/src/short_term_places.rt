@@ -16,7 +16,7 @@ use slice_types::PictureKind;
 use std::alloc::{AllocError, Global};
 
 /// The order counts of the pictures that are marked as reference when the set is derived.
-#[tactic(auto, using(crate::proofs::Growing::lengths), unfolding(spec_reference_pictures::specs::ReferencePictureSet::reference_pocs))]
+#[tactic(auto, unfolding(spec_reference_pictures::specs::ReferencePictureSet::reference_pocs))]
 pub(crate) fn reference_pocs(
     alloc: Global,
     kind: PictureKind,
@@ -44,7 +44,7 @@ fn reference_poc(kind: PictureKind, picture: DpbPicture) -> Option<i32>
 }
 
 /// The order counts of the short-term pictures, where `long` are the places of those that long-term entries name.
-#[tactic(auto, using(crate::proofs::Growing::lengths), unfolding(spec_reference_pictures::specs::ReferencePictureSet::short_term_pocs))]
+#[tactic(auto, using(crate::proofs::Growing::lengths))]
 pub(crate) fn short_term_pocs(
     alloc: Global,
     kind: PictureKind,

@@ -16,7 +16,6 @@ struct UnitLists<'a> {
 }
 
 /// The factors where there are no scaling lists: 16 each.
-#[tactic(auto, unfolding(spec_reconstruction::specs::Factors::scaling_factors, spec_reconstruction::specs::Factors::scaling_factor))]
 pub fn flat_factors() -> ScalingFactors
     ensures { (intra : Bool) → result ≡ scaling_factors None intra }
 {

@@ -4,7 +4,6 @@ ghost use Rattle.std.specs.Prelude.{◌≡◌, pos, negsuc};
 ghost use Rattle.spec_reconstruction.specs.Parameters.{chroma_parameter};
 
 /// Qp'C is held at both ends of qPi, and goes by the table between them, for 8 bits and for 10.
-#[tactic(auto, unfolding(crate::specs::Parameters::chroma_parameter, spec_slice_data::specs::Quantization::chroma_qp_of_index))]
 pub fn chroma_parameters_are_held()
     ensures low { chroma_parameter 0 (negsuc 4) ≡ 0 }
     ensures tabled { chroma_parameter 0 (pos 36) ≡ 34 }

@@ -3,6 +3,7 @@
 ghost use Rattle.std.specs.Prelude.{◌≡◌, ◌%◌, ◌<◌, ◌++◌, OnOk, IfOk};
 ghost use Rattle.md5.specs.Md5.{md5};
 ghost use Rattle.spec_made.specs.Written.{unit_behind_code};
+ghost use Rattle.spec_made.specs.Headers.{picture_payload, sequence_payload};
 ghost use Rattle.spec_made.specs.Stream.{hash_unit, set_units, start_of};
 ghost use Rattle.spec_made.specs.Flat.{idr_by, inter_by, motion_told, picture_by};
 ghost use Rattle.made_rows.specs.Small.{AreSmall};
@@ -194,13 +195,29 @@ pub(crate) fn append_picture(
 }
 
 /// Appends both parameter sets.
-#[tactic(auto, using(crate::proofs::Lists::appended), unfolding(spec_made::specs::Stream::set_units, spec_made::specs::Headers::sequence_payload, spec_made::specs::Headers::picture_payload))]
+#[tactic(auto, using(crate::proofs::Lists::appended), unfolding(spec_made::specs::Stream::set_units))]
 pub(crate) fn append_sets(out: &mut Vec<u8>) -> Result<(), AllocError>
     ensures { OnOk result (out.new.items ≡ out.old.items ++ set_units) }
 {
-    append_unit(out, 33, &SEQUENCE_PAYLOAD)?;
-    append_unit(out, 34, &PICTURE_PAYLOAD)?;
+    append_sequence_set(out)?;
+    append_picture_set(out)?;
     Ok(())
+}
+
+/// Appends the sequence parameter set.
+#[tactic(auto, unfolding(spec_made::specs::Headers::sequence_payload))]
+fn append_sequence_set(out: &mut Vec<u8>) -> Result<(), AllocError>
+    ensures { OnOk result (out.new.items ≡ out.old.items ++ unit_behind_code 33 sequence_payload) }
+{
+    append_unit(out, 33, &SEQUENCE_PAYLOAD)
+}
+
+/// Appends the picture parameter set.
+#[tactic(auto, unfolding(spec_made::specs::Headers::picture_payload))]
+fn append_picture_set(out: &mut Vec<u8>) -> Result<(), AllocError>
+    ensures { OnOk result (out.new.items ≡ out.old.items ++ unit_behind_code 34 picture_payload) }
+{
+    append_unit(out, 34, &PICTURE_PAYLOAD)
 }
 
 /// What stands before the first picture.
