@@ -15,7 +15,7 @@ use Rattle.spec_nal_units.proofs.Going.{told_of-go}
 use Rattle.nal_stream.specs.declared.answer.Next.{Next}
 use Rattle.nal_stream.specs.declared.answer.Next.TheVariants as next
 use Rattle.nal_stream.specs.Framing.{History, IsNext, with_answer}
-use Rattle.spec_picture_plan.specs.Steps.{Stepped, close, step}
+use Rattle.spec_picture_plan.specs.Steps.{Stepped, step}
 use Rattle.spec_picture_plan.specs.Planned.{Planned, behind_closed, planned_from, planned_next, planned_of}
 use Rattle.spec_picture_plan.proofs.Fronts.{of_extends}
 use Rattle.picture_plan.specs.Flights.{Gathered, cut_at_stop, waiting, with_pictures}

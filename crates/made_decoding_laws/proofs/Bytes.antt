@@ -1,6 +1,6 @@
 -- The bytes that are written of the pictures of a stream that is made.
-use Rattle.std.proofs.Common.{◌≡◌, ℕ, zero, suc, ◌+◌, ◌*◌, ◌%◌, ◌<◌, Bool, true, List, [], ◌∷◌, ◌++◌, get_or, length}
-use Rattle.std.proofs.Common.{map, refl, sym, ap, ◌∙◌, arith}
+use Rattle.std.proofs.Common.{◌≡◌, ℕ, suc, ◌+◌, ◌*◌, ◌%◌, ◌<◌, Bool, true, List, [], ◌∷◌, ◌++◌, get_or, length}
+use Rattle.std.proofs.Common.{map, refl, ap, ◌∙◌, arith}
 use Rattle.std.specs.List.{concat, range_with_len}
 use Rattle.spec_picture_build.specs.Border.{Samples}
 use Rattle.spec_picture_build.specs.Output.{Window, picture_bytes, plane_bytes, window_of}

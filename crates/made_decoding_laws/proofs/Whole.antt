@@ -8,7 +8,7 @@ use Rattle.std.proofs.lemmas.List.{get_or-drop}
 use Rattle.spec_picture_build.specs.References.{DecodedPicture, format_height, format_width}
 use Rattle.spec_decoder.specs.Hashes.{plane_samples, rows_samples}
 use Rattle.spec_made.specs.Draws.{motion_of}
-use Rattle.spec_made.specs.Planes.{Planes, cb, cr, luma, mean_of}
+use Rattle.spec_made.specs.Planes.{Planes, mean_of}
 use Rattle.spec_made.specs.Stream.{Making}
 use Rattle.made_laws.specs.Sets.{made_format}
 use Rattle.made_laws.specs.Streams.{idr_picture, inter_picture, making_at, picture_at}

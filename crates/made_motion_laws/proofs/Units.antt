@@ -1,9 +1,7 @@
 -- The prediction units of a coding tree unit keep the motion beside it.
-use Rattle.std.proofs.Common.{◌≡◌, ◌⊎◌, inl, inr, ℕ, zero, suc, ◌+◌, ◌-◌, ◌*◌, ◌^◌, ◌<◌, ◌≤◌, cond, Bool, true, false}
-use Rattle.std.proofs.Common.{◌&&◌, nat_le, nat_lt, List, [], ◌∷◌, ◌++◌, Option, Some, None, refl, sym, ap, subst, ◌∙◌}
-use Rattle.std.proofs.Common.{arith, ℤ, pos, negsuc, ◌+ℤ◌}
-use Rattle.std.specs.Prelude.{slice_index_or, option_to_list}
-use Rattle.std.specs.Int.{int_wrap}
+use Rattle.std.proofs.Common.{◌≡◌, inl, inr, ℕ, ◌+◌, ◌*◌, ◌<◌, ◌≤◌, cond, Bool, true, false}
+use Rattle.std.proofs.Common.{[], ◌∷◌, Option, Some, None, refl, sym, ap, ◌∙◌}
+use Rattle.std.proofs.Common.{arith, pos, ◌+ℤ◌}
 use Rattle.std.specs.Int.RustNames.{FitsSigned}
 use Rattle.std.proofs.lemmas.Int.{ints, int_wrap_fits}
 use Rattle.std.proofs.lemmas.Bool.{cases_lt, le-leb, lt-ltb}
@@ -13,19 +11,17 @@ use Rattle.ctu_records.specs.declared.item.Square.{Square}
 use Rattle.ctu_records.specs.declared.prediction.MotionSyntax.{MotionSyntax}
 use Rattle.ctu_records.specs.declared.prediction.MotionSyntax.TheVariants.{Merge, Vectors}
 use Rattle.ctu_records.specs.declared.prediction.Mv.{Mv}
-use Rattle.ctu_records.specs.declared.prediction.PredictionUnit.{PredictionUnit}
 use Rattle.ctu_records.specs.declared.prediction.Rectangle.{Rectangle}
-use Rattle.ctu_records.specs.declared.prediction.VectorSyntax.{VectorSyntax}
 use Rattle.spec_motion.specs.declared.slice_motion.SliceMotion.{SliceMotion}
 use Rattle.spec_motion.specs.declared.vectors.Motion.{Motion}
 use Rattle.spec_motion.specs.declared.vectors.Reference.{Reference}
 use Rattle.spec_motion.specs.declared.vectors.Vector.{Vector}
-use Rattle.spec_motion.specs.Derivation.{coded_vector, motion_laid, motion_over, prediction_motion, sum_of, wrapped}
+use Rattle.spec_motion.specs.Derivation.{coded_vector, motion_laid, motion_over, prediction_motion, sum_of}
 use Rattle.spec_motion.specs.Temporal.{temporal_mv}
 use Rattle.spec_motion.specs.Vectors.{Beneath, Known, in_list, reference_in, zero_mv}
 use Rattle.spec_motion.specs.VectorPrediction.{mv_predictors, pointing, predicted_mv, reaching, spatial_mvs}
 use Rattle.spec_motion.specs.VectorPrediction.{spatial_predictors}
-use Rattle.made_motion_laws.specs.Keeping.{AreFirst, IsBesideUnit, IsFirst, Keeps, coded_where, four_laid}
+use Rattle.made_motion_laws.specs.Keeping.{AreFirst, IsBesideUnit, Keeps, coded_where, four_laid}
 use Rattle.made_motion_laws.specs.Keeping.{quarter_square, same_where, whole_part, whole_square}
 use Rattle.made_motion_laws.specs.Uniform.{IsBeside, IsOrNone, IsPlain, block_of}
 use Rattle.made_motion_laws.proofs.Keeping.{merging, predicting}

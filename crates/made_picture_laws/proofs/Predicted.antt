@@ -1,5 +1,5 @@
 -- P and B pictures are decoded as they are drawn: each sample is one of the reference, or the mean of two.
-use Rattle.std.proofs.Common.{◌≡◌, ℕ, zero, suc, ◌+◌, ◌*◌, ◌/◌, ◌<◌, cond, Bool, true, false, List, [], ◌∷◌}
+use Rattle.std.proofs.Common.{◌≡◌, ℕ, zero, suc, ◌+◌, ◌/◌, ◌<◌, cond, Bool, true, false, List, [], ◌∷◌}
 use Rattle.std.proofs.Common.{get_or, length, Some, None, ℤ, pos, ◌+ℤ◌, ◌*ℤ◌, refl, ap, ◌∙◌, arith}
 use Rattle.std.specs.Prelude.{◌==◌}
 use Rattle.spec_inter_prediction.specs.declared.tables.SliceWeighting.{SliceWeighting}

@@ -1,5 +1,5 @@
 -- Edges of units all places of which have one motion have no strength.
-use Rattle.std.proofs.Common.{◌≡◌, ℕ, ◌+◌, ◌-◌, cond, Bool, true, false}
+use Rattle.std.proofs.Common.{◌≡◌, ℕ, ◌+◌, cond, Bool, true, false}
 use Rattle.std.proofs.Common.{◌&&◌, ◌||◌, List, Some, refl, ap, ◌∙◌}
 use Rattle.std.specs.Prelude.{if◌then◌else◌}
 use Rattle.ctu_records.specs.declared.item.Item.{Item}

@@ -1,10 +1,9 @@
 -- Vectors of whole samples.
-use Rattle.std.proofs.Common.{◌≡◌, ℕ, ◌+◌, ◌-◌, ◌/◌, ◌^◌, ◌<◌, ℤ, pos, negsuc, ◌+ℤ◌, ◌-ℤ◌, ◌*ℤ◌, refl, sym, ap, ◌∙◌}
+use Rattle.std.proofs.Common.{◌≡◌, ℕ, ◌+◌, ◌/◌, ◌<◌, ℤ, pos, ◌+ℤ◌, ◌*ℤ◌, refl}
 use Rattle.std.proofs.Common.{arith}
-use Rattle.std.specs.Int.{int_shr, int_rem_euclid, int_max, int_min}
-use Rattle.std.specs.Int.RustNames.{unsigned_abs}
+use Rattle.std.specs.Int.{int_shr, int_rem_euclid}
 use Rattle.std.proofs.lemmas.Int.{ints}
-use Rattle.spec_inter_prediction.specs.Taps.{luma_taps, chroma_taps, luma_filter, chroma_filter, filtered}
+use Rattle.spec_inter_prediction.specs.Taps.{luma_taps, chroma_taps}
 use Rattle.spec_inter_prediction.specs.Luma.{luma_sample, quarter, luma_first}
 use Rattle.spec_inter_prediction.specs.Chroma.{chroma_sample, eighth, chroma_first}
 use Rattle.spec_inter_prediction.specs.Weighting.{default_one, default_two, rounded_if_shifted}

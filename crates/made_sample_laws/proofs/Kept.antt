@@ -1,9 +1,7 @@
 -- Loop filters change no sample of places that are kept.
-use Rattle.std.proofs.Common.{◌≡◌, ℕ, zero, suc, ◌+◌, ◌-◌, ◌*◌, ◌/◌, ◌%◌, ◌<◌, cond, Bool, true, false, ◌&&◌, nat_lt}
-use Rattle.std.proofs.Common.{refl, ap, ◌∙◌, arith}
-use Rattle.std.specs.Prelude.{◌==◌}
+use Rattle.std.proofs.Common.{◌≡◌, ℕ, ◌+◌, ◌-◌, ◌*◌, ◌/◌, ◌%◌, ◌<◌, cond, Bool, true, false, ◌&&◌, nat_lt}
+use Rattle.std.proofs.Common.{refl, ◌∙◌, arith}
 use Rattle.std.proofs.lemmas.Bool.{and_parts, ltb-true}
-use Rattle.std.proofs.lemmas.Bool.Decides.{nat_tests}
 use Rattle.spec_deblocking.proofs.Across.{nth_here, if_one}
 use Rattle.spec_deblocking.specs.declared.place.Place.{Place}
 use Rattle.spec_deblocking.specs.declared.place.Plane.{Plane}
@@ -13,7 +11,7 @@ use Rattle.spec_deblocking.specs.Places.{place_before, place_behind, side}
 use Rattle.spec_deblocking.specs.Planes.{deblocked, edge_sample, horizontal, vertical}
 use Rattle.spec_sample_adaptive_offset.specs.Plane.{offset_sample}
 use Rattle.spec_loop_filters.specs.Filters.{LoopFilters, Samples, deblocked_samples, depth_of, final_samples, height_of}
-use Rattle.spec_loop_filters.specs.Filters.{offset_plane, plane_of, width_of}
+use Rattle.spec_loop_filters.specs.Filters.{plane_of, width_of}
 
 either_true : (b c d : Bool) → c ≡ true → d ≡ true → cond b c d ≡ true
 either_true true c d e f = e

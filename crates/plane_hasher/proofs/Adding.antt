@@ -9,9 +9,7 @@ use Rattle.std.proofs.lemmas.List.{ext_get_or, get_or-map, length-map, take_more
 use Rattle.std.proofs.lemmas.List.Concat.{flat_map-append, flat_map_single}
 use Rattle.md5.specs.Md5.{Holds}
 use Rattle.md5.specs.declared.Md5.{Md5}
-use Rattle.plane_hasher.specs.Hashers.{HoldsSamples}
 use Rattle.hash_sei.specs.PlaneHash.{picture_data, sample_bytes}
-use Rattle.plane_hasher.specs.declared.hasher.PlaneHasher.{PlaneHasher}
 
 -- one hash has these samples more than another
 abbrev pub AddsSamples : ℕ → Md5 → Md5 → List ℕ → Type 0

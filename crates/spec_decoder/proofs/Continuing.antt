@@ -12,7 +12,6 @@ use Rattle.spec_picture_plan.specs.Pictures.{beginning}
 use Rattle.spec_picture_plan.specs.Steps.{step}
 use Rattle.spec_picture_plan.specs.Planned.{Planned, planned_of, planned_from, planned_next, Extends}
 use Rattle.spec_picture_plan.proofs.Fronts.{of_extends}
-use Rattle.spec_decoder.specs.declared.form.Form.{Form}
 use Rattle.spec_decoder.specs.Output.{OutPicture, written}
 use Rattle.spec_decoder.proofs.Written.{written_first}
 use Rattle.spec_decoder.specs.Decoder.{BufferPicture, Decoded, Continues, decoded_picture, out_at, kept_from, put_out}

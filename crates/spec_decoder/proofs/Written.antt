@@ -1,7 +1,5 @@
 -- What is written of pictures that go out one after the other.
-use Rattle.std.proofs.Common.{◌≡◌, ℕ, suc, ◌+◌, List, [], ◌∷◌, ◌++◌, length, refl, sym, ap, ◌∙◌, arith}
-use Rattle.std.specs.Fmt.{decimal}
-use Rattle.std.specs.Prelude.{codes}
+use Rattle.std.proofs.Common.{◌≡◌, ℕ, suc, ◌+◌, List, [], ◌∷◌, ◌++◌, length, refl, ap, ◌∙◌, arith}
 use Rattle.spec_decoder.specs.declared.form.Form.{Form}
 use Rattle.spec_decoder.specs.declared.form.Form.TheVariants as form
 use Rattle.spec_decoder.specs.Output.{OutPicture, hash_line, list_line, piece_of, told_number, written}

@@ -1,5 +1,5 @@
 -- What is planned of the front of an input stays as the input goes on.
-use Rattle.std.proofs.Common.{◌≡◌, ℕ, Bool, true, false, List, [], ◌∷◌, ◌++◌, Option, Some, None, Result, Ok, Err, refl}
+use Rattle.std.proofs.Common.{ℕ, Bool, false, List, [], ◌∷◌, ◌++◌, Result, Ok, Err, refl}
 use Rattle.std.proofs.Common.{sym, ap, ◌∙◌, append_assoc, append-nil}
 use Rattle.hv_base.specs.declared.refusal.Stop.{Stop}
 use Rattle.plan_types.specs.declared.picture_plan.PicturePlan.{PicturePlan}

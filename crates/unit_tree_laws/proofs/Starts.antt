@@ -1,6 +1,6 @@
 -- What a unit begins with, in two readings that agree.
 use Rattle.std.proofs.Common.{◌≡◌, ℕ, Bool, true, false, ◌||◌, ◌&&◌, not, List, [], get_or, Option, Some, None, Result}
-use Rattle.std.proofs.Common.{Ok, Err, refl, ap, ◌∙◌, if◌then◌else◌}
+use Rattle.std.proofs.Common.{Ok, Err, refl, if◌then◌else◌}
 use Rattle.hv_base.specs.declared.breach.Breach.{Breach}
 use Rattle.spec_bits.specs.Bits.{bits}
 use Rattle.spec_cabac.specs.Engine.{Engine, start_at}

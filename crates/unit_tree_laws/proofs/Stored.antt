@@ -6,7 +6,7 @@ use Rattle.hv_base.specs.declared.breach.Breach.TheVariants as breach
 use Rattle.hv_base.specs.declared.fault.FaultKind.TheVariants as rule
 use Rattle.block_geometry.specs.CodingTreeBlocks.{ctb_scan}
 use Rattle.ctu_records.specs.Tree.{Ctu}
-use Rattle.spec_cabac.specs.Engine.{Engine, start_at}
+use Rattle.spec_cabac.specs.Engine.{Engine}
 use Rattle.spec_cabac.specs.Bins.{State, read}
 use Rattle.spec_slice_data.specs.declared.syntax.CtuSyntax.{CtuSyntax}
 use Rattle.spec_slice_data.specs.declared.syntax.End.{End}

@@ -11,7 +11,7 @@ use Rattle.unit_trees.specs.declared.edges.Edge.{Edge}
 use Rattle.unit_trees.specs.Edges.{bottom_of, right_of}
 use Rattle.unit_trees.specs.Units.{IsBeside, then_next, unit_over}
 use Rattle.unit_trees.proofs.Steps.{next_is}
-use Rattle.unit_tree_laws.specs.Agreement.{AddsSame, Agree, IsSameStep}
+use Rattle.unit_tree_laws.specs.Agreement.{Agree, IsSameStep}
 use Rattle.unit_tree_laws.proofs.Starts.{IsSameStart, StartsSame, starts_same}
 
 -- a unit of these units

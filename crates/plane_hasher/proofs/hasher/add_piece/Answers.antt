@@ -1,4 +1,4 @@
-use Rattle.std.proofs.Common.{List, ℕ, ◌++◌, rules, subst}
+use Rattle.std.proofs.Common.{List, ℕ, ◌++◌, subst}
 use Rattle.md5.specs.Md5.{Holds}
 use Rattle.plane_hasher.proofs.Adding.{narrowed}
 use Rattle.plane_hasher.proofs.hasher.add_piece.Goals as goal

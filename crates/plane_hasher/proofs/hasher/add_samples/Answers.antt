@@ -1,6 +1,5 @@
-use Rattle.std.proofs.Common.{[], ◌++◌, append-nil, refl, sym, subst, take, get_or}
+use Rattle.std.proofs.Common.{append-nil, sym, subst}
 use Rattle.md5.specs.Md5.{Holds}
-use Rattle.plane_hasher.proofs.Adding.{sample_added}
 use Rattle.plane_hasher.proofs.hasher.add_samples.Goals as goal
 
 pub loop-sample-init : goal.loop-sample-init

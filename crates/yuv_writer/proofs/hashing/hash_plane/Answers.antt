@@ -1,6 +1,6 @@
 use Rattle.std.proofs.Common.{rules}
 use Rattle.picture_buffer.specs.Planes.{samples_of}
-use Rattle.yuv_writer.proofs.HashedRows.{all_held, none_held, rows_held}
+use Rattle.yuv_writer.proofs.HashedRows.{none_held, rows_held}
 use Rattle.yuv_writer.proofs.hashing.hash_plane.Goals as goal
 
 pub loop-done-init : goal.loop-done-init
