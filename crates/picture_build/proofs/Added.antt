@@ -1,9 +1,10 @@
 -- A unit is added to a picture.
 use Rattle.std.proofs.Common.{◌≡◌, ℕ, zero, suc, ◌+◌, ◌-◌, ◌*◌, ◌/◌, ◌^◌, ◌<◌, ◌≤◌, ◌==◌, Bool, true, false, List, refl}
-use Rattle.std.proofs.Common.{sym, ap, subst, ◌∙◌, if◌then◌else◌, arith}
+use Rattle.std.proofs.Common.{sym, ap, subst, ◌∙◌, if◌then◌else◌, ◌⊎◌, inl, inr, arith}
 use Rattle.std.specs.Option.{unwrap_or}
 use Rattle.std.proofs.Math.Nat.{mul-le-mul_left}
 use Rattle.std.proofs.Math.Path.{fun_ext}
+use Rattle.std.proofs.lemmas.Bool.{cases_lt}
 use Rattle.std.proofs.lemmas.Bool.Decides.{nat_tests}
 use Rattle.std.specs.List.{All}
 use Rattle.inter_samples.specs.Inter.{inter_unit}
@@ -21,10 +22,10 @@ use Rattle.spec_motion.specs.Vectors as motion
 use Rattle.spec_picture_trees.specs.Picture.{TreeUnit}
 use Rattle.plan_types.specs.Segments.{address_of}
 use Rattle.spec_picture_trees.specs.Shapes.{picture_shape, slice_start}
-use Rattle.spec_picture_motion.specs.Derived.{known_of_unit}
+use Rattle.spec_picture_motion.specs.Derived.{References, known_of_unit}
 use Rattle.spec_picture_motion.specs.Derived as derived
 use Rattle.spec_picture_trees.specs.Places.{first_column, first_row, unit_at}
-use Rattle.spec_picture_motion.specs.Field.{Motions}
+use Rattle.spec_picture_motion.specs.Field.{Motions, unit_laid as motion_laid}
 use Rattle.spec_picture_motion.specs.Slices.{slice_motion}
 use Rattle.spec_picture_build.specs.Border.{Samples, has_sample, height_of, known_beside, unit_column, unit_line}
 use Rattle.spec_picture_build.specs.Border.{unit_side, width_of}
@@ -40,8 +41,8 @@ use Rattle.spec_slice_data.specs.Residual.{samples_of_place}
 use Rattle.spec_slice_data.specs.Segment.{PictureShape}
 use Rattle.picture_build.proofs.Built.{same_picture}
 use Rattle.picture_layout.proofs.Places.{block_begins}
-use Rattle.picture_build.proofs.Places.{row_is}
-use Rattle.picture_build.proofs.Planes.{covered}
+use Rattle.unit_build.proofs.Places.{row_is}
+use Rattle.unit_build.proofs.Covering.{covered}
 
 -- what inter prediction depends on
 pub inter_is : (buffer : List DecodedPicture) (p : PicturePlan) (s : SegmentPlan) (unit : TreeUnit) (motions : Motions)
@@ -136,42 +137,64 @@ samples_below inter p s unit picture samples ep shape past =
     samples)
     ep
 
--- a unit with samples is added
+-- the samples behind a unit, whether the picture has it or not
+samples_behind : (inter : InterUnit) (p : PicturePlan) (s : SegmentPlan) (unit : TreeUnit) (layout : PictureShape)
+    (slice : ℕ) (format : UnitFormat) (built : Known) (old new : Samples)
+    → layout ≡ picture_shape p.sps p.pps → slice ≡ address_of (slice_start p s)
+    → format ≡ unit_format p.sps p.pps s.header.slice → IsShape layout
+    → (first_row layout unit.ctu < layout.down
+    → built ≡ unit_built format inter unit.read.items (known_beside layout slice unit.ctu old))
+    → new ≡ unit_laid layout unit.ctu built old
+    → new ≡ samples_added inter p s unit old
+samples_behind inter p s unit layout slice format built old new ep es ef shape eb en =
+    by (cases_lt (first_row layout unit.ctu) layout.down)
+  where
+    by : (first_row layout unit.ctu < layout.down) ⊎ (layout.down ≤ first_row layout unit.ctu)
+        → new ≡ samples_added inter p s unit old
+    by (inl there) =
+        samples_are inter p s unit layout slice format (known_beside layout slice unit.ctu old) built old new ep es ef
+        refl (eb there) en
+    by (inr past) =
+        en ∙ sym (laid_below layout unit.ctu built old shape past)
+        ∙ samples_below inter p s unit layout old ep shape past
+
+-- the motion behind it
+moved_is : (pictures : References) (p : PicturePlan) (s : SegmentPlan) (unit : TreeUnit) (layout : PictureShape)
+    (slice : SliceMotion) (known : motion.Known) (old new : Motions)
+    → layout ≡ picture_shape p.sps p.pps → slice ≡ slice_motion p s unit.ctu
+    → known ≡ known_of_unit pictures p s unit old → new ≡ motion_laid layout unit.ctu slice known old
+    → new ≡ derived.unit_added pictures p s unit old
+unfolding derived.unit_added
+moved_is pictures p s unit layout slice known old new ep es ek en = rw (en, ek, es, ep) refl
+
+pub moved : (bases : List HeldPicture) (p : PicturePlan) (s : SegmentPlan) (unit : TreeUnit) (layout : PictureShape)
+    (slice : SliceMotion) (known : motion.Known) (old new : Motions)
+    → layout ≡ picture_shape p.sps p.pps → slice ≡ slice_motion p s unit.ctu
+    → (All IsPlacedItem unit.read.items → known ≡ known_of_unit (motions_of (buffer_of bases)) p s unit old)
+    → new ≡ motion_laid layout unit.ctu slice known old
+    → All IsPlacedItem unit.read.items → new ≡ derived.unit_added (motions_of (buffer_of bases)) p s unit old
+moved bases p s unit layout slice known old new ep es ek en placed =
+    moved_is (motions_of (buffer_of bases)) p s unit layout slice known old new ep es (ek placed) en
+
+-- a unit is added
 pub unit_is : (bases pictures : List HeldPicture) (p : PicturePlan) (s : SegmentPlan) (unit : TreeUnit)
-    (layout : PictureShape) (slice : ℕ) (format : UnitFormat) (beside built : Known) (old : BuiltPicture)
-    (new : Samples) (last : motion.Known) (motions : Motions)
+    (layout : PictureShape) (slice : ℕ) (format : UnitFormat) (built : Known) (old : BuiltPicture) (new : Samples)
+    (motions : Motions)
     → bases ≡ pictures → layout ≡ picture_shape p.sps p.pps → slice ≡ address_of (slice_start p s)
-    → format ≡ unit_format p.sps p.pps s.header.slice
+    → format ≡ unit_format p.sps p.pps s.header.slice → IsShape layout
     → AreSound (unit_format p.sps p.pps s.header.slice) unit.read.items
-    → (All IsPlacedItem unit.read.items → last ≡ known_of_unit (motions_of (buffer_of bases)) p s unit old.motions)
     → (All IsPlacedItem unit.read.items
     → motions ≡ derived.unit_added (motions_of (buffer_of bases)) p s unit old.motions)
-    → beside ≡ known_beside layout slice unit.ctu old.samples
-    → (AreSound format unit.read.items → last ≡ known_of_unit (motions_of (buffer_of bases)) p s unit old.motions
-    → built ≡ unit_built format (unit_inter (buffer_of bases) p s unit old.motions) unit.read.items beside)
+    → (first_row layout unit.ctu < layout.down → AreSound format unit.read.items
+    → built
+    ≡ unit_built format (unit_inter (buffer_of bases) p s unit old.motions) unit.read.items
+    (known_beside layout slice unit.ctu old.samples))
     → new ≡ unit_laid layout unit.ctu built old.samples
     → record { samples = new; motions = motions } ≡ unit_added (buffer_of pictures) p s unit old
-unit_is bases pictures p s unit layout slice format beside built old new last motions e ep es ef sound
-    told moved ek eb en =
-    let placed = all_placed (unit_format p.sps p.pps s.header.slice) unit.read.items sound in
+unit_is bases pictures p s unit layout slice format built old new motions e ep es ef shape sound moved eb en =
     let same : AreSound format unit.read.items = subst (λ f. AreSound f unit.read.items) (sym ef) sound in
     added_is (buffer_of bases) p s unit old new motions
-    (samples_are (unit_inter (buffer_of bases) p s unit old.motions) p s unit layout slice format beside built
-    old.samples new ep es ef ek (eb same (told placed)) en)
-    (moved placed)
-    ∙ ap (λ b. unit_added (buffer_of b) p s unit old) e
-
--- and one without
-pub unit_below : (bases pictures : List HeldPicture) (p : PicturePlan) (s : SegmentPlan) (unit : TreeUnit)
-    (layout : PictureShape) (old : BuiltPicture) (motions : Motions)
-    → bases ≡ pictures → layout ≡ picture_shape p.sps p.pps
-    → AreSound (unit_format p.sps p.pps s.header.slice) unit.read.items
-    → (All IsPlacedItem unit.read.items
-    → motions ≡ derived.unit_added (motions_of (buffer_of bases)) p s unit old.motions)
-    → IsShape layout → layout.down ≤ first_row layout unit.ctu
-    → record { samples = old.samples; motions = motions } ≡ unit_added (buffer_of pictures) p s unit old
-unit_below bases pictures p s unit layout old motions e ep sound moved shape past =
-    added_is (buffer_of bases) p s unit old old.samples motions
-    (samples_below (unit_inter (buffer_of bases) p s unit old.motions) p s unit layout old.samples ep shape past)
+    (samples_behind (unit_inter (buffer_of bases) p s unit old.motions) p s unit layout slice format built
+    old.samples new ep es ef shape (λ there. eb there same) en)
     (moved (all_placed (unit_format p.sps p.pps s.header.slice) unit.read.items sound))
     ∙ ap (λ b. unit_added (buffer_of b) p s unit old) e

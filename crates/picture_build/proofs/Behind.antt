@@ -1,12 +1,15 @@
 -- The motion of a picture and what its loop filters need while its units are added one after the other.
-use Rattle.std.proofs.Common.{◌≡◌, ℕ, ◌≤◌, List, [], ◌∷◌, ◌++◌, slice_get, Option, Some, None, sym, ap, ◌∙◌, arith}
+use Rattle.std.proofs.Common.{◌≡◌, ℕ, ◌≤◌, List, [], ◌∷◌, ◌++◌, slice_get, Option, Some, None, sym, ap, subst, ◌∙◌}
+use Rattle.std.proofs.Common.{arith}
 use Rattle.std.specs.List.{All}
 use Rattle.std.proofs.lemmas.List.Sums.{fold-append}
 use Rattle.ctu_records.specs.declared.item.Item.{Item}
-use Rattle.ctu_records.specs.Tree.{qp_at}
+use Rattle.ctu_records.specs.Tree.{Ctu, qp_at}
 use Rattle.plan_types.specs.declared.picture_plan.PicturePlan.{PicturePlan}
 use Rattle.plan_types.specs.declared.segment_plan.SegmentPlan.{SegmentPlan}
 use Rattle.picture_buffer.specs.Pictures.{HeldPicture}
+use Rattle.picture_filters.specs.declared.given.UnitFilters.{UnitFilters}
+use Rattle.picture_filters.specs.Given.{IsGiven}
 use Rattle.spec_motion.specs.Units.{IsPlacedItem}
 use Rattle.spec_picture_trees.specs.Picture.{TreeUnit}
 use Rattle.spec_picture_motion.specs.Derived.{References, unit_added as motion_added}
@@ -62,30 +65,34 @@ few_parameters format items depth sound i j =
 
 -- behind a unit of a segment
 behind_over : (pictures : References) (p q : PicturePlan) (s : SegmentPlan) (unit : TreeUnit) (format : UnitFormat)
-    (old : Behind) (motions now : Motions) (gathered : FilterData)
-    → q ≡ p → now ≡ motions → IsDepth format.luma_depth → AreSound format unit.read.items
+    (old : Behind) (motions : Motions) (gathered : FilterData)
+    → q ≡ p → IsDepth format.luma_depth → AreSound format unit.read.items
     → (All IsPlacedItem unit.read.items → motions ≡ motion_added pictures p s unit old.motions)
     → (All IsPlacedItem unit.read.items → ((i j : ℕ) → qp_at unit.read.items i j ≤ 127)
-    → gathered ≡ read_added q s unit.ctu unit.read now old.gathered)
+    → gathered ≡ read_added q s unit.ctu unit.read (motion_added pictures p s unit old.motions) old.gathered)
     → of_parts motions gathered ≡ added_in pictures p (Some s) unit old
 unfolding both_added
-behind_over pictures p q s unit format old motions now gathered e same depth sound moved told =
+behind_over pictures p q s unit format old motions gathered e depth sound moved told =
     let placed = all_placed format unit.read.items sound in
-    let motion = moved placed in
     same_behind motions (motion_added pictures p s unit old.motions) gathered
     (read_added p s unit.ctu unit.read (motion_added pictures p s unit old.motions) old.gathered)
-    motion
+    (moved placed)
     (told placed (few_parameters format unit.read.items depth sound)
-    ∙ ap (λ r. read_added r s unit.ctu unit.read now old.gathered) e
-    ∙ ap (λ m. read_added p s unit.ctu unit.read m old.gathered) (same ∙ motion))
+    ∙ ap (λ r. read_added r s unit.ctu unit.read (motion_added pictures p s unit old.motions) old.gathered) e)
 
 pub behind_unit : (bases pictures : List HeldPicture) (p q : PicturePlan) (s : SegmentPlan) (unit : TreeUnit)
-    (format : UnitFormat) (old : Behind) (motions now : Motions) (gathered : FilterData)
-    → bases ≡ pictures → q ≡ p → now ≡ motions → IsDepth format.luma_depth → AreSound format unit.read.items
+    (format : UnitFormat) (old : Behind) (motions : Motions) (gathered : FilterData) (given : UnitFilters)
+    → bases ≡ pictures → q ≡ p → IsDepth format.luma_depth → AreSound format unit.read.items
     → (All IsPlacedItem unit.read.items → motions ≡ motion_added (motions_of (buffer_of bases)) p s unit old.motions)
     → (All IsPlacedItem unit.read.items → ((i j : ℕ) → qp_at unit.read.items i j ≤ 127)
-    → gathered ≡ read_added q s unit.ctu unit.read now old.gathered)
+    → IsGiven p s unit.ctu unit.read (motion_added (motions_of (buffer_of bases)) p s unit old.motions)
+    old.gathered.coded given)
+    → ((ctu : Ctu) (motions : Motions) → IsGiven q s unit.ctu ctu motions old.gathered.coded given
+    → gathered ≡ read_added q s unit.ctu ctu motions old.gathered)
     → of_parts motions gathered ≡ added_in (motions_of (buffer_of pictures)) p (Some s) unit old
-behind_unit bases pictures p q s unit format old motions now gathered eb e same depth sound moved told =
-    behind_over (motions_of (buffer_of bases)) p q s unit format old motions now gathered e same depth sound moved told
+behind_unit bases pictures p q s unit format old motions gathered given eb e depth sound moved gives laid =
+    behind_over (motions_of (buffer_of bases)) p q s unit format old motions gathered e depth sound moved
+    (λ placed few. laid unit.read (motion_added (motions_of (buffer_of bases)) p s unit old.motions)
+    (subst (λ r. IsGiven r s unit.ctu unit.read (motion_added (motions_of (buffer_of bases)) p s unit old.motions)
+    old.gathered.coded given) (sym e) (gives placed few)))
     ∙ ap (λ b. added_in (motions_of (buffer_of b)) p (Some s) unit old) eb

@@ -1,6 +1,6 @@
 -- A picture while its units are built one after the other.
-use Rattle.std.proofs.Common.{◌≡◌, ℕ, List, [], ◌∷◌, ◌++◌, length, slice_get, Option, Some, None, Ok, sym, ap, subst}
-use Rattle.std.proofs.Common.{◌∙◌, arith}
+use Rattle.std.proofs.Common.{◌≡◌, ℕ, List, [], ◌∷◌, ◌++◌, length, slice_get, Option, Some, None, Ok, refl, sym}
+use Rattle.std.proofs.Common.{ap, subst, ◌∙◌, arith}
 use Rattle.std.specs.List.{All}
 use Rattle.std.proofs.Math.Path.{fun_ext}
 use Rattle.std.proofs.Math.Seq.{get_or-append_seam}
@@ -17,9 +17,9 @@ use Rattle.spec_picture_build.specs.Border.{Samples, no_samples}
 use Rattle.spec_picture_build.specs.Built.{BuiltPicture, added_in, built_of, no_picture, picture_built, unit_added}
 use Rattle.spec_picture_build.specs.Built.{units_built, with_unit}
 use Rattle.spec_picture_build.specs.References.{DecodedPicture, motions_of as motions_at}
-use Rattle.picture_buffer.specs.Motion.{motions_of}
-use Rattle.picture_buffer.specs.Planes.{samples_of}
-use Rattle.picture_filters.specs.Filtering.{data_of}
+use Rattle.picture_buffer.specs.Motion.{FieldPlaces, motions_of}
+use Rattle.picture_buffer.specs.Planes.{PictureSamples, samples_of}
+use Rattle.picture_filters.specs.Filtering.{Filtering, data_of}
 use Rattle.picture_trees.specs.Given.{AreAll}
 use Rattle.picture_build.specs.Building.{Building, IsBuilt, IsSoundUnit, behind_by, built_by}
 use Rattle.picture_build.proofs.Behind.{behind_more, behind_none}
@@ -34,15 +34,25 @@ same_picture s t m n es em = ap (λ v. of_parts v m) es ∙ ap (λ v. of_parts t
 -- no unit is built
 pub built_none : (buffer : List DecodedPicture) (building : Building) (p : PicturePlan) → building.plan ≡ p
     → ((c x y : ℕ) → samples_of building.planes c x y ≡ 0)
-    → motions_of building.motion.field ≡ no_motions → data_of building.filters ≡ no_data → IsBuilt buffer building p []
+    → motions_of building.motion ≡ no_motions → data_of building.filters ≡ no_data → IsBuilt buffer building p []
 unfolding units_built
 built_none buffer building p plan none still empty = record {
   plan = plan;
   picture =
       λ sound. same_picture _ no_samples _ no_motions (fun_ext (λ c. fun_ext (λ x. fun_ext (λ y. none c x y)))) still;
-  behind = λ sound. behind_none (motions_at buffer) p (motions_of building.motion.field)
+  behind = λ sound. behind_none (motions_at buffer) p (motions_of building.motion)
       (data_of building.filters) still empty;
 }
+
+pub built_first : (buffer : List DecodedPicture) (p : PicturePlan) (planes held : PictureSamples)
+    (field kept : FieldPlaces) (filters : Filtering)
+    → held ≡ planes → kept ≡ field → ((c x y : ℕ) → samples_of planes c x y ≡ 0)
+    → ((x y : ℕ) → motions_of field x y ≡ None) → data_of filters ≡ no_data
+    → IsBuilt buffer (record { plan = p; planes = held; motion = kept; filters = filters }) p []
+built_first buffer p planes held field kept filters ep ef none still empty =
+    built_none buffer (record { plan = p; planes = held; motion = kept; filters = filters }) p refl
+    (λ c x y. ap (λ v. samples_of v c x y) ep ∙ none c x y)
+    (ap motions_of ef ∙ fun_ext (λ x. fun_ext (λ y. still x y))) empty
 
 -- a unit of a segment of the picture, and one of none
 pub with_some : (buffer : List DecodedPicture) (p : PicturePlan) (built : BuiltPicture) (unit : TreeUnit)

@@ -1,28 +1,17 @@
--- The motion of a unit over that of a picture of the buffer, and the ranges that deriving asks for.
-use Rattle.std.proofs.Common.{◌≡◌, ℕ, ◌≤◌, List, Option, get_or, option_map, ap, sym, arith}
+-- The ranges that deriving a unit's motion asks for.
+use Rattle.std.proofs.Common.{◌≤◌, List, get_or, arith}
 use Rattle.std.specs.List.{All}
 use Rattle.ctu_records.specs.declared.item.Item.{Item}
-use Rattle.ctu_records.specs.declared.item.Item.TheVariants.{Unit, Luma, Chroma, Prediction, Pcm, Sample, Transform}
-use Rattle.ctu_records.specs.declared.item.Item.TheVariants.{Delta, Block, Level}
+use Rattle.ctu_records.specs.declared.item.Item.TheVariants.{Prediction}
 use Rattle.ctu_records.specs.declared.prediction.PartMode.{PartMode}
 use Rattle.ctu_records.specs.declared.prediction.PartMode.TheVariants.{Whole, TwoNxN, Nx2N, NxN, TwoNxnU, TwoNxnD}
 use Rattle.ctu_records.specs.declared.prediction.PartMode.TheVariants.{NLx2N, NRx2N}
 use Rattle.ctu_records.specs.declared.prediction.PredictionUnit.{PredictionUnit}
-use Rattle.picture_buffer.specs.Pictures.{HeldPicture}
 use Rattle.spec_motion.specs.Derivation.{IsPlaced}
 use Rattle.spec_motion.specs.Units.{IsPlacedItem}
-use Rattle.spec_picture_build.specs.References.{motions_in, motions_of}
 use Rattle.spec_reconstruction.specs.declared.format.UnitFormat.{UnitFormat}
 use Rattle.spec_reconstruction.specs.Sound.{AreSound, IsPrediction, IsSound}
 use Rattle.spec_slice_data.specs.Inter.{part_count}
-use Rattle.picture_build.specs.Pictures.{buffer_of, decoded_of}
-use Rattle.picture_build.proofs.Referring.{held_at}
-use Rattle.std.proofs.Common.{slice_get}
-
--- the motion of the picture at a place of the buffer
-pub motions_are : (bases : List HeldPicture) (place : ℕ) (o : Option HeldPicture) → slice_get bases place ≡ o
-    → motions_in (option_map decoded_of o) ≡ motions_of (buffer_of bases) place
-motions_are bases place o e = ap motions_in (sym (held_at bases place o e))
 
 few_parts : (mode : PartMode) → part_count mode ≤ 4
 unfolding part_count

@@ -128,7 +128,7 @@ pub decoded_is : (building : Building) (picture : PictureShape) (format : Pictur
     → HasSides building.planes (4 * picture.across) (4 * picture.down)
     → HasSides new building.filters.plan.sps.format.pic_width_in_luma_samples
     building.filters.plan.sps.format.pic_height_in_luma_samples
-    → format ≡ building.plan.sps.format → field ≡ building.motion.field
+    → format ≡ building.plan.sps.format → field ≡ building.motion
     → AreFiltered building.filters.plan (data_of building.filters) building.planes new
     → of_parts format (samples_of new) (motions_of field)
     ≡ decoded_by building.plan (units_by building)

@@ -10,11 +10,11 @@ use Rattle.spec_picture_build.specs.Border.{Samples, has_sample, height_of, unit
 use Rattle.spec_picture_build.specs.Border.{width_of}
 use Rattle.spec_picture_trees.specs.Places.{unit_at}
 use Rattle.spec_picture_build.specs.Built.{is_of_unit, unit_laid}
-use Rattle.picture_build.specs.declared.part.Part.{Part}
-use Rattle.picture_build.specs.Parts.{IsPart, IsRoom, is_in_part}
-use Rattle.picture_build.proofs.Planes.{whole_part}
-use Rattle.picture_build.proofs.Tests.{other}
-use Rattle.picture_build.proofs.Units.{of_unit}
+use Rattle.unit_build.specs.declared.part.Part.{Part}
+use Rattle.unit_build.specs.Parts.{IsPart, IsRoom, is_in_part}
+use Rattle.unit_build.proofs.Covering.{whole_part}
+use Rattle.unit_build.proofs.Tests.{other}
+use Rattle.unit_build.proofs.Units.{of_unit}
 
 without : (r s t : Bool) → r ≡ true → ((r && s) && t) ≡ (s && t)
 without true s t e = refl

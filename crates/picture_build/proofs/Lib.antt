@@ -1,15 +1,10 @@
-pub mod Places
-pub mod Tests
-pub mod Units
-pub mod Sizes
 pub mod Planes
-pub mod Known
 pub mod Laid
 pub mod Rows
 pub mod Behind
 pub mod Built
 pub mod Filtered
 pub mod Referring
-pub mod Weighing
 pub mod Deriving
 pub mod Added
+pub mod Work

@@ -1,15 +1,14 @@
 -- Lines of a part of a unit, one after the other.
-use Rattle.std.proofs.Common.{◌≡◌, ℕ, ◌+◌, ◌-◌, ◌<◌, ◌≤◌, ◌==◌, ◌&&◌, ◌||◌, nat_le, nat_lt, Bool, true, List, Some}
+use Rattle.std.proofs.Common.{◌≡◌, ℕ, ◌+◌, ◌-◌, ◌<◌, ◌≤◌, ◌==◌, ◌&&◌, ◌||◌, nat_le, nat_lt, Bool, true, List}
 use Rattle.std.proofs.Common.{length, get_or, take, drop, ap, ◌∙◌, if◌then◌else◌, ◌⊎◌, inl, inr, arith}
 use Rattle.std.specs.Option.{unwrap_or}
 use Rattle.std.proofs.lemmas.Bool.Decides.{nat_tests}
 use Rattle.std.proofs.lemmas.List.{get_or-drop, get_or-take, length-drop, length-take-le}
 use Rattle.spec_reconstruction.specs.Known.{Known}
 use Rattle.spec_picture_build.specs.Border.{Samples}
-use Rattle.picture_build.specs.declared.part.Part.{Part}
-use Rattle.picture_build.specs.Beside.{sample_at}
-use Rattle.picture_build.specs.Parts.{is_in_part}
-use Rattle.picture_build.proofs.Tests.{merged}
+use Rattle.unit_build.specs.declared.part.Part.{Part}
+use Rattle.unit_build.specs.Parts.{is_in_part}
+use Rattle.unit_build.proofs.Tests.{merged}
 
 -- a part of a list
 piece_length : (xs : List ℕ) (from n : ℕ) → from + n ≤ length xs → length (take n (drop from xs)) ≡ n
@@ -17,56 +16,6 @@ piece_length xs from n fits = length-take-le n (drop from xs) (omega (arith, len
 
 piece_at : (xs : List ℕ) (from n i : ℕ) → i < n → get_or (take n (drop from xs)) i 0 ≡ get_or xs (from + i) 0
 piece_at xs from n i lt = get_or-take n (drop from xs) i 0 lt ∙ get_or-drop from xs i 0
-
--- the tests of a column's next line
-one_left : (c d j k n line L : ℕ) → n ≡ 1 → line + 1 ≤ L
-    → (((d == c) && ((k == line + 1) && (nat_le 0 j && nat_lt j (0 + n))))
-    || (d == c && (j == 0 && (nat_le 1 k && (nat_le k line && nat_le k L)))))
-    ≡ (d == c && (j == 0 && (nat_le 1 k && (nat_le k (line + 1) && nat_le k L))))
-one_left c d j k n line L one fits = grind (arith, nat_tests)
-
--- the next line of the column on the left
-pub left_more : (part : Part) (samples : Samples) (line : ℕ) (row : List ℕ) (old mid new : Known) (w : ℕ) → 1 ≤ part.x
-    → part.x < w → length row ≡ w → line + 1 ≤ part.height - part.y
-    → ((x : ℕ) → x < w → get_or row x 0 ≡ samples part.c x (part.y + line))
-    → ((i j k : ℕ)
-    → mid i j k
-    ≡ (if i == part.c && (j == 0 && (nat_le 1 k && (nat_le k line && nat_le k (part.height - part.y))))
-    then Some (sample_at part samples i j k)
-    else old i j k))
-    → ((i j k : ℕ) → new i j k
-    ≡ (if (i == part.c)
-    && ((k == line + 1) && (nat_le 0 j && nat_lt j (0 + length (take (part.x - (part.x - 1)) (drop (part.x - 1) row)))))
-    then Some (get_or (take (part.x - (part.x - 1)) (drop (part.x - 1) row)) (j - 0) 0)
-    else mid i j k))
-    → (i j k : ℕ) → new i j k
-    ≡ (if i == part.c && (j == 0 && (nat_le 1 k && (nat_le k (line + 1) && nat_le k (part.height - part.y))))
-    then Some (sample_at part samples i j k)
-    else old i j k)
-left_more part samples line row old mid new w some inside count fits told m n i j k =
-    let X : List ℕ = take (part.x - (part.x - 1)) (drop (part.x - 1) row) in
-    let one : length (take (part.x - (part.x - 1)) (drop (part.x - 1) row)) ≡ 1 =
-    piece_length row (part.x - 1) (part.x - (part.x - 1)) (omega (arith, count)) ∙ omega arith in
-    let value : get_or (take (part.x - (part.x - 1)) (drop (part.x - 1) row)) 0 0
-    ≡ samples part.c (part.x - 1) (part.y + line) =
-    piece_at row (part.x - 1) (part.x - (part.x - 1)) 0 (omega arith) ∙ ap (λ q. get_or row q 0) (omega arith)
-    ∙ told (part.x - 1) (omega arith) in
-    let same : ((i == part.c) && ((k == line + 1) && (nat_le 0 j && nat_lt j (0 + length X)))) ≡ true
-    → Some (get_or X (j - 0) 0) ≡ Some (sample_at part samples i j k) =
-    λ t.
-    let ec : part.c ≡ i = grind (arith, nat_tests) in
-    let ek : k ≡ line + 1 = grind (arith, nat_tests) in
-    let lt : j < length X = grind (arith, nat_tests) in
-    let ej : j - 0 ≡ 0 = omega (arith, lt, one) in
-    let ex : part.x - 1 ≡ part.x + j - 1 = omega (arith, lt, one) in
-    let ey : part.y + line ≡ part.y + k - 1 = omega (arith, ek) in
-    ap (λ v. Some v)
-    (ap (λ q. get_or X q 0) ej ∙ value ∙ ap (λ d. samples d (part.x - 1) (part.y + line)) ec
-    ∙ ap (λ x. samples i x (part.y + line)) ex ∙ ap (λ y. samples i (part.x + j - 1) y) ey) in
-    merged ((i == part.c) && ((k == line + 1) && (nat_le 0 j && nat_lt j (0 + length X)))) _ _
-    (Some (sample_at part samples i j k)) (old i j k) (mid i j k) (new i j k) same (m i j k) (n i j k)
-    ∙ ap (λ (t : Bool). if t then Some (sample_at part samples i j k) else old i j k)
-    (one_left part.c i j k (length X) line (part.height - part.y) one fits)
 
 -- the tests of a part's next line
 one_laid : (c d j k x y side width height columns line n : ℕ) → n ≡ columns → columns ≤ side → columns ≤ width - x

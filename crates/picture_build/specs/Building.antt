@@ -10,11 +10,10 @@ use Rattle.spec_decoded_pictures.specs.Decoded.{DecodedUnits, joined}
 use Rattle.spec_picture_filters.specs.Filtered.{Behind, units_behind}
 use Rattle.spec_picture_build.specs.Format.{unit_format}
 use Rattle.spec_picture_build.specs.References.{DecodedPicture, motions_of as motions_at}
-use Rattle.picture_buffer.specs.Motion.{motions_of}
+use Rattle.picture_buffer.specs.Motion.{FieldPlaces, motions_of}
 use Rattle.picture_filters.specs.Filtering.{Filtering, data_of}
 use Rattle.picture_buffer.specs.Pictures.{HeldPicture}
 use Rattle.picture_buffer.specs.Planes.{PictureSamples, samples_of}
-use Rattle.picture_motion.specs.Deriving.{Deriving}
 use Rattle.picture_build.specs.Pictures.{decoded_of}
 use Rattle.picture_trees.specs.declared.trees.ReadError.{ReadError}
 use Rattle.picture_trees.specs.declared.trees.ReadError.TheVariants as error
@@ -23,12 +22,12 @@ use Rattle.picture_trees.specs.declared.trees.ReadError.TheVariants as error
 pub record Building : Type 0 where
   pub plan : PicturePlan
   pub planes : PictureSamples
-  pub motion : Deriving
+  pub motion : FieldPlaces
   pub filters : Filtering
 
 -- the picture so far
 abbrev pub built_by : Building → BuiltPicture
-built_by building = record { samples = samples_of building.planes; motions = motions_of building.motion.field }
+built_by building = record { samples = samples_of building.planes; motions = motions_of building.motion }
 
 -- all that its units so far make of it
 abbrev pub units_by : Building → DecodedUnits
@@ -36,7 +35,7 @@ units_by building = joined (built_by building) (data_of building.filters)
 
 -- its motion, and what its loop filters need
 abbrev pub behind_by : Building → Behind
-behind_by building = record { motions = motions_of building.motion.field; gathered = data_of building.filters }
+behind_by building = record { motions = motions_of building.motion; gathered = data_of building.filters }
 
 -- the items of a unit are in the ranges for which samples are told
 abbrev pub IsSoundUnit : PicturePlan → TreeUnit → Type 0

@@ -1,5 +1,4 @@
-pub mod Parts
-pub mod Beside
 pub mod Formats
 pub mod Pictures
 pub mod Building
+pub mod Standing

@@ -1,103 +1,138 @@
-//! What is known beside a coding tree unit (6.4.1).
+//! What stands beside the coding tree units of a picture that is built.
 
-ghost use Rattle.std.specs.Prelude.{◌≡◌, ℕ, ◌+◌, ◌*◌, ◌<◌, ◌≤◌, ◌==◌, Some, None, if◌then◌else◌};
-ghost use Rattle.ctu_build.specs.Held.{held};
-ghost use Rattle.picture_buffer.specs.Planes.{HasSides, plane_height, plane_width, samples_of};
-ghost use Rattle.picture_build.specs.Beside.{first_above, has_left, is_above, is_left, sample_at};
-ghost use Rattle.picture_build.specs.Parts.{IsPart, IsRoom};
-ghost use Rattle.spec_picture_build.specs.Border.{known_beside};
+ghost use Rattle.std.specs.Prelude.{◌≡◌, ◌*◌};
+ghost use Rattle.picture_buffer.specs.Planes.{HasSides};
+ghost use Rattle.picture_build.specs.Pictures.{buffer_of};
+ghost use Rattle.spec_picture_build.specs.References.{motions_of as motions_at};
 
-use crate::part::Part;
-use ctu_build::UnitSamples;
-use picture_buffer::Planes;
+use header_types::RefEntry;
+use picture_buffer::{Bases, MotionField, PlaceMotion, Planes};
+use picture_filters::PictureFilters;
 use picture_layout::CodingTreeUnit;
+use picture_motion::{MotionBeneath, MotionBeside};
+use std::marker::Model;
+use unit_build::{Beside, Part};
 
-/// What is known beside a unit becomes known, and nothing else is.
-pub(crate) fn gather(unit: &CodingTreeUnit, planes: &Planes, samples: &mut UnitSamples)
-    requires { HasSides planes.now (4 * unit.now.layout.across) (4 * unit.now.layout.down) }
-    ensures { held samples.new ≡ known_beside unit.now.layout unit.now.slice unit.now.address (samples_of planes.now) }
-{
-    samples.restart();
-    gather_component(unit, 0, planes, samples);
-    gather_component(unit, 1, planes, samples);
-    gather_component(unit, 2, planes, samples);
+/// What is built of a picture, beside one of its units, and the pictures of the decoded picture buffer before it.
+#[derive(Drop)]
+pub(crate) struct PictureBeside<'a> {
+    unit: CodingTreeUnit,
+    built: Built<'a>,
+    /// The entry of the collocated picture in the lists of the unit's slice.
+    entry: Option<RefEntry>,
 }
 
-/// What is known of a component beside it.
-fn gather_component(unit: &CodingTreeUnit, c: usize, planes: &Planes, samples: &mut UnitSamples)
-    requires component { c < 3 }
-    requires sides { HasSides planes.now (4 * unit.now.layout.across) (4 * unit.now.layout.down) }
-    ensures { ((j k : ℕ) → held samples.old c j k ≡ None) → (i j k : ℕ)
-        → held samples.new i j k
-        ≡ (if i == c then known_beside unit.now.layout unit.now.slice unit.now.address (samples_of planes.now) i j k
-        else held samples.old i j k) }
-{
-    let part = Part::of_unit(unit, c);
-    gather_above(part, first_above(unit, part), planes, samples);
-    if has_left(unit) {
-        gather_left(part, planes, samples);
+/// What is built of a picture, and the pictures before it.
+#[derive(Clone, Copy)]
+pub(crate) struct Built<'a> {
+    /// Its samples before the loop filters.
+    pub(crate) planes: &'a Planes,
+    /// Its motion.
+    pub(crate) field: &'a MotionField,
+    /// What its loop filters need.
+    pub(crate) filters: &'a PictureFilters<'a>,
+    /// The pictures of the decoded picture buffer before it.
+    pub(crate) bases: &'a Bases,
+}
+
+impl<'a> Model for PictureBeside<'a> {
+    ghost use Rattle.std.specs.Prelude.{◌*◌};
+    ghost use Rattle.picture_buffer.specs.Planes.{HasSides};
+    ghost use Rattle.picture_build.specs.Standing.{Standing};
+
+    ghost Value = { Standing };
+
+    ghost view = { λ v. record {
+      unit = v.unit;
+      planes = v.built.planes.now;
+      motion = v.built.field.now;
+      filters = v.built.filters.now;
+      bases = v.built.bases.now;
+      entry = v.entry;
+    } };
+
+    ghost invariant = { λ v. HasSides v.built.planes.now (4 * v.unit.layout.across) (4 * v.unit.layout.down) };
+}
+
+impl<'a> PictureBeside<'a> {
+    /// Beside this unit, of a slice with this entry for the collocated picture.
+    pub(crate) fn new(
+        unit: CodingTreeUnit,
+        built: Built<'a>,
+        entry: Option<RefEntry>,
+    ) -> PictureBeside<'a>
+        requires { HasSides built.planes.now (4 * unit.layout.across) (4 * unit.layout.down) }
+        ensures { result ≡ record {
+          unit = unit;
+          planes = built.entry.planes.now;
+          motion = built.entry.field.now;
+          filters = built.entry.filters.now;
+          bases = built.entry.bases.now;
+          entry = entry;
+        } }
+    {
+        PictureBeside { unit, built, entry }
     }
 }
 
-/// The first column of the line above a part of a unit that is of a unit of its slice.
-#[tactic(auto, unfolding(crate::specs::Beside::first_above))]
-fn first_above(unit: &CodingTreeUnit, part: Part) -> usize
-    requires part { IsPart unit.now.layout unit.now.address part }
-    requires room { IsRoom part }
-    ensures value { result ≡ first_above unit.now.layout unit.now.slice unit.now.address part.side }
-    ensures some { 1 ≤ part.x + result }
-    ensures small { result ≤ 129 }
-{
-    let units = unit.slice as usize + unit.layout.width() as usize;
-    let address = unit.address as usize;
-    if units + 1 <= address && unit.layout.column(unit.address) > 0 {
-        0
-    } else if units <= address {
-        1
-    } else if units <= address + 1 {
-        part.side + 1
-    } else {
-        2 * part.side + 1
+impl<'a> MotionBeside for PictureBeside<'a> {
+    ghost use Rattle.picture_buffer.specs.Motion.{motions_of};
+
+    ghost motion_at = { λ v. motions_of v.motion };
+
+    fn motion(&self, x: usize, y: usize) -> Option<PlaceMotion> {
+        self.built.field.at(x, y)
     }
 }
 
-/// Whether the unit on the left is of its slice.
-fn has_left(unit: &CodingTreeUnit) -> bool
-    ensures { result ≡ has_left unit.now.layout unit.now.slice unit.now.address }
-{
-    unit.layout.column(unit.address) > 0 && unit.slice < unit.address
-}
+impl<'a> MotionBeneath for PictureBeside<'a> {
+    ghost use Rattle.picture_build.specs.Standing.{collocated_by};
 
-/// The line above a part of a unit, from a column on.
-fn gather_above(part: Part, first: usize, planes: &Planes, samples: &mut UnitSamples)
-    requires room { IsRoom part }
-    requires width { plane_width planes.now part.c ≡ part.width }
-    requires height { plane_height planes.now part.c ≡ part.height }
-    requires some { 1 ≤ part.x + first }
-    requires few { first ≤ 129 }
-    ensures { (i j k : ℕ) → held samples.new i j k
-        ≡ (if is_above part first i j k then Some (sample_at part (samples_of planes.now) i j k)
-        else held samples.old i j k) }
-{
-    let last = (2 * part.side).min(part.width - part.x);
-    if 1 <= part.y && part.y <= part.height && first <= last {
-        let row = planes.row(part.c, (part.y - 1) as u32);
-        samples.put_line(part.c, first, 0, &row[part.x + first - 1..part.x + last]);
+    ghost collocated_at = { λ v. collocated_by v };
+
+    fn collocated(&self, x: usize, y: usize) -> Option<PlaceMotion> {
+        match self.entry {
+            Some(entry) => motion_in(self.built.bases, entry.place, x, y),
+            None => None,
+        }
     }
 }
 
-/// The column on its left.
-fn gather_left(part: Part, planes: &Planes, samples: &mut UnitSamples)
-    requires room { IsRoom part }
-    requires width { plane_width planes.now part.c ≡ part.width }
-    requires height { plane_height planes.now part.c ≡ part.height }
-    requires some { 1 ≤ part.x }
-    ensures { (i j k : ℕ) → held samples.new i j k
-        ≡ (if is_left part i j k then Some (sample_at part (samples_of planes.now) i j k) else held samples.old i j k) }
+impl<'a> Beside for PictureBeside<'a> {
+    ghost use Rattle.picture_buffer.specs.Planes.{samples_of};
+    ghost use Rattle.picture_filters.specs.Filtering.{data_of};
+
+    ghost unit_of = { λ v. v.unit };
+
+    ghost sample_at = { λ v. samples_of v.planes };
+
+    ghost coded_at = { λ v. (data_of v.filters).coded };
+
+    fn unit(&self) -> CodingTreeUnit {
+        self.unit
+    }
+
+    fn above(&self, part: Part, first: usize, end: usize) -> &[u16] {
+        let row = self.built.planes.row(part.c, (part.y - 1) as u32);
+        &row[first..end]
+    }
+
+    fn left(&self, part: Part, line: usize) -> u16 {
+        let row = self.built.planes.row(part.c, (part.y + line) as u32);
+        row[part.x - 1]
+    }
+
+    fn coded(&self, x: usize, y: usize) -> bool {
+        self.built.filters.coded(x, y)
+    }
+}
+
+/// The motion of a place of the picture at a place of the buffer.
+fn motion_in(bases: &Bases, place: u32, x: usize, y: usize) -> Option<PlaceMotion>
+    ensures { result ≡ motions_at (buffer_of bases.now) place x y }
 {
-    let lines = part.side.min(part.height.saturating_sub(part.y));
-    for line in 0..lines {
-        let row = planes.row(part.c, (part.y + line) as u32);
-        samples.put_line(part.c, 0, line + 1, &row[part.x - 1..part.x]);
+    match bases.get(place) {
+        Some(picture) => picture.motion().at(x, y),
+        None => None,
     }
 }

@@ -14,24 +14,24 @@ ghost use Rattle.spec_picture_build.specs.Format.{unit_format};
 ghost use Rattle.spec_picture_build.specs.References.{greatest_sample, motions_of as motions_at};
 ghost use Rattle.spec_reconstruction.specs.Sound.{AreSound};
 
-use crate::beside::gather;
+use crate::beside::Built;
 use crate::format::{common_format, set_slice};
 use crate::lines::lay_unit;
-use crate::motion::{Source, derive};
-use crate::samples::{Depends, build_unit};
 use crate::spare::empty_parts;
-use ctu_build::{Scratch, UnitSamples};
+use crate::unit::build_beside;
+use ctu_build::Scratch;
 use ctu_records::Records;
 use loop_filters::FilterScratch;
-use picture_buffer::{Bases, Picture, Planes};
+use picture_buffer::{Bases, MotionField, Picture, Planes};
 use picture_filters::PictureFilters;
 use picture_layout::{CodingTreeUnit, Layout, slice_address};
-use picture_motion::PictureMotion;
+use picture_motion::lay_unit as lay_motion;
 use picture_trees::Trees;
 use plan_types::{PicturePlan, SegmentPlan};
 use spec_reconstruction::UnitFormat;
 use std::alloc::{AllocError, Global};
 use std::marker::{Brand, Model, PhantomData};
+use unit_build::{BuiltUnit, UnitSource};
 
 /// The pictures of the decoded picture buffer, which stay the same while a picture is built.
 pub(crate) trait Buffer {
@@ -52,14 +52,16 @@ pub(crate) struct PictureBuilder<'a, B: Buffer> {
     /// What the samples of the next unit depend on, once the offsets of its slice are set.
     format: UnitFormat,
     planes: Planes,
-    motion: PictureMotion<'a>,
+    field: MotionField,
     filters: PictureFilters<'a>,
-    samples: UnitSamples,
     scratch: Scratch,
+    /// What the last unit's work left.
+    unit: BuiltUnit,
 }
 
 impl<'a, B: Buffer> Model for PictureBuilder<'a, B> {
     ghost use Rattle.std.specs.Prelude.{◌≡◌, ◌*◌};
+    ghost use Rattle.picture_buffer.specs.Motion.{HasPlaces};
     ghost use Rattle.picture_buffer.specs.Planes.{HasSides};
     ghost use Rattle.picture_build.specs.Building.{Building};
     ghost use Rattle.picture_build.specs.Formats.{IsCommon};
@@ -68,7 +70,7 @@ impl<'a, B: Buffer> Model for PictureBuilder<'a, B> {
 
     ghost Value = { Building };
 
-    ghost view = { λ b. record { plan = b.plan.now; planes = b.planes; motion = b.motion; filters = b.filters } };
+    ghost view = { λ b. record { plan = b.plan.now; planes = b.planes; motion = b.field; filters = b.filters } };
 
     ghost invariant = { λ b. (b.layout ≡ picture_shape b.plan.now.sps b.plan.now.pps)
         × HasSides b.planes (4 * b.layout.across) (4 * b.layout.down)
@@ -76,7 +78,7 @@ impl<'a, B: Buffer> Model for PictureBuilder<'a, B> {
         × (4 * b.layout.down ≡ b.plan.now.sps.format.pic_height_in_luma_samples)
         × IsFormat b.format
         × IsCommon b.plan.now.sps b.plan.now.pps b.format
-        × (b.motion.plan ≡ b.plan.now)
+        × HasPlaces b.field b.layout.across b.layout.down
         × (b.filters.plan ≡ b.plan.now)
         × (b.bases.now ≡ B.pictures) };
 }
@@ -102,10 +104,10 @@ impl<'a, B: Buffer> PictureBuilder<'a, B> {
             layout: Layout::new(plan),
             format: common_format(alloc, plan)?,
             planes,
-            motion: PictureMotion::over(plan, field),
+            field,
             filters: PictureFilters::new(alloc, plan, scratch)?,
-            samples: UnitSamples::new(),
             scratch: Scratch::new(),
+            unit: BuiltUnit::new(),
         })
     }
 
@@ -118,7 +120,7 @@ impl<'a, B: Buffer> PictureBuilder<'a, B> {
         let mut filters = self.filters;
         filters.filter(&mut planes);
         let format = self.plan.sps.fields().format;
-        let picture = Picture::new(format, planes, self.motion.into_field());
+        let picture = Picture::new(format, planes, self.field);
         (picture, filters.into_scratch())
     }
 
@@ -155,36 +157,36 @@ impl<'a, B: Buffer> PictureBuilder<'a, B> {
             ≡ added_in (motions_at (buffer_of B.pictures)) self.old.plan (Some segment.now)
             (tree_unit number address records.now) (behind_by self.old) }
     {
-        let source = Source {
-            plan: self.plan,
-            bases: self.bases,
-            segment,
-        };
-        derive(&source, address, records, &mut self.motion);
-        self.filters
-            .add(segment, address, records, self.motion.field());
         let unit = CodingTreeUnit {
             layout: self.layout,
             slice: slice_address(self.plan, segment),
             address,
         };
-        if let Some(row) = unit.first_row_there() {
-            set_slice(
-                &mut self.format,
-                &self.plan.pps,
-                &segment.header.fields().slice,
-            );
-            gather(&unit, &self.planes, &mut self.samples);
-            let on = Depends {
-                source,
-                unit,
-                row,
-                format: &self.format,
-                motion: &self.motion,
-            };
-            build_unit(&on, records, &mut self.scratch, &mut self.samples);
-            lay_unit(&unit, &self.samples, &mut self.planes);
-        }
+        let slice = &segment.header.fields().slice;
+        set_slice(&mut self.format, &self.plan.pps, slice);
+        let source = UnitSource {
+            plan: self.plan,
+            segment,
+            format: &self.format,
+        };
+        let built = Built {
+            planes: &self.planes,
+            field: &self.field,
+            filters: &self.filters,
+            bases: self.bases,
+        };
+        build_beside(
+            &source,
+            &unit,
+            built,
+            records,
+            &mut self.scratch,
+            &mut self.unit,
+        );
+        lay_unit(&unit, &self.unit.samples, &mut self.planes);
+        let (pointing, motion) = (&self.unit.slice, &self.unit.motion);
+        lay_motion(&unit, pointing, motion, &mut self.field);
+        self.filters.lay(segment, address, &self.unit.filters);
     }
 }
 

@@ -8,12 +8,9 @@ mod builder;
 mod factors;
 mod format;
 mod lines;
-mod motion;
-mod part;
 mod picture;
 mod references;
-mod samples;
 mod spare;
-mod weights;
+mod unit;
 
 pub use picture::build_picture;

@@ -4,13 +4,14 @@ ghost use Rattle.std.specs.Prelude.{◌≡◌, ℕ, ◌+◌, ◌-◌, ◌*◌, �
 ghost use Rattle.std.specs.Option.{unwrap_or};
 ghost use Rattle.ctu_build.specs.Held.{held};
 ghost use Rattle.picture_buffer.specs.Planes.{HasSides, samples_of};
-ghost use Rattle.picture_build.specs.Parts.{IsPart, IsRoom, is_in_part};
+ghost use Rattle.picture_layout.specs.Shape.{IsShape};
+ghost use Rattle.unit_build.specs.Parts.{IsPart, IsRoom, is_in_part};
 ghost use Rattle.spec_picture_build.specs.Built.{unit_laid};
 
-use crate::part::Part;
 use ctu_build::UnitSamples;
 use picture_buffer::Planes;
 use picture_layout::CodingTreeUnit;
+use unit_build::Part;
 
 /// Lays the samples of a unit into the picture.
 pub(crate) fn lay_unit(unit: &CodingTreeUnit, samples: &UnitSamples, planes: &mut Planes)
@@ -18,6 +19,7 @@ pub(crate) fn lay_unit(unit: &CodingTreeUnit, samples: &UnitSamples, planes: &mu
     ensures value { samples_of planes.new
         ≡ unit_laid unit.now.layout unit.now.address (held samples.now) (samples_of planes.old) }
     ensures sides { HasSides planes.new (4 * unit.now.layout.across) (4 * unit.now.layout.down) }
+    ensures shape { IsShape unit.now.layout }
 {
     lay_component(unit, 0, samples, planes);
     lay_component(unit, 1, samples, planes);
@@ -32,6 +34,7 @@ fn lay_component(unit: &CodingTreeUnit, c: usize, samples: &UnitSamples, planes:
         ≡ (if i == c then unit_laid unit.now.layout unit.now.address (held samples.now) (samples_of planes.old) i j k
         else samples_of planes.old i j k) }
     ensures sides { HasSides planes.new (4 * unit.now.layout.across) (4 * unit.now.layout.down) }
+    ensures shape { IsShape unit.now.layout }
 {
     lay_part(unit, Part::of_unit(unit, c), samples, planes);
 }

@@ -1,14 +1,12 @@
 //! What is known beside a coding tree unit, apart from motion (8.7.2.1).
 
-ghost use Rattle.std.specs.Prelude.{◌≡◌, ◌+◌, ◌-◌, ◌≤◌, ◌&&◌, ◌||◌, nat_le, nat_lt};
-ghost use Rattle.picture_filters.specs.Places.{places_of};
-ghost use Rattle.picture_filters.specs.Filtering.{IsCodedAbove, IsCodedLeft, IsUnit, coded_part};
+ghost use Rattle.std.specs.Prelude.{◌≡◌, ◌-◌, ◌≤◌, ◌&&◌, ◌||◌, nat_le, nat_lt};
+ghost use Rattle.picture_filters.specs.Filtering.{IsUnit};
 ghost use Rattle.spec_picture_trees.specs.Shapes.{qp_bd_offset};
-ghost use Rattle.spec_picture_filters.specs.Units.{coded_near, is_left_filtered, is_reached, is_top_filtered};
+ghost use Rattle.spec_picture_filters.specs.Units.{is_left_filtered, is_reached, is_top_filtered};
 ghost use Rattle.spec_picture_filters.specs.Units.{pcm_disabled};
 
 use crate::given::CodedBeside;
-use crate::place_field::PlaceField;
 use boundary_strengths::UnitSides;
 use picture_layout::CodingTreeUnit;
 use plan_types::{PicturePlan, SegmentPlan};
@@ -95,53 +93,4 @@ fn qp_bd_offset(plan: &PicturePlan) -> u8
     ensures small { result ≤ 48 }
 {
     6 * plan.sps.fields().format.bit_depth_luma_minus8 as u8
-}
-
-/// Which places beside a unit are coded, by those of the picture.
-pub(crate) fn coded_beside(unit: &CodingTreeUnit, places: &PlaceField) -> CodedBeside
-    ensures left { IsCodedLeft unit.now (coded_part (places_of places.now)) result.left }
-    ensures above { IsCodedAbove unit.now (coded_part (places_of places.now)) result.above }
-{
-    CodedBeside {
-        left: coded_left(unit, places),
-        above: coded_above(unit, places),
-    }
-}
-
-/// Whether the places on the left of a unit are coded, from the upper one down.
-fn coded_left(unit: &CodingTreeUnit, places: &PlaceField) -> [bool; 16]
-    ensures { IsCodedLeft unit.now (coded_part (places_of places.now)) result }
-{
-    let mut coded = [false; 16];
-    for k in 0..16 {
-        coded[k] = coded_near(unit, places, 0, k + 1);
-    }
-    coded
-}
-
-/// Whether the places above it are.
-fn coded_above(unit: &CodingTreeUnit, places: &PlaceField) -> [bool; 16]
-    ensures { IsCodedAbove unit.now (coded_part (places_of places.now)) result }
-{
-    let mut coded = [false; 16];
-    for k in 0..16 {
-        coded[k] = coded_near(unit, places, k + 1, 0);
-    }
-    coded
-}
-
-/// Whether a place that is counted from 1 at a unit's first place is coded; `false` outside the picture.
-#[tactic(auto, unfolding(spec_picture_filters::specs::Units::coded_near))]
-fn coded_near(unit: &CodingTreeUnit, places: &PlaceField, column: usize, row: usize) -> bool
-    requires column { column ≤ 16 }
-    requires row { row ≤ 16 }
-    ensures { result ≡ coded_near unit.now.layout unit.now.address (coded_part (places_of places.now)) column row }
-{
-    if unit.is_there(column, row) {
-        let x = unit.first_column() + column - 1;
-        let y = unit.first_row() + row - 1;
-        places.at(x, y).coded
-    } else {
-        false
-    }
 }

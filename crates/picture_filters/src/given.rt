@@ -11,6 +11,7 @@ ghost use Rattle.spec_picture_filters.specs.Units.{is_across, motion_near, offse
 ghost use Rattle.spec_picture_motion.specs.Field.{Motions};
 
 use crate::beside::unit_sides;
+use crate::unit_rows::FIRST_UNIT;
 use boundary_strengths::{PlaceMotions, unit_places};
 use ctu_records::{ComponentOffset, Records, Sao};
 use picture_layout::CodingTreeUnit;
@@ -39,6 +40,17 @@ pub struct UnitFilters {
     pub offsets: [OffsetUnit; 3],
 }
 
+impl UnitFilters {
+    /// Nothing is told yet.
+    pub fn new() -> UnitFilters {
+        UnitFilters {
+            places: [NO_PLACE; 256],
+            deblocking: NO_DEBLOCKING,
+            offsets: [FIRST_UNIT; 3],
+        }
+    }
+}
+
 /// A place of which nothing is read.
 const NO_PLACE: UnitPlace = UnitPlace {
     left_strength: 0,
@@ -46,6 +58,14 @@ const NO_PLACE: UnitPlace = UnitPlace {
     coded: false,
     qp_y: 0,
     kept: false,
+};
+
+/// Deblocking with no offsets.
+const NO_DEBLOCKING: SliceDeblocking = SliceDeblocking {
+    deblocking_filter_override_flag: false,
+    slice_deblocking_filter_disabled_flag: false,
+    slice_beta_offset_div2: 0,
+    slice_tc_offset_div2: 0,
 };
 
 /// What a unit gives, by what was read of it, the places beside it that are coded, and a view of its motion and of the
@@ -57,22 +77,20 @@ pub fn unit_filters<V: PlaceMotions>(
     records: &Records,
     coded: &CodedBeside,
     view: &V,
-) -> UnitFilters
+    given: &mut UnitFilters,
+)
     requires { IsUnit plan.now segment.now unit.now }
     ensures { All IsPlacedItem records.now.items → ((i j : ℕ) → qp_at records.now.items i j ≤ 127)
         → (motions : Motions) (known : ℕ → ℕ → Bool)
         → V.motion_at view.now ≡ motion_near unit.now.layout unit.now.address motions
         → IsCodedLeft unit.now known coded.now.left → IsCodedAbove unit.now known coded.now.above
-        → IsGiven plan.now segment.now unit.now.address records.now motions known result }
+        → IsGiven plan.now segment.now unit.now.address records.now motions known given.new }
 {
     let sides = unit_sides(plan, segment, unit, coded);
-    let mut places = [NO_PLACE; 256];
-    unit_places(records, &sides, view, unit.layout.side(), &mut places);
-    UnitFilters {
-        places,
-        deblocking: segment.header.fields().slice.deblocking,
-        offsets: unit_offsets(segment, unit, records.sao()),
-    }
+    let side = unit.layout.side();
+    unit_places(records, &sides, view, side, &mut given.places);
+    given.deblocking = segment.header.fields().slice.deblocking;
+    given.offsets = unit_offsets(segment, unit, records.sao());
 }
 
 /// What sample adaptive offset asks of a unit's components.

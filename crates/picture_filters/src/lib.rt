@@ -7,7 +7,6 @@ mod filter_place;
 mod format;
 mod given;
 mod layers;
-mod motion_near;
 mod offsets;
 mod picture;
 mod place_field;

@@ -1,32 +1,28 @@
 //! What the loop filters of a picture need while its coding tree units are read.
 
 ghost use Rattle.std.specs.Prelude.{◌≡◌, ◌-◌, ◌^◌, ℕ, ◌<◌, ◌≤◌, IfOk};
-ghost use Rattle.std.specs.List.{All};
-ghost use Rattle.ctu_records.specs.Tree.{qp_at};
+ghost use Rattle.ctu_records.specs.Tree.{Ctu};
 ghost use Rattle.picture_filters.specs.Places.{HasPlaces};
 ghost use Rattle.picture_filters.specs.Units.{HasUnits};
 ghost use Rattle.header_types.specs.SequenceParameterSets.{height_in_ctbs};
 ghost use Rattle.loop_filters.specs.Scratch.{HasRoom};
-ghost use Rattle.picture_buffer.specs.Motion.{motions_of};
 ghost use Rattle.picture_buffer.specs.Planes.{HasSides, plane_height, plane_width, samples_of};
 ghost use Rattle.picture_filters.specs.Filtering.{IsUnit, data_of};
+ghost use Rattle.picture_filters.specs.Given.{IsGiven};
 ghost use Rattle.spec_loop_filters.specs.Filters.{depth_of};
-ghost use Rattle.spec_motion.specs.Units.{IsPlacedItem};
 ghost use Rattle.spec_picture_filters.specs.Data.{no_data};
 ghost use Rattle.spec_picture_filters.specs.Filtered.{filter_format, filtered};
 ghost use Rattle.spec_picture_filters.specs.Units.{read_added};
+ghost use Rattle.spec_picture_motion.specs.Field.{Motions};
 
-use crate::beside::coded_beside;
-use crate::given::unit_filters;
+use crate::given::UnitFilters;
 use crate::layers::lay_places;
-use crate::motion_near::MotionNear;
 use crate::offsets::lay_offsets;
 use crate::place_field::PlaceField;
 use crate::planned::filter_planned;
 use crate::unit_rows::unit_rows;
-use ctu_records::Records;
 use loop_filters::FilterScratch;
-use picture_buffer::{MotionField, Planes};
+use picture_buffer::Planes;
 use picture_layout::{CodingTreeUnit, Layout, slice_address};
 use place_grid::Grid;
 use plan_types::{PicturePlan, SegmentPlan};
@@ -89,28 +85,23 @@ impl<'a> PictureFilters<'a> {
         })
     }
 
-    /// The next unit of a segment, by what was read of it and the motion of the picture behind it.
-    pub fn add(
-        &mut self,
-        segment: &SegmentPlan,
-        address: u32,
-        records: &Records,
-        motion: &MotionField,
-    )
+    /// What the unit of a segment at an address gives over what is known.
+    pub fn lay(&mut self, segment: &SegmentPlan, address: u32, given: &UnitFilters)
         ensures plan { self.new.plan ≡ self.old.plan }
-        ensures value { All IsPlacedItem records.now.items → ((i j : ℕ) → qp_at records.now.items i j ≤ 127)
-            → data_of self.new
-            ≡ read_added self.old.plan segment.now address records.now (motions_of motion.now) (data_of self.old) }
+        ensures value { (ctu : Ctu) (motions : Motions)
+            → IsGiven self.old.plan segment.now address ctu motions (data_of self.old).coded given.now
+            → data_of self.new ≡ read_added self.old.plan segment.now address ctu motions (data_of self.old) }
     {
         let unit = self.unit_of(segment, address);
-        let coded = coded_beside(&unit, &self.places);
-        let near = MotionNear {
-            unit: &unit,
-            field: motion,
-        };
-        let given = unit_filters(self.plan, segment, &unit, records, &coded, &near);
         lay_places(&unit, given.deblocking, &given.places, &mut self.places);
         lay_offsets(&unit, &given.offsets, &mut self.units);
+    }
+
+    /// Whether a place is coded, by column and row of the picture; `false` outside the picture.
+    pub fn coded(&self, x: usize, y: usize) -> bool
+        ensures { result ≡ (data_of self.now).coded x y }
+    {
+        self.places.at(x, y).coded
     }
 
     /// A unit of a segment.

@@ -12,7 +12,7 @@ use spec_sample_adaptive_offset::OffsetUnit;
 use std::alloc::{AllocError, Global};
 
 /// Not applied, in the slice of the first unit, across slices.
-const FIRST_UNIT: OffsetUnit = OffsetUnit {
+pub(crate) const FIRST_UNIT: OffsetUnit = OffsetUnit {
     offset: ComponentOffset::Off,
     slice: 0,
     across: true,

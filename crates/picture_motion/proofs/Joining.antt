@@ -1,32 +1,17 @@
 -- What a unit's derivation over a collocated picture has in common with the definition of a picture's motion.
-use Rattle.std.proofs.Common.{◌≡◌, Option, Some, None, ap, refl, sym, ◌∙◌}
-use Rattle.header_types.specs.declared.reference_pictures.RefEntry.{RefEntry}
+use Rattle.std.proofs.Common.{◌≡◌, refl}
 use Rattle.plan_types.specs.declared.picture_plan.PicturePlan.{PicturePlan}
 use Rattle.plan_types.specs.declared.segment_plan.SegmentPlan.{SegmentPlan}
 use Rattle.spec_picture_trees.specs.Picture.{TreeUnit}
 use Rattle.spec_picture_trees.specs.Shapes.{slice_start}
 use Rattle.spec_picture_motion.specs.Derived.{References, collocated_motions, known_of_unit, unit_added}
-use Rattle.spec_picture_motion.specs.Field.{Motions, no_motions}
+use Rattle.spec_picture_motion.specs.Field.{Motions}
 use Rattle.spec_picture_motion.specs.Slices.{collocated_entry}
 use Rattle.picture_motion.specs.Deriving.{derived_over, known_over}
 
 -- the motion of the collocated picture of a segment's slice
 abbrev pub collocated_in : References → PicturePlan → SegmentPlan → Motions
 collocated_in pictures p s = collocated_motions pictures (collocated_entry s.header.slice (slice_start p s).lists)
-
--- that of a slice without one
-pub collocated_none : (pictures : References) (p : PicturePlan) (s : SegmentPlan)
-    → collocated_entry s.header.slice (slice_start p s).lists ≡ None
-    → no_motions ≡ collocated_in pictures p s
-collocated_none pictures p s e = sym (ap (λ (entry : Option RefEntry). collocated_motions pictures entry) e)
-
--- that of a slice with one
-pub collocated_some : (pictures : References) (p : PicturePlan) (s : SegmentPlan) (entry : RefEntry)
-    (collocated : Motions)
-    → collocated_entry s.header.slice (slice_start p s).lists ≡ Some entry
-    → collocated ≡ pictures entry.place → collocated ≡ collocated_in pictures p s
-collocated_some pictures p s entry collocated e same =
-    same ∙ sym (ap (λ (entry : Option RefEntry). collocated_motions pictures entry) e)
 
 -- what is known of a unit, over that motion
 pub known_joins : (pictures : References) (p : PicturePlan) (s : SegmentPlan) (unit : TreeUnit)

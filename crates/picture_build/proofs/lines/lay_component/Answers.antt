@@ -1,6 +1,6 @@
 use Rattle.ctu_build.specs.Held.{held}
 use Rattle.picture_build.proofs.Laid.{laid_component}
-use Rattle.picture_build.proofs.Planes.{covered}
+use Rattle.unit_build.proofs.Covering.{covered}
 use Rattle.picture_build.proofs.lines.lay_component.Goals as goal
 
 pub returns-clause-value : goal.returns-clause-value

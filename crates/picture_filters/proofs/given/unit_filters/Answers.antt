@@ -16,12 +16,12 @@ returns g c = λ each small motions known e left above.
     let unit = c.args.unit.now in
     let ctu = c.args.records.now in
     let sides = c.unit_sides-sides in
-    let side : c.side.result ≡ unit_places (picture_shape p.sps p.pps) =
-    c.side.ensures.value ∙ ap unit_places c.requires.layout in
-    let inside : (k : ℕ) → k < unit_places (picture_shape p.sps p.pps) → k < c.side.result =
+    let side : c.side-side.result ≡ unit_places (picture_shape p.sps p.pps) =
+    c.side-side.ensures.value ∙ ap unit_places c.requires.layout in
+    let inside : (k : ℕ) → k < unit_places (picture_shape p.sps p.pps) → k < c.side-side.result =
     λ k lt. subst (λ (n : ℕ). k < n) (sym side) lt in
     let below : (k : ℕ) → k < unit_places (picture_shape p.sps p.pps) → k < 16 =
-    λ k lt. omega (arith, inside k lt, c.side.ensures.small) in
+    λ k lt. omega (arith, inside k lt, c.side-side.ensures.small) in
     record {
       places = λ x y few low. c.unit_places.ensures each small x y _ (inside x few) (inside y low)
           ∙ (ap (λ (m : ℕ → ℕ → Option PlaceMotion). unit_place (beside_of sides.result m)
@@ -33,5 +33,5 @@ returns g c = λ each small motions known e left above.
           (below x few) (below y low));
       deblocking = search rules;
       offsets = λ k lt. component_is p s unit.slice ctu.sao c.sao.result k _ c.requires.slice c.sao.ensures
-          (c.unit_offsets.ensures k lt);
+          (c.unit_offsets-given.ensures k lt);
     }

@@ -1,14 +1,16 @@
-use Rattle.std.proofs.Common.{◌≡◌, ◌≤◌, Some, ap, subst, rules}
+use Rattle.std.proofs.Common.{◌≡◌, Some, subst, rules}
+use Rattle.std.specs.List.{All}
 use Rattle.ctu_build.specs.Held.{held}
 use Rattle.ctu_motion.specs.Held.{held as motion_held}
 use Rattle.picture_buffer.specs.Motion.{motions_of}
 use Rattle.picture_buffer.specs.Planes.{samples_of}
 use Rattle.picture_filters.specs.Filtering.{data_of}
 use Rattle.picture_trees.specs.Given.{tree_unit}
+use Rattle.spec_motion.specs.Units.{IsPlacedItem}
 use Rattle.spec_picture_trees.specs.Picture.{TreeUnit}
 use Rattle.spec_picture_trees.specs.Shapes.{picture_shape}
 use Rattle.spec_picture_filters.specs.Filtered.{added_in}
-use Rattle.spec_picture_trees.specs.Places.{first_row}
+use Rattle.spec_picture_motion.specs.Derived.{unit_added as motion_added}
 use Rattle.spec_picture_build.specs.Built.{unit_added}
 use Rattle.spec_picture_build.specs.Format.{unit_format}
 use Rattle.spec_picture_build.specs.References.{motions_of as motions_at}
@@ -17,16 +19,16 @@ use Rattle.spec_reconstruction.specs.Sound.{AreSound}
 use Rattle.spec_transforms.specs.Scaling.{IsDepth}
 use Rattle.picture_build.specs.Building.{Building, behind_by, built_by}
 use Rattle.picture_build.specs.Pictures.{buffer_of}
-use Rattle.picture_build.proofs.Added.{unit_below, unit_is}
+use Rattle.picture_build.proofs.Added.{moved, unit_is}
 use Rattle.picture_build.proofs.Behind.{behind_unit}
 use Rattle.picture_build.proofs.builder.PictureBuilder.build.Goals as goal
 
-pub returns-in-Some-clause-value : goal.returns-in-Some-clause-value
-returns-in-Some-clause-value g c = λ number.
+pub returns-clause-value : goal.returns-clause-value
+returns-clause-value g c = λ number.
     let old : Building = record {
       plan = c.self.inside.plan.now;
       planes = c.self.inside.planes;
-      motion = c.self.inside.motion;
+      motion = c.self.inside.field;
       filters = c.self.inside.filters;
     } in
     let unit : TreeUnit = tree_unit number c.args.address c.args.records.now in
@@ -36,87 +38,53 @@ returns-in-Some-clause-value g c = λ number.
     let format : c.set_slice.new.format
     ≡ unit_format c.self.inside.plan.now.sps c.self.inside.plan.now.pps c.args.segment.now.header.slice =
     search rules in
+    let moves : All IsPlacedItem c.args.records.now.items → motions_of c.lay_unit-2.new.field
+    ≡ motion_added (motions_at (buffer_of c.self.inside.bases.now)) c.self.inside.plan.now c.args.segment.now unit
+    (motions_of c.self.inside.field) =
+    moved c.self.inside.bases.now c.self.inside.plan.now c.args.segment.now unit c.self.inside.layout
+    c.build_beside.new.work.slice (motion_held c.build_beside.new.work.motion) (motions_of c.self.inside.field)
+    (motions_of c.lay_unit-2.new.field) layout c.build_beside.ensures.slice (c.build_beside.ensures.motion number)
+    c.lay_unit-2.ensures.value in
     let Q : Building → Type 0 =
     λ b. AreSound (unit_format b.plan.sps b.plan.pps c.args.segment.now.header.slice) c.args.records.now.items
-    → record { samples = samples_of c.lay_unit.new.planes; motions = motions_of c.derive.new.motion.field }
+    → record { samples = samples_of c.lay_unit.new.planes; motions = motions_of c.lay_unit-2.new.field }
     ≡ unit_added (buffer_of g.B.Buffer.pictures) b.plan c.args.segment.now unit (built_by b) in
     subst Q c.self.view_is (λ sound.
     unit_is c.self.inside.bases.now g.B.Buffer.pictures c.self.inside.plan.now c.args.segment.now unit
-    c.self.inside.layout c.slice_address.result c.set_slice.new.format
-    (held c.gather.new.samples) (held c.build_unit.new.samples) (built_by old) (samples_of c.lay_unit.new.planes)
-    (motion_held c.derive.new.motion.last) (motions_of c.derive.new.motion.field)
-    bases layout c.slice_address.ensures format sound (c.derive.ensures.last number)
-    (c.derive.ensures.value number) c.gather.ensures
-    (c.build_unit.ensures number (motions_of c.self.inside.motion.field)) c.lay_unit.ensures.value)
+    c.self.inside.layout c.slice_address.result c.set_slice.new.format (held c.build_beside.new.work.samples)
+    (built_by old) (samples_of c.lay_unit.new.planes) (motions_of c.lay_unit-2.new.field)
+    bases layout c.slice_address.ensures format c.lay_unit.ensures.shape sound moves
+    (c.build_beside.ensures.samples number) c.lay_unit.ensures.value)
 
-pub returns-in_default-clause-value : goal.returns-in_default-clause-value
-returns-in_default-clause-value g c = λ number.
+pub returns-clause-behind : goal.returns-clause-behind
+returns-clause-behind g c = λ number.
     let old : Building = record {
       plan = c.self.inside.plan.now;
       planes = c.self.inside.planes;
-      motion = c.self.inside.motion;
+      motion = c.self.inside.field;
       filters = c.self.inside.filters;
     } in
     let unit : TreeUnit = tree_unit number c.args.address c.args.records.now in
-    let bases : c.self.inside.bases.now ≡ g.B.Buffer.pictures = search rules in
     let layout : c.self.inside.layout ≡ picture_shape c.self.inside.plan.now.sps c.self.inside.plan.now.pps =
     search rules in
-    let past : c.self.inside.layout.down ≤ first_row c.self.inside.layout c.args.address = search rules in
-    let Q : Building → Type 0 =
-    λ b. AreSound (unit_format b.plan.sps b.plan.pps c.args.segment.now.header.slice) c.args.records.now.items
-    → record { samples = samples_of c.self.inside.planes; motions = motions_of c.derive.new.motion.field }
-    ≡ unit_added (buffer_of g.B.Buffer.pictures) b.plan c.args.segment.now unit (built_by b) in
-    subst Q c.self.view_is (λ sound.
-    unit_below c.self.inside.bases.now g.B.Buffer.pictures c.self.inside.plan.now c.args.segment.now unit
-    c.self.inside.layout (built_by old) (motions_of c.derive.new.motion.field)
-    bases layout sound (c.derive.ensures.value number) c.in_default.ensures.shape past)
-
-pub returns-in-Some-clause-behind : goal.returns-in-Some-clause-behind
-returns-in-Some-clause-behind g c = λ number.
-    let old : Building = record {
-      plan = c.self.inside.plan.now;
-      planes = c.self.inside.planes;
-      motion = c.self.inside.motion;
-      filters = c.self.inside.filters;
-    } in
-    let unit : TreeUnit = tree_unit number c.args.address c.args.records.now in
     let format : UnitFormat =
     unit_format c.self.inside.plan.now.sps c.self.inside.plan.now.pps c.args.segment.now.header.slice in
     let depth : IsDepth format.luma_depth =
     subst (λ (f : UnitFormat). IsDepth f.luma_depth) (c.self.invariant.5 c.args.segment.now.header.slice)
     c.self.invariant.4.luma in
+    let moves : All IsPlacedItem c.args.records.now.items → motions_of c.lay_unit-2.new.field
+    ≡ motion_added (motions_at (buffer_of c.self.inside.bases.now)) c.self.inside.plan.now c.args.segment.now unit
+    (motions_of c.self.inside.field) =
+    moved c.self.inside.bases.now c.self.inside.plan.now c.args.segment.now unit c.self.inside.layout
+    c.build_beside.new.work.slice (motion_held c.build_beside.new.work.motion) (motions_of c.self.inside.field)
+    (motions_of c.lay_unit-2.new.field) layout c.build_beside.ensures.slice (c.build_beside.ensures.motion number)
+    c.lay_unit-2.ensures.value in
     let Q : Building → Type 0 =
     λ b. AreSound (unit_format b.plan.sps b.plan.pps c.args.segment.now.header.slice) c.args.records.now.items
-    → record { motions = motions_of c.derive.new.motion.field; gathered = data_of c.add.new.self }
+    → record { motions = motions_of c.lay_unit-2.new.field; gathered = data_of c.lay.new.self }
     ≡ added_in (motions_at (buffer_of g.B.Buffer.pictures)) b.plan (Some c.args.segment.now) unit (behind_by b) in
     subst Q c.self.view_is (λ sound.
     behind_unit c.self.inside.bases.now g.B.Buffer.pictures c.self.inside.plan.now c.self.inside.filters.plan
-    c.args.segment.now unit format (behind_by old) (motions_of c.derive.new.motion.field)
-    (motions_of c.field.result.now) (data_of c.add.new.self)
-    c.self.invariant.8 c.self.invariant.7 (ap motions_of c.field.ensures) depth sound (c.derive.ensures.value number)
-    c.add.ensures.value)
-
-pub returns-in_default-clause-behind : goal.returns-in_default-clause-behind
-returns-in_default-clause-behind g c = λ number.
-    let old : Building = record {
-      plan = c.self.inside.plan.now;
-      planes = c.self.inside.planes;
-      motion = c.self.inside.motion;
-      filters = c.self.inside.filters;
-    } in
-    let unit : TreeUnit = tree_unit number c.args.address c.args.records.now in
-    let format : UnitFormat =
-    unit_format c.self.inside.plan.now.sps c.self.inside.plan.now.pps c.args.segment.now.header.slice in
-    let depth : IsDepth format.luma_depth =
-    subst (λ (f : UnitFormat). IsDepth f.luma_depth) (c.self.invariant.5 c.args.segment.now.header.slice)
-    c.self.invariant.4.luma in
-    let Q : Building → Type 0 =
-    λ b. AreSound (unit_format b.plan.sps b.plan.pps c.args.segment.now.header.slice) c.args.records.now.items
-    → record { motions = motions_of c.derive.new.motion.field; gathered = data_of c.add.new.self }
-    ≡ added_in (motions_at (buffer_of g.B.Buffer.pictures)) b.plan (Some c.args.segment.now) unit (behind_by b) in
-    subst Q c.self.view_is (λ sound.
-    behind_unit c.self.inside.bases.now g.B.Buffer.pictures c.self.inside.plan.now c.self.inside.filters.plan
-    c.args.segment.now unit format (behind_by old) (motions_of c.derive.new.motion.field)
-    (motions_of c.field.result.now) (data_of c.add.new.self)
-    c.self.invariant.8 c.self.invariant.7 (ap motions_of c.field.ensures) depth sound (c.derive.ensures.value number)
-    c.add.ensures.value)
+    c.args.segment.now unit format (behind_by old) (motions_of c.lay_unit-2.new.field) (data_of c.lay.new.self)
+    c.build_beside.new.work.filters c.self.invariant.8 c.self.invariant.7 depth sound moves
+    (c.build_beside.ensures.filters number) c.lay.ensures.value)

@@ -1,4 +1,4 @@
-use Rattle.std.proofs.Common.{◌≡◌, ◌≤◌, ℕ, sym, ap, subst, ◌∙◌, rules}
+use Rattle.std.proofs.Common.{◌≡◌, ◌≤◌, ℕ, refl, sym, ap, subst, ◌∙◌, rules}
 use Rattle.header_types.specs.declared.sps.PictureFormat.{PictureFormat}
 use Rattle.picture_buffer.specs.Planes.{samples_of}
 use Rattle.spec_decoded_pictures.specs.Decoded.{decoded_by}
@@ -19,13 +19,13 @@ returns g c =
     let building : Building = record {
       plan = c.self.inside.plan.now;
       planes = c.self.inside.planes;
-      motion = c.self.inside.motion;
+      motion = c.self.inside.field;
       filters = c.self.inside.filters;
     } in
     let format : PictureFormat = c.fields.result.now.format in
     let same : format ≡ c.self.inside.plan.now.sps.format = search rules in
     let Q : Building → Type 0 = λ b. decoded_of c.new-picture.result ≡ decoded_by b.plan (units_by b) in
     subst Q c.self.view_is (ap decoded_of c.new-picture.ensures
-    ∙ decoded_is building c.self.inside.layout format c.filter.new.planes c.into_field.result c.self.invariant.0
+    ∙ decoded_is building c.self.inside.layout format c.filter.new.planes c.self.inside.field c.self.invariant.0
     c.self.invariant.2 c.self.invariant.3 c.self.invariant.7
-    c.self.invariant.1 c.filter.ensures.sides same c.into_field.ensures c.filter.ensures.value)
+    c.self.invariant.1 c.filter.ensures.sides same refl c.filter.ensures.value)

@@ -1,0 +1,10 @@
+pub mod Places
+pub mod Tests
+pub mod Units
+pub mod Sizes
+pub mod Covering
+pub mod Known
+pub mod Left
+pub mod Around
+pub mod Joined
+pub mod Weighing

@@ -1,0 +1,17 @@
+-- The motion of a coding tree unit that is derived, and of what stands beside it.
+use Rattle.std.specs.Prelude.{ℕ, ◌&&◌, nat_le, Bool}
+use Rattle.spec_motion.specs.declared.slice_motion.SliceMotion.{SliceMotion}
+use Rattle.spec_motion.specs.Vectors.{Known}
+use Rattle.spec_picture_motion.specs.Field.{Motions, unit_laid}
+use Rattle.spec_picture_trees.specs.Places.{unit_places}
+use Rattle.spec_slice_data.specs.Segment.{PictureShape}
+use Rattle.picture_layout.specs.declared.coding_tree_unit.CodingTreeUnit.{CodingTreeUnit}
+
+-- the motion of the picture behind a unit of which this is known
+abbrev pub motion_behind : CodingTreeUnit → SliceMotion → Known → Motions → Motions
+motion_behind unit slice known motions = unit_laid unit.layout unit.address slice known motions
+
+-- whether a place that is counted from 1 at a unit's first place is one of the unit
+abbrev pub is_inside : PictureShape → ℕ → ℕ → Bool
+is_inside picture column row =
+    (nat_le 1 column && nat_le column (unit_places picture)) && (nat_le 1 row && nat_le row (unit_places picture))

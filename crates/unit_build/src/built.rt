@@ -1,0 +1,56 @@
+//! What a coding tree unit's work leaves.
+
+use ctu_build::UnitSamples;
+use ctu_motion::UnitMotion;
+use picture_filters::UnitFilters;
+use spec_motion::{Reference, SliceMotion};
+
+/// What a unit's work leaves: it is as large as the greatest unit asks, and is filled anew by each unit.
+#[derive(Drop)]
+pub struct BuiltUnit {
+    /// Its samples before the loop filters, and those that are known beside it.
+    pub samples: UnitSamples,
+    /// Its motion, and that which is known beside it and beneath.
+    pub motion: UnitMotion,
+    /// What its motion depends on, with the pictures that its vectors point to.
+    pub slice: SliceMotion,
+    /// What it gives the loop filters of its picture.
+    pub filters: UnitFilters,
+}
+
+impl BuiltUnit {
+    /// Of no unit yet.
+    pub fn new() -> BuiltUnit {
+        BuiltUnit {
+            samples: UnitSamples::new(),
+            motion: UnitMotion::new(),
+            slice: NO_SLICE,
+            filters: UnitFilters::new(),
+        }
+    }
+}
+
+/// No picture.
+const NO_REFERENCE: Reference = Reference {
+    picture: 0,
+    order: 0,
+    long_term: false,
+};
+
+/// A slice without lists.
+const NO_SLICE: SliceMotion = SliceMotion {
+    is_b: false,
+    max_candidates: 0,
+    log2_parallel: 0,
+    order: 0,
+    references_0: [NO_REFERENCE; 16],
+    references_1: [NO_REFERENCE; 16],
+    active_0: 0,
+    active_1: 0,
+    temporal: false,
+    from_list_0: false,
+    collocated_order: 0,
+    side: 0,
+    right: 0,
+    lower: 0,
+};

@@ -1,0 +1,19 @@
+//! A coding tree unit's work over a view (H.265 6.4.1, 8.4.4.1, 8.5.3, 8.6, 8.7.2): its motion, its samples and what it
+//! gives the loop filters, in values of its own, from what stands beside it and from the pictures that it refers to.
+#![tactic(auto)]
+
+mod beside;
+mod built;
+mod coded;
+mod motion;
+mod near;
+mod part;
+mod samples;
+mod unit;
+mod view;
+mod weights;
+
+pub use built::BuiltUnit;
+pub use part::Part;
+pub use unit::{UnitSource, build_unit};
+pub use view::Beside;
