@@ -126,14 +126,15 @@ pub pulses_component : (place : Place) (first places count : ℕ) (items : List 
     → after ≡ laid place.c place.x place.y (2 ^ place.log2) (block_of (2 ^ place.log2) block) before
     → ((k : ℕ) → k < count → get_or block k 0 ≡ sample_of (get_or items (first + k) (Sample 0)) * 2 ^ places % 65536)
     → count ≡ 2 ^ place.log2 * 2 ^ place.log2
-    → ((k : ℕ) → sample_of (get_or items k (Sample 0)) * 2 ^ places < 65536)
+    → ((k : ℕ) → k < 2 ^ place.log2 * 2 ^ place.log2
+    → sample_of (get_or items (first + k) (Sample 0)) * 2 ^ places < 65536)
     → after ≡ laid place.c place.x place.y (2 ^ place.log2) (shifted places first items (2 ^ place.log2)) before
 pulses_component place first places count items block before after told each counts small =
     told ∙ laid_same _ _ _ _ _ _ before (λ i j hi hj.
     let n : ℕ = 2 ^ place.log2 in
     let lt : n * j + i < count = rw counts (below_square n i j hi hj) in
     let e : first + (n * j + i) ≡ first + n * j + i = omega arith in
-    each (n * j + i) lt ∙ mod-eq_of_lt (small (first + (n * j + i)))
+    each (n * j + i) lt ∙ mod-eq_of_lt (small (n * j + i) (below_square n i j hi hj))
     ∙ ap (λ (k : ℕ). sample_of (get_or items k (Sample 0)) * 2 ^ places) e)
 
 -- those of a coding unit

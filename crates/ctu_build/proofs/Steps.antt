@@ -1,9 +1,7 @@
 -- Items one after the other.
 use Rattle.std.proofs.Common.{◌≡◌, ℕ, ◌+◌, ◌-◌, ◌*◌, ◌^◌, ◌<◌, ◌≤◌, List, ◌∷◌, length, get_or, take, drop, sym, ap, ◌∙◌}
-use Rattle.std.proofs.Common.{refl, arith}
+use Rattle.std.proofs.Common.{[], zero, suc, refl, subst, arith}
 use Rattle.std.proofs.lemmas.List.{drop_more, drop_all, length-drop, take_all}
-use Rattle.std.specs.List.{All}
-use Rattle.std.proofs.lemmas.List.Elements.{All-take, All-drop}
 use Rattle.ctu_records.specs.declared.item.CodedBlock.{CodedBlock}
 use Rattle.ctu_records.specs.declared.item.Item.{Item}
 use Rattle.ctu_records.specs.Tree.{qp_at}
@@ -15,7 +13,7 @@ use Rattle.spec_slice_data.specs.Residual.{samples_of_place}
 use Rattle.spec_reconstruction.specs.declared.format.UnitFormat.{UnitFormat}
 use Rattle.spec_reconstruction.specs.declared.unit_mode.UnitMode.{UnitMode}
 use Rattle.spec_reconstruction.specs.Inter.{InterUnit}
-use Rattle.spec_reconstruction.specs.Sound.{IsSound}
+use Rattle.spec_reconstruction.specs.Sound.{ArePulses, BeginsPulses}
 use Rattle.spec_reconstruction.specs.Unit.{Building, block_constructed, item_built, items_built}
 
 -- the items from one on, as a part of all
@@ -59,9 +57,19 @@ pub block_built : (format : UnitFormat) (all : List Item) (mode : UnitMode) (cod
 unfolding block_constructed
 block_built format all mode coded block behind before after told eb et eq = rw (told, eb, et, eq) refl
 
--- the items behind one
-pub sound_behind : (format : UnitFormat) (items : List Item) (k : ℕ) → All (IsSound format) items
-    → All (IsSound format) (take (length items - (k + 1)) (drop (k + 1) items))
-sound_behind format items k all =
-    All-take (IsSound format) (length items - (k + 1)) (drop (k + 1) items)
-    (All-drop (IsSound format) (k + 1) items all)
+-- the samples behind one
+begins_behind : (format : UnitFormat) (items : List Item) (k : ℕ) (d : Item) → k < length items
+    → ArePulses format items
+    → BeginsPulses format (get_or items k d) (drop (suc k) items)
+unfolding ArePulses
+begins_behind format [] k d lt pulses = absurd (omega (arith, lt))
+begins_behind format (item ∷ items) zero d lt pulses = pulses.0
+begins_behind format (item ∷ items) (suc k) d lt pulses = begins_behind format items k d (omega (arith, lt)) pulses.1
+
+pub pulses_behind : (format : UnitFormat) (items : List Item) (k : ℕ) (d : Item) → k < length items
+    → ArePulses format items
+    → BeginsPulses format (get_or items k d) (take (length items - (k + 1)) (drop (k + 1) items))
+pulses_behind format items k d lt pulses =
+    let e : suc k ≡ k + 1 = omega arith in
+    subst (BeginsPulses format (get_or items k d)) (sym (rest_whole items (k + 1)))
+    (subst (λ n. BeginsPulses format (get_or items k d) (drop n items)) e (begins_behind format items k d lt pulses))

@@ -1,7 +1,6 @@
 //! What single items tell.
 
 ghost use Rattle.std.specs.Prelude.{◌≡◌, ◌≤◌, if◌then◌else◌};
-ghost use Rattle.std.specs.List.{All};
 ghost use Rattle.ctu_build.specs.Held.{held};
 ghost use Rattle.ctu_build.specs.Inter.{IsReady, inter_of};
 ghost use Rattle.ctu_motion.specs.Held.{held as motion_held};
@@ -9,7 +8,7 @@ ghost use Rattle.ctu_records.specs.Tree.{luma_mode_at, qp_at};
 ghost use Rattle.spec_reconstruction.specs.Inter.{prediction_laid};
 ghost use Rattle.spec_reconstruction.specs.Prediction.{unit_predicted};
 ghost use Rattle.spec_reconstruction.specs.Pulses.{pulses_laid};
-ghost use Rattle.spec_reconstruction.specs.Sound.{AreSound, IsCoded, IsFormat, IsPrediction, IsSound, IsSquare};
+ghost use Rattle.spec_reconstruction.specs.Sound.{AreSound, HasPulses, IsCoded, IsFormat, IsPrediction, IsSquare};
 ghost use Rattle.spec_reconstruction.specs.Unit.{block_constructed};
 ghost use Rattle.spec_transforms.specs.Scaling.{IsParameter};
 
@@ -58,7 +57,7 @@ pub(crate) fn build_pulses(
     samples: &mut UnitSamples,
 )
     requires format { IsFormat format.now }
-    ensures { IsSquare square → 1 ≤ square.log2_size → All (IsSound format.now) behind.now
+    ensures { IsSquare square → 1 ≤ square.log2_size → HasPulses format.now square behind.now
         → held samples.new ≡ pulses_laid format.now square behind.now (held samples.old) }
 {
     if 1 <= square.log2_size && is_square(square) {

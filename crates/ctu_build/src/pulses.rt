@@ -1,10 +1,9 @@
 //! Samples by pulse code modulation.
 
 ghost use Rattle.std.specs.Prelude.{◌≡◌, ℕ, ◌+◌, ◌-◌, ◌*◌, ◌%◌, ◌^◌, ◌<◌, ◌≤◌, length, slice_index_or};
-ghost use Rattle.std.specs.List.{All};
 ghost use Rattle.ctu_records.specs.declared.item.Item.TheVariants.{Sample};
 ghost use Rattle.ctu_build.specs.Held.{held, IsInside};
-ghost use Rattle.spec_reconstruction.specs.Sound.{IsFormat, IsSquare, IsSound};
+ghost use Rattle.spec_reconstruction.specs.Sound.{HasPulses, IsFormat, IsSquare};
 ghost use Rattle.spec_reconstruction.specs.Known.{laid};
 ghost use Rattle.spec_reconstruction.specs.Pulses.{sample_of, shifted, pulses_laid};
 
@@ -67,7 +66,9 @@ fn lay_component(
     requires place { IsInside place }
     requires places { pulses.now.places ≤ 14 }
     requires first { pulses.now.first ≤ 2048 }
-    ensures { ((k : ℕ) → sample_of (slice_index_or pulses.now.items.now k (Sample 0)) * 2 ^ pulses.now.places < 65536)
+    ensures { ((k : ℕ) → k < 2 ^ place.log2 * 2 ^ place.log2
+        → sample_of (slice_index_or pulses.now.items.now (pulses.now.first + k) (Sample 0)) * 2 ^ pulses.now.places
+        < 65536)
         → held samples.new
         ≡ laid place.c place.x place.y (2 ^ place.log2)
         (shifted pulses.now.places pulses.now.first pulses.now.items.now (2 ^ place.log2)) (held samples.old) }
@@ -87,7 +88,7 @@ pub(crate) fn lay_pulses(
     requires format { IsFormat format.now }
     requires square { IsSquare square }
     requires some { 1 ≤ square.log2_size }
-    ensures { All (IsSound format.now) items.now
+    ensures { HasPulses format.now square items.now
         → held samples.new ≡ pulses_laid format.now square items.now (held samples.old) }
 {
     let luma = u32::from(format.luma_depth - format.pcm_luma_bits);

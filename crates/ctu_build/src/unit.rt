@@ -8,7 +8,7 @@ ghost use Rattle.ctu_build.specs.Inter.{IsReady, inter_of};
 ghost use Rattle.ctu_motion.specs.Held.{held as motion_held};
 ghost use Rattle.inter_samples.specs.Inter.{AreSmall, inter_unit};
 ghost use Rattle.spec_inter_prediction.specs.Tables.{IsSliceWeighting};
-ghost use Rattle.spec_reconstruction.specs.Sound.{AreSound, IsFormat, IsSound};
+ghost use Rattle.spec_reconstruction.specs.Sound.{ArePulses, AreSound, BeginsPulses, IsFormat, IsSound};
 ghost use Rattle.spec_reconstruction.specs.Unit.{before_unit, item_built, items_built, unit_built};
 
 use crate::coding::{Coding, before_unit, mode_of};
@@ -69,7 +69,7 @@ fn build_items<V: RefWindow>(
 )
     requires ready { IsReady source.now.format.now source.now.inter (V.reference_at view.old) }
     ensures value { AreSound source.now.format.now source.now.records.now.items
-        → All (IsSound source.now.format.now) items.now
+        → All (IsSound source.now.format.now) items.now → ArePulses source.now.format.now items.now
         → (items_built source.now.format.now (inter_of source.now.inter (V.reference_at view.old))
         source.now.records.now.items items.now (before_unit (held samples.old))).known
         ≡ held samples.new }
@@ -97,7 +97,8 @@ fn build_item<V: RefWindow>(
     requires ready { IsReady source.now.format.now source.now.inter (V.reference_at view.old) }
     requires mode { coding.chroma_mode ≤ 34 }
     ensures value { AreSound source.now.format.now source.now.records.now.items
-        → IsSound source.now.format.now next.now.item → All (IsSound source.now.format.now) next.now.behind.now
+        → IsSound source.now.format.now next.now.item
+        → BeginsPulses source.now.format.now next.now.item next.now.behind.now
         → building result (held samples.new)
         ≡ item_built source.now.format.now (inter_of source.now.inter (V.reference_at view.old))
         source.now.records.now.items (building coding (held samples.old)) next.now.item next.now.behind.now }

@@ -44,11 +44,6 @@ pub record IsCoded (block : CodedBlock) : Type 0 where
   pub x : samples_of_place block.component * block.x + 2 ^ block.log2_size ≤ 64
   pub y : samples_of_place block.component * block.y + 2 ^ block.log2_size ≤ 64
 
--- a sample of pulse code modulation whose bits fit in 16 once they are shifted
-pub record IsPulse (format : UnitFormat) (value : ℕ) : Type 0 where
-  pub luma : value * 2 ^ (format.luma_depth - format.pcm_luma_bits) < 65536
-  pub chroma : value * 2 ^ (format.chroma_depth - format.pcm_chroma_bits) < 65536
-
 -- the binary logarithm of the least side in places of a coding unit with such parts: a part has at least 8x4 or 4x8
 -- luma samples, or 8x8 of four
 abbrev pub least_size : PartMode → ℕ
@@ -79,7 +74,6 @@ abbrev pub IsSound : UnitFormat → Item → Type 0
 IsSound format (Chroma mode) = mode ≤ 34
 IsSound format (Prediction unit) = IsPrediction unit
 IsSound format (Pcm square) = IsSquare square × (1 ≤ square.log2_size)
-IsSound format (Sample value) = IsPulse format value
 IsSound format (Transform unit) = IsSquare unit.square
 IsSound format (Block block) = IsCoded block
 IsSound format other = ⊤

@@ -114,11 +114,7 @@ module _ (p : PicturePlan) (sps : IsSps p.sps) (t : SegmentPlan) where
       let pcm = pcm-fits p.sps.blocks p.sps.tools.pcm sps.tools.pcm in
       let most = below_both (max_tb_log2 p.sps.blocks) (ctb_log2 p.sps.blocks) 5 sps.blocks.max_tb in
       record {
-        luma = omega (arith, sps.format.luma_depth);
-        chroma = omega (arith, sps.format.chroma_depth);
         transform = omega (arith, most);
-        luma_bits = pcm.luma_bits;
-        chroma_bits = pcm.chroma_bits;
         luma_pulses = refl;
         chroma_pulses = refl;
         least = pcm.least;

@@ -12,7 +12,7 @@ use Rattle.ctu_records.specs.Tree.{Ctu, added}
 use Rattle.spec_cabac.specs.Bins.{Tree, times}
 use Rattle.spec_reconstruction.specs.declared.format.UnitFormat.{UnitFormat}
 use Rattle.spec_reconstruction.specs.Pulses.{sample_of}
-use Rattle.spec_reconstruction.specs.Sound.{IsPulse, HasPulses, ArePulses}
+use Rattle.spec_reconstruction.specs.Sound.{HasPulses, ArePulses}
 use Rattle.spec_slice_data.specs.Tree.{pcm_sample, pcm_samples}
 use Rattle.unit_laws.proofs.Formats.{Gives, give_gives, then_gives, sample_gives}
 use Rattle.unit_laws.proofs.Items.{IsRead, IsKept, added_read, kept_of, whole_pulses, pulses_appended}
@@ -50,9 +50,9 @@ module _ (format : UnitFormat) (greatest : ℕ) where
   }
 
   run_more : (start : Ctu) (bits i : ℕ) (ctu : Ctu) (value : ℕ) → IsRun format greatest start bits i ctu
-      → IsPulse format value → value < 2 ^ bits → IsRun format greatest start bits (i + 1) (added ctu (Sample value))
-  run_more start bits i ctu value run sound below = record {
-    read = added_read format greatest ctu (Sample value) run.read sound tt tt;
+      → value < 2 ^ bits → IsRun format greatest start bits (i + 1) (added ctu (Sample value))
+  run_more start bits i ctu value run below = record {
+    read = added_read format greatest ctu (Sample value) run.read tt tt tt;
     seen = run.seen ++ Sample value ∷ [];
     is =
         ap (λ (xs : List Item). xs ++ Sample value ∷ []) run.is ∙ append_assoc start.items run.seen (Sample value ∷ []);
@@ -64,14 +64,14 @@ module _ (format : UnitFormat) (greatest : ℕ) where
     pulses = pulses_appended format run.seen (Sample value ∷ []) run.pulses (whole_pulses format (Sample value) tt);
   }
 
-  pub samples_run : (bits count : ℕ) (start : Ctu) → ((value : ℕ) → value < 2 ^ bits → IsPulse format value)
-      → IsRead format greatest start → Gives (IsRun format greatest start bits count) (pcm_samples bits count start)
-  samples_run bits count start pulse read =
+  pub samples_run : (bits count : ℕ) (start : Ctu) → IsRead format greatest start
+      → Gives (IsRun format greatest start bits count) (pcm_samples bits count start)
+  samples_run bits count start read =
       let e : 0 + count ≡ count = omega arith in
       subst (λ k. Gives (IsRun format greatest start bits k) (pcm_samples bits count start)) e
       (times_counted (IsRun format greatest start bits) (pcm_sample bits)
       (λ i c run. then_gives (sample_gives bits) (λ value below. give_gives (added c (Sample value))
-      (run_more start bits i c value run (pulse value below) below)))
+      (run_more start bits i c value run below)))
       0 count start (run_begins start bits read))
 
   module _ (square : Square) (luma_bits chroma_bits : ℕ) (luma_is : luma_bits ≡ format.pcm_luma_bits)

@@ -2,7 +2,6 @@
 use Rattle.std.proofs.Common.{◌≡◌, ℕ, zero, suc, ◌+◌, ◌-◌, ◌*◌, ◌^◌, ◌<◌, ◌≤◌, Bool, true, false, refl, sym, subst}
 use Rattle.std.proofs.Common.{arith}
 use Rattle.std.specs.Prelude.{◌==◌, ◌&&◌, not, nat_le, nat_lt}
-use Rattle.std.proofs.Math.Nat.{pow-le-pow_right, mul-le-mul_left}
 use Rattle.std.proofs.lemmas.Bool.{and_parts, leb-true, ltb-true, eqb-false}
 use Rattle.ctu_records.specs.declared.item.Item.TheVariants.{Chroma, Pcm}
 use Rattle.ctu_records.specs.declared.item.Square.{Square}
@@ -13,7 +12,7 @@ use Rattle.ctu_records.specs.Prediction.{part_block}
 use Rattle.ctu_records.specs.Tree.{Ctu, IsPlaced, added, with_sao}
 use Rattle.spec_cabac.specs.Bins.{Tree}
 use Rattle.spec_reconstruction.specs.declared.format.UnitFormat.{UnitFormat}
-use Rattle.spec_reconstruction.specs.Sound.{IsSquare, IsPulse}
+use Rattle.spec_reconstruction.specs.Sound.{IsSquare}
 use Rattle.spec_slice_data.specs.declared.syntax.CtuSyntax.{CtuSyntax}
 use Rattle.spec_slice_data.specs.declared.syntax.End.{End}
 use Rattle.spec_slice_data.specs.declared.syntax.UnitStart.{UnitStart}
@@ -36,28 +35,15 @@ use Rattle.unit_laws.proofs.Squares.{IsInside, whole_inside, upper_left_inside, 
 use Rattle.unit_laws.proofs.Squares.{lower_left_inside, lower_right_inside, square_inside}
 use Rattle.unit_laws.proofs.Transforms.{transform_tree_kept}
 
--- samples of up to 8 bits, transform blocks of up to 32x32, and pulse code modulation of 8x8 to 32x32
+-- transform blocks of up to 32x32, and pulse code modulation of 8x8 to 32x32
 pub record Fits (format : UnitFormat) (syntax : CtuSyntax) : Type 0 where
-  pub luma : format.luma_depth ≤ 8
-  pub chroma : format.chroma_depth ≤ 8
   pub transform : syntax.log2_max_transform ≤ 3
-  pub luma_bits : syntax.pcm.luma_bits ≤ 8
-  pub chroma_bits : syntax.pcm.chroma_bits ≤ 8
   pub luma_pulses : syntax.pcm.luma_bits ≡ format.pcm_luma_bits
   pub chroma_pulses : syntax.pcm.chroma_bits ≡ format.pcm_chroma_bits
   pub least : syntax.pcm.enabled ≡ true → 1 ≤ syntax.pcm.log2_least
   pub greatest : syntax.pcm.log2_greatest ≤ 3
   pub coding : 1 ≤ syntax.log2_min_coding
   pub inter : FitsInter syntax.inter
-
-shifted-small : (depth bits most value : ℕ) → depth ≤ 8 → most ≤ 8 → value < 2 ^ most
-    → value * 2 ^ (depth - bits) < 65536
-shifted-small depth bits most value deep few below =
-    let sample : 2 ^ most ≤ 2 ^ 8 = pow-le-pow_right {n = 2} (omega arith) few in
-    let less : depth - bits ≤ 8 = omega (arith, deep) in
-    let shift : 2 ^ (depth - bits) ≤ 2 ^ 8 = pow-le-pow_right {n = 2} (omega arith) less in
-    let product : value * 2 ^ (depth - bits) ≤ value * 2 ^ 8 = mul-le-mul_left value shift in
-    omega (arith, below, sample, product)
 
 -- the sizes of pulse code modulation
 abbrev IsPcmSize : ℕ → Bool → Type 0
@@ -67,12 +53,6 @@ module _ (format : UnitFormat) (syntax : CtuSyntax) (fits : Fits format syntax) 
   abbrev Kept : Ctu → Type 0
   Kept = IsKept format (51 + syntax.qp_offset)
 
-  pulse : (most value : ℕ) → most ≤ 8 → value < 2 ^ most → IsPulse format value
-  pulse most value few below = record {
-    luma = shifted-small format.luma_depth format.pcm_luma_bits most value fits.luma few below;
-    chroma = shifted-small format.chroma_depth format.pcm_chroma_bits most value fits.chroma few below;
-  }
-
   pcm_kept : (square : Square) (ctu : Ctu) → IsSquare square → 1 ≤ square.log2_size → Kept ctu
       → Gives Kept (pcm_unit syntax.pcm square ctu)
   unfolding pcm_unit
@@ -80,11 +60,10 @@ module _ (format : UnitFormat) (syntax : CtuSyntax) (fits : Fits format syntax) 
       let greatest = 51 + syntax.qp_offset in
       after_any (λ began.
       then_gives (samples_run format greatest syntax.pcm.luma_bits (16 * 4 ^ square.log2_size) (added ctu (Pcm square))
-      (λ value below. pulse syntax.pcm.luma_bits value fits.luma_bits below)
       (added_read format greatest ctu (Pcm square) (read_of format greatest ctu kept) (inside, some) tt tt))
       (λ luma first.
       then_gives (samples_run format greatest syntax.pcm.chroma_bits (8 * 4 ^ square.log2_size) luma
-      (λ value below. pulse syntax.pcm.chroma_bits value fits.chroma_bits below) first.read)
+      first.read)
       (λ chroma second.
       after_any (λ ended. give_gives chroma
       (pulses_kept format greatest square ctu luma chroma syntax.pcm.luma_bits syntax.pcm.chroma_bits kept

@@ -152,11 +152,7 @@ module _ (format : UnitFormat) (common : CtuSyntax) (fits : Fits format common) 
   fits_at : (address : ℕ) → Fits format (syntax_at common picture segment address)
   unfolding syntax_at
   fits_at address = record {
-    luma = fits.luma;
-    chroma = fits.chroma;
     transform = fits.transform;
-    luma_bits = fits.luma_bits;
-    chroma_bits = fits.chroma_bits;
     luma_pulses = fits.luma_pulses;
     chroma_pulses = fits.chroma_pulses;
     least = fits.least;

@@ -2,7 +2,7 @@ use Rattle.std.proofs.Common.{◌≡◌, ◌≤◌, drop}
 use Rattle.ctu_build.specs.Building.{building}
 use Rattle.ctu_build.specs.Held.{held}
 use Rattle.ctu_build.specs.Inter.{inter_of}
-use Rattle.spec_reconstruction.specs.Sound.{AreSound, IsSound}
+use Rattle.spec_reconstruction.specs.Sound.{ArePulses, AreSound, IsSound}
 use Rattle.std.specs.List.{All}
 use Rattle.spec_reconstruction.specs.Unit.{items_built, before_unit}
 use Rattle.ctu_build.proofs.unit.build_items.Given as goal
@@ -11,6 +11,7 @@ abbrev pub invariant-loop-k : goal.invariant-loop-k
 invariant-loop-k g l = record {
   mode : l.coding.chroma_mode ≤ 34;
   told : AreSound l.source.format.now l.source.records.now.items → All (IsSound l.source.format.now) l.items
+      → ArePulses l.source.format.now l.items
       → items_built l.source.format.now (inter_of l.source.inter (g.V.RefWindow.reference_at l.fn.view))
       l.source.records.now.items (drop l.k l.items) (building l.coding (held l.samples))
       ≡ items_built l.source.format.now (inter_of l.source.inter (g.V.RefWindow.reference_at l.fn.view))
