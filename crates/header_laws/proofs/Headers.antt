@@ -1,5 +1,6 @@
 -- The ranges of slice segment headers that are read.
-use Rattle.std.proofs.Common.{◌≡◌, ◌∙◌, ℕ, ◌+◌, ◌-◌, ◌^◌, ◌/◌, inl, inr, ◌<◌, ◌≤◌, ℤ, pos, negsuc, ◌+ℤ◌, ◌≤ℤ◌, Bool}
+use Rattle.std.proofs.Common.{◌≡◌, ◌∙◌, ℕ, ◌+◌, ◌-◌, ◌^◌, ◌/◌, inl, inr, ◌<◌, ◌≤◌, ℤ, pos, negsuc, ◌+ℤ◌, ◌≤ℤ◌}
+use Rattle.std.specs.Prelude.{Bool, neg_ℤ}
 use Rattle.std.proofs.Common.{true, false, ◌==◌, ◌&&◌, ◌||◌, List, [], ◌∷◌, length, slice_index_or, Option, Some, None}
 use Rattle.std.proofs.Common.{is_some, IfSome, All, Result, Ok, Err, if◌then◌else◌, refl, sym, ap, subst, arith}
 use Rattle.std.specs.Prelude.{int_le, nat_lt, slice_get}
@@ -36,6 +37,7 @@ use Rattle.slice_types.specs.declared.weights.RefWeights.{RefWeights}
 use Rattle.header_types.specs.PictureParameterSet.{IsDeblockingControl, IsPps, IsWithin}
 use Rattle.header_types.specs.ReferencePictures.{IsStRps}
 use Rattle.header_types.specs.SequenceParameterSets.{IsSps, IsSubLayerOrdering, highest_ordering, max_lsb, no_ordering}
+use Rattle.header_types.specs.SequenceParameterSets.{qp_bd_offset_y}
 use Rattle.slice_types.specs.SliceHeaders.{HasFieldsOf, IsChromaWeight, IsCollocated, IsInterFields, IsLumaWeight}
 use Rattle.slice_types.specs.SliceHeaders.{IsPredWeightTable, IsReferenceFields, IsRefWeights, IsSliceDeblocking}
 use Rattle.slice_types.specs.SliceHeaders.{IsSliceFields, IsSliceHeader, active_1}
@@ -181,8 +183,27 @@ record IsInter (type : SliceType) (f : InterFields) : Type 0 where
 inter_is : (type : SliceType) (pps : PpsFields) (total : ℕ) (temporal : Bool) (f : InterFields) → IsPps pps
     → CanBe (inter_fields type pps total temporal) f → IsInter type f
 unfolding inter_fields
-inter_is type pps total temporal f is-pps
-    (override, override-is, (l0, l0-is, (l1, l1-is, (entries_0, entries_0-is, (entries_l1, entries_1-is, (mvd, mvd-is, (init, init-is, (c, c-is, (weights, weights-is, (merge, merge-is, e)))))))))) =
+inter_is type pps total temporal f is-pps (
+  override,
+  override-is,
+  (
+    l0,
+    l0-is,
+    (
+      l1,
+      l1-is,
+      (
+        entries_0,
+        entries_0-is,
+        (
+          entries_l1,
+          entries_1-is,
+          (mvd, mvd-is, (init, init-is, (c, c-is, (weights, weights-is, (merge, merge-is, e))))),
+        ),
+      ),
+    ),
+  ),
+) =
     let defaults = pps.slice_defaults in
     let ranged = is-pps.slice_defaults in
     let few : Header ℕ = ue_or override 14 defaults.num_ref_idx_l1_default_active_minus1 in
@@ -225,15 +246,26 @@ has_inter slice.I pps total temporal inter is-pps e = record { fields = rw (← 
 
 -- ---- quantization and filters
 
-qp_is : (pps : PpsFields) (delta : ℤ) → IsPps pps → CanBe (qp_delta pps) delta → IsWithin 51 51 delta
+-- SliceQpY from -QpBdOffsetY to 51, of samples of up to 10 bits
+qp_is : (offset : ℕ) (init coded : ℤ) → offset ≤ 12 → IsWithin 38 25 init
+    → IsWithin offset 51 (pos 26 +ℤ init +ℤ coded)
+    → IsWithin 63 63 coded
+qp_is offset init coded few init-is qp-is =
+    let low = init-is.least in
+    let high = init-is.greatest in
+    let from : neg_ℤ (pos offset) ≤ℤ (pos 26 +ℤ init +ℤ coded) = qp-is.least in
+    let to : (pos 26 +ℤ init +ℤ coded) ≤ℤ pos 51 = qp-is.greatest in
+    let deepest : neg_ℤ (pos 12) ≤ℤ neg_ℤ (pos offset) = omega (arith, ints) in
+    record { least = omega (arith, ints); greatest = omega (arith, ints) }
+
+qp_delta_is : (sps : SpsFields) (pps : PpsFields) (delta : ℤ) → IsSps sps → IsPps pps → CanBe (qp_delta sps pps) delta
+    → IsWithin 63 63 delta
 unfolding qp_delta
-qp_is pps delta is-pps (coded, coded-is, (fact, in_range, e)) =
-    let b = between 0 51 (slice_qp pps coded) in_range in
-    let low = is-pps.quantization.init_qp.least in
-    let high = is-pps.quantization.init_qp.greatest in
-    let from : pos 0 ≤ℤ (pos 26 +ℤ pps.quantization.init_qp_minus26 +ℤ coded) = b.0 in
-    let to : (pos 26 +ℤ pps.quantization.init_qp_minus26 +ℤ coded) ≤ℤ pos 51 = b.1 in
-    rw (← e) (record { least = omega (arith, ints); greatest = omega (arith, ints) })
+qp_delta_is sps pps delta is-sps is-pps (coded, coded-is, (fact, in_range, e)) =
+    let depth = is-sps.format.luma_depth in
+    rw (← e)
+    (qp_is (qp_bd_offset_y sps) pps.quantization.init_qp_minus26 coded (omega (arith, depth))
+    is-pps.quantization.init_qp (within (qp_bd_offset_y sps) 51 (slice_qp pps coded) in_range))
 
 offset_is : (present : Bool) (offset z : ℤ) → CanBe (chroma_offset present offset) z → IsWithin 12 12 z
 unfolding chroma_offset
@@ -279,19 +311,20 @@ unfolding deblocking
 deblocking_is control d is (override, override-is, own) = deblocking_either control override d is own
 
 record AreFilters (f : Filters) : Type 0 where
-  qp_delta : IsWithin 51 51 f.slice_qp_delta
+  qp_delta : IsWithin 63 63 f.slice_qp_delta
   cb : IsWithin 12 12 f.slice_cb_qp_offset
   cr : IsWithin 12 12 f.slice_cr_qp_offset
   deblocking : IsSliceDeblocking f.deblocking
 
-filters_are : (pps : PpsFields) (has_sao : Bool) (f : Filters) → IsPps pps → CanBe (filter_fields pps has_sao) f
+filters_are : (sps : SpsFields) (pps : PpsFields) (has_sao : Bool) (f : Filters) → IsSps sps → IsPps pps
+    → CanBe (filter_fields sps pps has_sao) f
     → AreFilters f
 unfolding filter_fields
-filters_are pps has_sao f is (qp, qp-is, (cb, cb-is, (cr, cr-is, (d, d-is, (across, across-is, e))))) =
+filters_are sps pps has_sao f is-sps is (qp, qp-is, (cb, cb-is, (cr, cr-is, (d, d-is, (across, across-is, e))))) =
     let quantization = pps.quantization in
     let control = pps.filters.deblocking_control in
     rw (← e) (record {
-      qp_delta = qp_is pps qp is qp-is;
+      qp_delta = qp_delta_is sps pps qp is-sps is qp-is;
       cb = offset_is quantization.pps_slice_chroma_qp_offsets_present_flag quantization.pps_cb_qp_offset cb cb-is;
       cr = offset_is quantization.pps_slice_chroma_qp_offsets_present_flag quantization.pps_cr_qp_offset cr cr-is;
       deblocking = deblocking_is (control_of control) d (control_is control is.filters.deblocking) d-is;
@@ -407,7 +440,7 @@ slice_is c former n s is (
   ),
 ) =
     let inter_ok = has_inter type n.pps _ temporal inter is.pps inter-is in
-    let f = filters_are n.pps (luma || chroma) filters is.pps filters-is in
+    let f = filters_are n.sps n.pps (luma || chroma) filters is.sps is.pps filters-is in
     rw (← e) (record {
       references = references_are c.nal_type n.sps references is.sps references-is;
       type = inter_ok.suits;
@@ -591,8 +624,23 @@ references_lsb nal_type sps r can = lsb_either (is_idr nal_type) sps r can
 slice_lsb : (c : Context) (former : Option SliceHeaderFields) (n : Named) (s : SliceFields)
     → CanBe (slice_fields c former n) s → s.references.slice_pic_order_cnt_lsb < max_lsb n.sps
 unfolding slice_fields later_fields
-slice_lsb c former n s
-    (reserved, a, (type, b, (output, d, (references, references-is, (rules, g, (temporal, h, (luma, i, (chroma, j, (inter, k, (filters, l, e)))))))))) =
+slice_lsb c former n s (
+  reserved,
+  a,
+  (
+    type,
+    b,
+    (
+      output,
+      d,
+      (
+        references,
+        references-is,
+        (rules, g, (temporal, h, (luma, i, (chroma, j, (inter, k, (filters, l, e)))))),
+      ),
+    ),
+  ),
+) =
     rw (← e) (references_lsb c.nal_type n.sps references references-is)
 
 own_lsb : (c : Context) (n : Named) (former : Option SliceHeaderFields) (segments : List SegmentPlan) (dependent : Bool)

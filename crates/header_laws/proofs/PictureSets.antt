@@ -44,7 +44,7 @@ unfolding pps_quantization
 quantization_is q
     (qp, qp-is, (constrained, a, (skip, b, (delta, d, (depth, f, (cb, cb-is, (cr, cr-is, (present, g, e)))))))) =
     rw (← e) (record {
-      init_qp = within 26 25 qp qp-is;
+      init_qp = within 38 25 qp qp-is;
       cb_qp_offset = within 12 12 cb cb-is;
       cr_qp_offset = within 12 12 cr cr-is;
     })

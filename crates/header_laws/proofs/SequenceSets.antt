@@ -64,8 +64,19 @@ main_is value n (found, a, (main, main-is, e)) = sym e ∙ eqb-true _ _ (wanted_
 
 format_is : (f : PictureFormat) → CanBe picture_format f → IsPictureFormat f
 unfolding picture_format
-format_is f
-    (chroma, chroma-is, (width, width-is, (height, height-is, (small, small-is, (flag, a, (window, window-ok, (luma, luma-is, (depth, depth-is, e)))))))) =
+format_is f (
+  chroma,
+  chroma-is,
+  (
+    width,
+    width-is,
+    (
+      height,
+      height-is,
+      (small, small-is, (flag, a, (window, window-ok, (luma, luma-is, (depth, depth-is, e))))),
+    ),
+  ),
+) =
     let w = side_is width width-is in
     let h = side_is height height-is in
     rw (← e) (record {
@@ -108,8 +119,27 @@ highest_is orderings some each =
 
 blocks_are : (width height : ℕ) (b : BlockSizes) → CanBe (block_sizes width height) b → IsBlockSizes width height b
 unfolding block_sizes
-blocks_are width height b
-    (least, least-is, (whole, whole-is, (diff, a, (main, main-is, (tb, d, (smaller, smaller-is, (more, f, (inside, inside-is, (inter, inter-is, (intra, intra-is, e)))))))))) =
+blocks_are width height b (
+  least,
+  least-is,
+  (
+    whole,
+    whole-is,
+    (
+      diff,
+      a,
+      (
+        main,
+        main-is,
+        (
+          tb,
+          d,
+          (smaller, smaller-is, (more, f, (inside, inside-is, (inter, inter-is, (intra, intra-is, e))))),
+        ),
+      ),
+    ),
+  ),
+) =
     let rows = and_parts (width % 2 ^ (least + 3) == 0) (height % 2 ^ (least + 3) == 0) whole-is in
     let ctb =
     and_parts (nat_le 4 (least + 3 + diff)) (nat_le (least + 3 + diff) 6)
@@ -126,17 +156,17 @@ blocks_are width height b
       intra = intra-is;
     })
 
-depth_is : (n : ℕ) → CanBe pcm_bit_depth n → n ≤ 7
+depth_is : (depth n : ℕ) → CanBe (pcm_bit_depth depth) n → n ≤ 7 + depth
 unfolding pcm_bit_depth
-depth_is n (minus1, a, (fact, in_range, e)) = rw (← e) (leb-true _ _ in_range)
+depth_is depth n (minus1, a, (fact, in_range, e)) = rw (← e) (leb-true _ _ in_range)
 
-pcm_is : (b : BlockSizes) (p : PcmFormat) → CanBe (pcm_format b) p → IsPcmFormat b p
+pcm_is : (f : PictureFormat) (b : BlockSizes) (p : PcmFormat) → CanBe (pcm_format f b) p → IsPcmFormat f b p
 unfolding pcm_format
-pcm_is b p
-    (luma, luma-is, (chroma, chroma-is, (least, a, (fact, in_range, (diff, d, (most, most-is, (disabled, f, e))))))) =
+pcm_is f b p
+    (luma, luma-is, (chroma, chroma-is, (least, a, (fact, in_range, (diff, d, (most, most-is, (disabled, g, e))))))) =
     rw (← e) (record {
-      luma_depth = depth_is luma luma-is;
-      chroma_depth = depth_is chroma chroma-is;
+      luma_depth = depth_is f.bit_depth_luma_minus8 luma luma-is;
+      chroma_depth = depth_is f.bit_depth_chroma_minus8 chroma chroma-is;
       least =
           leb-true _ _
           (and_parts (nat_le (min (min_cb_log2 b) 5) (least + 3)) (nat_le (least + 3) (min (ctb_log2 b) 5)) in_range).0;
@@ -219,13 +249,15 @@ order_is minus1 o (lsb, lsb-is, (present, a, (orderings, orderings-are, e))) =
       ordering = ordered.1;
     })
 
-tools_are : (blocks : BlockSizes) (t : SpsTools) → CanBe (sps_tools blocks) t → IsSpsTools blocks t
+tools_are : (format : PictureFormat) (blocks : BlockSizes) (t : SpsTools) → CanBe (sps_tools format blocks) t
+    → IsSpsTools format blocks t
 unfolding sps_tools
-tools_are blocks t
+tools_are format blocks t
     (scaling, a, (lists, lists-are, (amp, b, (sao, d, (pcm_on, f, (pcm, pcm-ok, e)))))) =
     rw (← e) (record {
       scaling_lists = scaled_is scaling lists lists-are;
-      pcm = optional_is (IsPcmFormat blocks) pcm_on (pcm_format blocks) pcm (pcm_is blocks) pcm-ok;
+      pcm =
+          optional_is (IsPcmFormat format blocks) pcm_on (pcm_format format blocks) pcm (pcm_is format blocks) pcm-ok;
     })
 
 references_are : (o : SpsOrder) (r : SpsReferences) → IsSpsOrder o → CanBe (sps_references o) r
@@ -271,7 +303,7 @@ sequence_set_is s (
       format = format_is format format-ok;
       order = ordered;
       blocks = blocks_are format.pic_width_in_luma_samples format.pic_height_in_luma_samples blocks blocks-ok;
-      tools = tools_are blocks tools tools-ok;
+      tools = tools_are format blocks tools tools-ok;
       references = references_are order references ordered references-ok;
     })
 

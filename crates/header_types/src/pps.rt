@@ -51,7 +51,7 @@ pub struct PpsSliceDefaults {
 /// How levels become residuals (7.4.3.3): init_qp_minus26 to pps_slice_chroma_qp_offsets_present_flag.
 #[derive(Clone, Copy, Debug, PartialEq, Eq)]
 pub struct PpsQuantization {
-    /// SliceQpY before slice_qp_delta is added, less 26: from -26 to 25.
+    /// SliceQpY before slice_qp_delta is added, less 26: from -(26 + QpBdOffsetY) to 25, and so from -38.
     pub init_qp_minus26: i32,
     /// Whether intra blocks are predicted from samples of intra coding units alone.
     pub constrained_intra_pred_flag: bool,

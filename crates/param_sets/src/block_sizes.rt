@@ -7,7 +7,7 @@ ghost use Rattle.spec_formats.specs.Fields.{optional};
 ghost use Rattle.spec_parameter_sets.specs.SequenceParameterSet.{block_sizes, pcm_bit_depth, pcm_format};
 
 use header_fields::FieldReader;
-use header_types::{BlockSizes, PcmFormat};
+use header_types::{BlockSizes, PcmFormat, PictureFormat};
 use hv_base::{FaultKind, Refusal};
 
 /// Whether blocks of 2^`log2` samples fill a side.
@@ -54,12 +54,15 @@ pub(crate) fn read_block_sizes<'a>(
 }
 
 #[tactic(auto, unfolding(spec_parameter_sets::specs::SequenceParameterSet::pcm_bit_depth))]
-fn read_pcm_bit_depth<'a>(reader: &mut FieldReader<'a>) -> Result<u32, Refusal>
-    ensures value { Takes (λ x. x) result reader.old reader.new pcm_bit_depth }
-    ensures in_range { IfOk result (λ x. x ≤ 7) }
+fn read_pcm_bit_depth<'a>(
+    reader: &mut FieldReader<'a>,
+    bit_depth_minus8: u32,
+) -> Result<u32, Refusal>
+    ensures value { Takes (λ x. x) result reader.old reader.new (pcm_bit_depth bit_depth_minus8) }
+    ensures in_range { IfOk result (λ x. x ≤ 7 + bit_depth_minus8) }
 {
     let minus1 = reader.u(4)?;
-    reader.ranged(minus1 <= 7)?;
+    reader.ranged(u64::from(minus1) <= 7 + u64::from(bit_depth_minus8))?;
     Ok(minus1)
 }
 
@@ -67,20 +70,27 @@ fn read_pcm_bit_depth<'a>(reader: &mut FieldReader<'a>) -> Result<u32, Refusal>
 pub(crate) fn read_pcm_format<'a>(
     reader: &mut FieldReader<'a>,
     enabled: bool,
+    format: &PictureFormat,
     blocks: &BlockSizes,
 ) -> Result<Option<PcmFormat>, Refusal>
     requires min_cb { min_cb_log2 blocks.now ≤ 6 }
     requires ctb { ctb_log2 blocks.now ≤ 6 }
-    ensures value { Takes (λ x. x) result reader.old reader.new (optional enabled (pcm_format blocks.now)) }
-    ensures in_range { IfOk result (λ pcm. IfSome pcm (IsPcmFormat blocks.now)) }
+    ensures value { Takes (λ x. x) result reader.old reader.new (optional enabled (pcm_format format.now blocks.now)) }
+    ensures in_range { IfOk result (λ pcm. IfSome pcm (IsPcmFormat format.now blocks.now)) }
 {
     if !enabled {
         return Ok(None);
     }
     let min_cb_log2 = blocks.log2_min_luma_coding_block_size_minus3 + 3;
     let ctb_log2 = min_cb_log2 + blocks.log2_diff_max_min_luma_coding_block_size;
-    let pcm_sample_bit_depth_luma_minus1 = read_pcm_bit_depth(reader)?;
-    let pcm_sample_bit_depth_chroma_minus1 = read_pcm_bit_depth(reader)?;
+    let pcm_sample_bit_depth_luma_minus1 = read_pcm_bit_depth(
+        reader,
+        format.bit_depth_luma_minus8,
+    )?;
+    let pcm_sample_bit_depth_chroma_minus1 = read_pcm_bit_depth(
+        reader,
+        format.bit_depth_chroma_minus8,
+    )?;
     let minus3 = reader.ue()?;
     let min_pcm_log2 = u64::from(minus3) + 3;
     let greatest = u64::from(ctb_log2.min(5));

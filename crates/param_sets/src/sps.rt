@@ -6,8 +6,8 @@ ghost use Rattle.header_types.specs.Scaling.{IsScalingLists};
 ghost use Rattle.header_types.specs.SequenceParameterSets.{IsSps, IsSpsIdentity, IsSpsOrder, IsSpsReferences};
 ghost use Rattle.header_types.specs.SequenceParameterSets.{IsSpsTools, ctb_log2, max_lsb_of, min_cb_log2};
 ghost use Rattle.spec_formats.specs.Fields.{Parses};
-ghost use Rattle.spec_parameter_sets.specs.SequenceParameterSet.{scaling_lists, sps_identity, sps_order};
-ghost use Rattle.spec_parameter_sets.specs.SequenceParameterSet.{sps_references, sps_tools};
+ghost use Rattle.spec_parameter_sets.specs.SequenceParameterSet.{present_scaling_lists, scaling_lists, sps_identity};
+ghost use Rattle.spec_parameter_sets.specs.SequenceParameterSet.{sps_order, sps_references, sps_tools};
 ghost use Rattle.spec_parameter_sets.specs.SequenceParameterSet.{sequence_parameter_set, sequence_parameter_set_of};
 
 use crate::block_sizes::{read_block_sizes, read_pcm_format};
@@ -20,7 +20,8 @@ use crate::sub_layers::{
 };
 use header_fields::FieldReader;
 use header_types::{
-    BlockSizes, ScalingLists, Sps, SpsFields, SpsIdentity, SpsOrder, SpsReferences, SpsTools,
+    BlockSizes, PictureFormat, ScalingLists, Sps, SpsFields, SpsIdentity, SpsOrder, SpsReferences,
+    SpsTools,
 };
 use hv_base::{PARAMETER_SET_RULES, Refusal};
 use std::alloc::Global;
@@ -68,7 +69,19 @@ fn read_order<'a>(
     })
 }
 
-#[tactic(auto, unfolding(spec_parameter_sets::specs::SequenceParameterSet::scaling_lists, spec_parameter_sets::specs::SequenceParameterSet::present_scaling_lists))]
+#[tactic(auto, unfolding(spec_parameter_sets::specs::SequenceParameterSet::present_scaling_lists))]
+fn read_present_scaling_lists<'a>(
+    alloc: Global,
+    reader: &mut FieldReader<'a>,
+) -> Result<Option<ScalingLists>, Refusal>
+    ensures value { Takes (λ x. x) result reader.old reader.new present_scaling_lists }
+    ensures in_range { IfOk result (λ lists. IfSome lists IsScalingLists) }
+{
+    let sps_scaling_list_data_present_flag = reader.flag()?;
+    read_scaling_lists(alloc, reader, sps_scaling_list_data_present_flag)
+}
+
+#[tactic(auto, unfolding(spec_parameter_sets::specs::SequenceParameterSet::scaling_lists))]
 fn read_enabled_scaling_lists<'a>(
     alloc: Global,
     reader: &mut FieldReader<'a>,
@@ -80,27 +93,27 @@ fn read_enabled_scaling_lists<'a>(
     if !enabled {
         return Ok(None);
     }
-    let sps_scaling_list_data_present_flag = reader.flag()?;
-    read_scaling_lists(alloc, reader, sps_scaling_list_data_present_flag)
+    read_present_scaling_lists(alloc, reader)
 }
 
 #[tactic(auto, unfolding(spec_parameter_sets::specs::SequenceParameterSet::sps_tools))]
 fn read_tools<'a>(
     alloc: Global,
     reader: &mut FieldReader<'a>,
+    format: &PictureFormat,
     blocks: &BlockSizes,
 ) -> Result<SpsTools, Refusal>
     requires min_cb { min_cb_log2 blocks.now ≤ 6 }
     requires ctb { ctb_log2 blocks.now ≤ 6 }
-    ensures value { Takes (λ x. x) result reader.old reader.new (sps_tools blocks.now) }
-    ensures in_range { IfOk result (IsSpsTools blocks.now) }
+    ensures value { Takes (λ x. x) result reader.old reader.new (sps_tools format.now blocks.now) }
+    ensures in_range { IfOk result (IsSpsTools format.now blocks.now) }
 {
     let scaling_list_enabled_flag = reader.flag()?;
     let scaling_lists = read_enabled_scaling_lists(alloc, reader, scaling_list_enabled_flag)?;
     let amp_enabled_flag = reader.flag()?;
     let sample_adaptive_offset_enabled_flag = reader.flag()?;
     let pcm_enabled_flag = reader.flag()?;
-    let pcm = read_pcm_format(reader, pcm_enabled_flag, blocks)?;
+    let pcm = read_pcm_format(reader, pcm_enabled_flag, format, blocks)?;
     Ok(SpsTools {
         scaling_list_enabled_flag,
         scaling_lists,
@@ -151,7 +164,7 @@ fn read_fields<'a>(alloc: Global, reader: &mut FieldReader<'a>) -> Result<SpsFie
         format.pic_width_in_luma_samples,
         format.pic_height_in_luma_samples,
     )?;
-    let tools = read_tools(alloc, reader, &blocks)?;
+    let tools = read_tools(alloc, reader, &format, &blocks)?;
     let references = read_references(alloc, reader, &order)?;
     let strong_intra_smoothing_enabled_flag = reader.flag()?;
     let vui_parameters_present_flag = reader.flag()?;

@@ -72,7 +72,7 @@ fn read_quantization<'a>(reader: &mut FieldReader<'a>) -> Result<PpsQuantization
     ensures in_range { IfOk result IsPpsQuantization }
     ensures value { Takes (λ x. x) result reader.old reader.new pps_quantization }
 {
-    let init_qp_minus26 = reader.se_within(26, 25)?;
+    let init_qp_minus26 = reader.se_within(38, 25)?;
     let constrained_intra_pred_flag = reader.flag()?;
     let transform_skip_enabled_flag = reader.flag()?;
     let cu_qp_delta_enabled_flag = reader.flag()?;

@@ -2,7 +2,7 @@
 
 ghost use Rattle.std.specs.Prelude.{◌≡◌, ◌<◌, ◌≤◌, ◌^◌, ◌+ℤ◌, length};
 ghost use Rattle.std.specs.Option.{option_copied};
-ghost use Rattle.header_types.specs.SequenceParameterSets.{max_lsb};
+ghost use Rattle.header_types.specs.SequenceParameterSets.{max_lsb, qp_bd_offset_y};
 ghost use Rattle.header_fields.specs.Takes.{Takes};
 ghost use Rattle.spec_formats.specs.Fields.{is_within};
 ghost use Rattle.spec_slice_headers.specs.SliceFields.{kind_of, type_of, slice_type, temporal_flag, slice_qp, qp_delta};
@@ -69,14 +69,22 @@ fn slice_qp(pps: &Pps, slice_qp_delta: i32) -> i64
     26 + i64::from(pps.fields().quantization.init_qp_minus26) + i64::from(slice_qp_delta)
 }
 
-/// slice_qp_delta, with which SliceQpY is from 0 to 51.
+/// Whether SliceQpY is from -QpBdOffsetY to 51.
+fn is_slice_qp(sps: &Sps, qp: i64) -> bool
+    ensures { result ≡ is_within (qp_bd_offset_y sps.now) 51 qp }
+{
+    let offset = 6 * i64::from(sps.fields().format.bit_depth_luma_minus8);
+    -offset <= qp && qp <= 51
+}
+
+/// slice_qp_delta, with which SliceQpY is from -QpBdOffsetY to 51.
 #[tactic(auto, unfolding(spec_slice_headers::specs::SliceFields::qp_delta))]
-fn read_qp_delta<'a>(reader: &mut FieldReader<'a>, pps: &Pps) -> Result<i32, Refusal>
-    ensures { Takes (λ x. x) result reader.old reader.new (qp_delta pps.now) }
+fn read_qp_delta<'a>(reader: &mut FieldReader<'a>, sps: &Sps, pps: &Pps) -> Result<i32, Refusal>
+    ensures { Takes (λ x. x) result reader.old reader.new (qp_delta sps.now pps.now) }
 {
     let slice_qp_delta = reader.se()?;
     let qp = slice_qp(pps, slice_qp_delta);
-    reader.ranged(0 <= qp && qp <= 51)?;
+    reader.ranged(is_slice_qp(sps, qp))?;
     Ok(slice_qp_delta)
 }
 
@@ -188,7 +196,7 @@ fn read_across_slices<'a>(
 /// The fields of a slice's quantization and of its filters.
 #[derive(Clone, Copy)]
 pub struct FilterFields {
-    /// SliceQpY less 26 and init_qp_minus26: SliceQpY is from 0 to 51.
+    /// SliceQpY less 26 and init_qp_minus26: SliceQpY is from -QpBdOffsetY to 51.
     pub slice_qp_delta: i32,
     /// What is added to pps_cb_qp_offset: from -12 to 12, and so is the sum.
     pub slice_cb_qp_offset: i32,
@@ -204,14 +212,15 @@ pub struct FilterFields {
 #[tactic(auto, unfolding(spec_slice_headers::specs::SliceFields::filter_fields))]
 fn read_filter_fields<'a>(
     reader: &mut FieldReader<'a>,
+    sps: &Sps,
     pps: &Pps,
     has_sao: bool,
 ) -> Result<FilterFields, Refusal>
-    ensures { Takes filters_of result reader.old reader.new (filter_fields pps.now has_sao) }
+    ensures { Takes filters_of result reader.old reader.new (filter_fields sps.now pps.now has_sao) }
 {
     let quantization = &pps.fields().quantization;
     let is_coded = quantization.pps_slice_chroma_qp_offsets_present_flag;
-    let slice_qp_delta = read_qp_delta(reader, pps)?;
+    let slice_qp_delta = read_qp_delta(reader, sps, pps)?;
     let slice_cb_qp_offset = read_chroma_offset(reader, is_coded, quantization.pps_cb_qp_offset)?;
     let slice_cr_qp_offset = read_chroma_offset(reader, is_coded, quantization.pps_cr_qp_offset)?;
     let control = control_of(pps.fields().filters.deblocking_control);
@@ -291,7 +300,7 @@ fn read_later_fields<'a, 'b, 'c>(
         slice_sao_luma_flag: is_luma,
         slice_sao_chroma_flag: is_chroma,
         inter,
-        filters: read_filter_fields(reader, named.pps, is_luma || is_chroma)?,
+        filters: read_filter_fields(reader, named.sps, named.pps, is_luma || is_chroma)?,
     })
 }
 

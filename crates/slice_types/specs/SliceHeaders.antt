@@ -82,7 +82,7 @@ pub record IsSliceFields (s : SliceFields) : Type 0 where
   pub references : IsReferenceFields s.references
   pub type : HasFieldsOf s.slice_type s.inter
   pub inter : IfSome s.inter IsInterFields
-  pub qp_delta : IsWithin 51 51 s.slice_qp_delta
+  pub qp_delta : IsWithin 63 63 s.slice_qp_delta
   pub cb_qp_offset : IsWithin 12 12 s.slice_cb_qp_offset
   pub cr_qp_offset : IsWithin 12 12 s.slice_cr_qp_offset
   pub deblocking : IsSliceDeblocking s.deblocking

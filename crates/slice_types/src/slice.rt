@@ -135,7 +135,7 @@ pub struct SliceFields {
     pub slice_sao_chroma_flag: bool,
     /// The fields of P and B slices.
     pub inter: Option<InterFields>,
-    /// SliceQpY is 26 + init_qp_minus26 + slice_qp_delta, from 0 to 51.
+    /// SliceQpY is 26 + init_qp_minus26 + slice_qp_delta, from -QpBdOffsetY to 51.
     pub slice_qp_delta: i32,
     /// What is added to pps_cb_qp_offset: from -12 to 12, and so is the sum.
     pub slice_cb_qp_offset: i32,

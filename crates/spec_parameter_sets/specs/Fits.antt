@@ -1,8 +1,9 @@
 -- Whether a picture parameter set agrees with the sequence parameter set that it names (7.4.3.3).
-use Rattle.std.specs.Prelude.{ℕ, ◌+◌, Bool, ◌&&◌, nat_le, Option, Some, None}
+use Rattle.std.specs.Prelude.{ℕ, ◌+◌, ℤ, pos, neg_ℤ, int_le, Bool, ◌&&◌, nat_le, Option, Some, None}
 use Rattle.header_types.specs.declared.pps.PpsFields.{PpsFields}
 use Rattle.header_types.specs.declared.sps.BlockSizes.{BlockSizes}
 use Rattle.header_types.specs.declared.sps.SpsFields.{SpsFields}
+use Rattle.header_types.specs.SequenceParameterSets.{qp_bd_offset_y}
 
 -- MinCbLog2SizeY
 abbrev pub min_cb_log2_size : BlockSizes → ℕ
@@ -21,9 +22,14 @@ qp_delta_depth (Some depth) = depth
 abbrev pub log2_par_mrg_level : PpsFields → ℕ
 log2_par_mrg_level pps = pps.log2_parallel_merge_level_minus2 + 2
 
--- quantization groups aren't smaller than the least coding block, and parallel merge regions not larger than the coding
--- tree block
+-- the least init_qp_minus26, by QpBdOffsetY
+abbrev pub least_init_qp : ℕ → ℤ
+least_init_qp offset = neg_ℤ (pos (26 + offset))
+
+-- quantization groups aren't smaller than the least coding block, parallel merge regions not larger than the coding
+-- tree block, and SliceQpY is in the range of the bit depth before slice_qp_delta is added
 unfoldable pub fits : SpsFields → PpsFields → Bool
 fits sps pps =
     nat_le (qp_delta_depth pps.quantization.diff_cu_qp_delta_depth) sps.blocks.log2_diff_max_min_luma_coding_block_size
-    && nat_le (log2_par_mrg_level pps) (ctb_log2_size sps.blocks)
+    && (nat_le (log2_par_mrg_level pps) (ctb_log2_size sps.blocks)
+    && int_le (least_init_qp (qp_bd_offset_y sps)) pps.quantization.init_qp_minus26)

@@ -65,10 +65,11 @@ pps_slice_defaults = do
     num_ref_idx_l1_default_active_minus1 = num_ref_idx_l1_default_active_minus1;
   })
 
--- init_qp_minus26 to pps_slice_chroma_qp_offsets_present_flag
+-- init_qp_minus26 to pps_slice_chroma_qp_offsets_present_flag. The least init_qp_minus26 is that of samples of 10 bits:
+-- whether it suits the bit depth is known where a slice names the sets
 unfoldable pub pps_quantization : Header PpsQuantization
 pps_quantization = do
-  init_qp_minus26 ← se_within 26 25
+  init_qp_minus26 ← se_within 38 25
   constrained_intra_pred_flag ← flag
   transform_skip_enabled_flag ← flag
   cu_qp_delta_enabled_flag ← flag

@@ -132,18 +132,18 @@ unfoldable pub scaling_lists : Bool → Header (Option ScalingLists)
 scaling_lists false = give None
 scaling_lists true = present_scaling_lists
 
--- pcm_sample_bit_depth: less 1, at most the 8 bits of the samples
-unfoldable pub pcm_bit_depth : Header ℕ
-pcm_bit_depth = do
+-- pcm_sample_bit_depth: less 1, by the bit depth of the samples less 8, which it is not over
+unfoldable pub pcm_bit_depth : ℕ → Header ℕ
+pcm_bit_depth bit_depth_minus8 = do
   minus1 ← u 4
-  within ← ranged (nat_le minus1 7)
+  within ← ranged (nat_le minus1 (7 + bit_depth_minus8))
   give minus1
 
 -- the fields behind pcm_enabled_flag
-unfoldable pub pcm_format : BlockSizes → Header PcmFormat
-pcm_format blocks = do
-  pcm_sample_bit_depth_luma_minus1 ← pcm_bit_depth
-  pcm_sample_bit_depth_chroma_minus1 ← pcm_bit_depth
+unfoldable pub pcm_format : PictureFormat → BlockSizes → Header PcmFormat
+pcm_format format blocks = do
+  pcm_sample_bit_depth_luma_minus1 ← pcm_bit_depth format.bit_depth_luma_minus8
+  pcm_sample_bit_depth_chroma_minus1 ← pcm_bit_depth format.bit_depth_chroma_minus8
   log2_min_pcm_minus3 ← ue
   least ←
       ranged (nat_le (min (min_cb_log2 blocks) 5) (log2_min_pcm_minus3 + 3)
@@ -226,14 +226,14 @@ sps_order sps_max_sub_layers_minus1 = do
   })
 
 -- scaling_list_enabled_flag to pcm_loop_filter_disabled_flag
-unfoldable pub sps_tools : BlockSizes → Header SpsTools
-sps_tools blocks = do
+unfoldable pub sps_tools : PictureFormat → BlockSizes → Header SpsTools
+sps_tools format blocks = do
   scaling_list_enabled_flag ← flag
   scaling_lists ← scaling_lists scaling_list_enabled_flag
   amp_enabled_flag ← flag
   sample_adaptive_offset_enabled_flag ← flag
   pcm_enabled_flag ← flag
-  pcm ← optional pcm_enabled_flag (pcm_format blocks)
+  pcm ← optional pcm_enabled_flag (pcm_format format blocks)
   give (record {
     scaling_list_enabled_flag = scaling_list_enabled_flag;
     scaling_lists = scaling_lists;
@@ -264,7 +264,7 @@ sequence_parameter_set = do
   format ← picture_format
   order ← sps_order identity.sps_max_sub_layers_minus1
   blocks ← block_sizes format.pic_width_in_luma_samples format.pic_height_in_luma_samples
-  tools ← sps_tools blocks
+  tools ← sps_tools format blocks
   references ← sps_references order
   strong_intra_smoothing_enabled_flag ← flag
   vui_parameters_present_flag ← flag

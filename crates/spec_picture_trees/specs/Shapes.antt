@@ -10,7 +10,7 @@ use Rattle.slice_types.specs.declared.slice.SliceFields.{SliceFields}
 use Rattle.slice_types.specs.declared.slice.SliceType.{SliceType}
 use Rattle.block_geometry.specs.CodingTreeBlocks.{ctb_place}
 use Rattle.header_types.specs.SequenceParameterSets.{ctb_log2, min_cb_log2, min_tb_log2, max_tb_log2, min_pcm_log2}
-use Rattle.header_types.specs.SequenceParameterSets.{max_pcm_log2, width_in_ctbs}
+use Rattle.header_types.specs.SequenceParameterSets.{max_pcm_log2, width_in_ctbs, qp_bd_offset_y}
 use Rattle.plan_types.specs.declared.segment_plan.SegmentPlan.{SegmentPlan}
 use Rattle.plan_types.specs.declared.picture_plan.PicturePlan.{PicturePlan}
 use Rattle.plan_types.specs.Segments.{address_of}
@@ -39,7 +39,7 @@ picture_shape sps pps = record {
 
 -- QpBdOffsetY
 abbrev pub qp_bd_offset : SpsFields → ℕ
-qp_bd_offset sps = 6 * sps.format.bit_depth_luma_minus8
+qp_bd_offset sps = qp_bd_offset_y sps
 
 -- the blocks that pulse code modulation takes
 abbrev pub pcm_syntax : Option PcmFormat → PcmSyntax

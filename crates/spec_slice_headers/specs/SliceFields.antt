@@ -1,5 +1,5 @@
 -- The fields of a slice, from slice_reserved_flag to slice_loop_filter_across_slices_enabled_flag (7.3.6.1, 7.4.7.1).
-use Rattle.std.specs.Prelude.{ℕ, ◌+◌, ℤ, pos, ◌+ℤ◌, int_le, Bool, true, false, not, ◌&&◌, ◌||◌, Option, Some, None}
+use Rattle.std.specs.Prelude.{ℕ, ◌+◌, ℤ, pos, ◌+ℤ◌, Bool, true, false, not, ◌&&◌, ◌||◌, Option, Some, None}
 use Rattle.std.specs.Prelude.{◌==◌, if◌then◌else◌}
 use Rattle.std.specs.Bool.{beq}
 use Rattle.hv_base.specs.declared.fault.FaultKind.TheVariants as rule
@@ -14,7 +14,7 @@ use Rattle.slice_types.specs.declared.slice.InterFields.{InterFields}
 use Rattle.slice_types.specs.declared.slice.SliceDeblocking.{SliceDeblocking}
 use Rattle.slice_types.specs.declared.slice.SliceFields.{SliceFields}
 use Rattle.slice_types.specs.declared.slice.SliceHeaderFields.{SliceHeaderFields}
-use Rattle.header_types.specs.SequenceParameterSets.{max_lsb}
+use Rattle.header_types.specs.SequenceParameterSets.{max_lsb, qp_bd_offset_y}
 use Rattle.spec_formats.specs.Format.{wanted, when◌then◌else◌}
 use Rattle.spec_formats.specs.Fields.{Header, ◌>>=◌, give, ranged, is_within, u, flag, ue_to, se, se_within, optional}
 use Rattle.spec_reference_pictures.specs.PictureOrderCount.{is_irap, is_idr}
@@ -63,11 +63,11 @@ inter_of type pps total temporal = optional (not (is_i type)) (inter_fields type
 abbrev pub slice_qp : PpsFields → ℤ → ℤ
 slice_qp pps slice_qp_delta = pos 26 +ℤ pps.quantization.init_qp_minus26 +ℤ slice_qp_delta
 
--- slice_qp_delta: SliceQpY is from 0 to 51
-unfoldable pub qp_delta : PpsFields → Header ℤ
-qp_delta pps = do
+-- slice_qp_delta: SliceQpY is from -QpBdOffsetY to 51
+unfoldable pub qp_delta : SpsFields → PpsFields → Header ℤ
+qp_delta sps pps = do
   slice_qp_delta ← se
-  in_range ← ranged (int_le (pos 0) (slice_qp pps slice_qp_delta) && int_le (slice_qp pps slice_qp_delta) (pos 51))
+  in_range ← ranged (is_within (qp_bd_offset_y sps) 51 (slice_qp pps slice_qp_delta))
   give slice_qp_delta
 
 -- slice_cb_qp_offset or slice_cr_qp_offset: from -12 to 12, and so is its sum with that of the picture parameter set
@@ -137,9 +137,9 @@ pub record Filters : Type 0 where
   pub slice_loop_filter_across_slices_enabled_flag : Bool
 
 -- quantization parameter, chroma offsets and filters of a slice (7.3.6.1)
-unfoldable pub filter_fields : PpsFields → Bool → Header Filters
-filter_fields pps has_sao = do
-  slice_qp_delta ← qp_delta pps
+unfoldable pub filter_fields : SpsFields → PpsFields → Bool → Header Filters
+filter_fields sps pps has_sao = do
+  slice_qp_delta ← qp_delta sps pps
   slice_cb_qp_offset ←
       chroma_offset pps.quantization.pps_slice_chroma_qp_offsets_present_flag pps.quantization.pps_cb_qp_offset
   slice_cr_qp_offset ←
@@ -162,7 +162,7 @@ later_fields c former n type output references = do
   slice_sao_luma_flag ← flag_or n.sps.tools.sample_adaptive_offset_enabled_flag false
   slice_sao_chroma_flag ← flag_or n.sps.tools.sample_adaptive_offset_enabled_flag false
   inter ← inter_of type n.pps (num_pic_total_curr references) slice_temporal_mvp_enabled_flag
-  filters ← filter_fields n.pps (slice_sao_luma_flag || slice_sao_chroma_flag)
+  filters ← filter_fields n.sps n.pps (slice_sao_luma_flag || slice_sao_chroma_flag)
   give (record {
     slice_type = type;
     pic_output_flag = output;

@@ -11,9 +11,10 @@ use Rattle.header_types.specs.declared.sps.BlockSizes.{BlockSizes}
 use Rattle.slice_types.specs.declared.slice.InterFields.{InterFields}
 use Rattle.slice_types.specs.declared.slice.SliceType.{SliceType}
 use Rattle.header_types.specs.declared.sps.PcmFormat.{PcmFormat}
+use Rattle.header_types.specs.declared.sps.PictureFormat.{PictureFormat}
 use Rattle.header_types.specs.declared.sps.SpsFields.{SpsFields}
-use Rattle.header_types.specs.SequenceParameterSets.{IsSps, IsPcmFormat, ctb_log2, max_tb_log2, max_pcm_log2}
-use Rattle.header_types.specs.SequenceParameterSets.{size_in_ctbs}
+use Rattle.header_types.specs.SequenceParameterSets.{IsSps, IsPcmFormat, ctb_log2, max_tb_log2}
+use Rattle.header_types.specs.SequenceParameterSets.{max_pcm_log2, size_in_ctbs}
 use Rattle.plan_types.specs.declared.segment_plan.SegmentPlan.{SegmentPlan}
 use Rattle.plan_types.specs.declared.picture_plan.PicturePlan.{PicturePlan}
 use Rattle.spec_reconstruction.specs.declared.format.UnitFormat.{UnitFormat}
@@ -59,19 +60,20 @@ first_qp-small : (offset : ℕ) (qp : ℤ) → first_qp offset qp ≤ 51 + offse
 first_qp-small offset qp = raised (51 + offset) (int_min _ (pos (51 + offset))) (lowered (51 + offset) _)
 
 -- the blocks of pulse code modulation that a sequence parameter set has
-record IsPcm (pcm : PcmSyntax) : Type 0 where
-  luma_bits : pcm.luma_bits ≤ 8
-  chroma_bits : pcm.chroma_bits ≤ 8
+record IsPcm (f : PictureFormat) (pcm : PcmSyntax) : Type 0 where
+  luma_bits : pcm.luma_bits ≤ 8 + f.bit_depth_luma_minus8
+  chroma_bits : pcm.chroma_bits ≤ 8 + f.bit_depth_chroma_minus8
   least : pcm.enabled ≡ true → 1 ≤ pcm.log2_least
   greatest : pcm.log2_greatest ≤ 3
 
 below_both : (n a b : ℕ) → n ≤ min a b → n ≤ b
 below_both n a b small = omega (arith, small)
 
-pcm-fits : (b : BlockSizes) (pcm : Option PcmFormat) → IfSome pcm (IsPcmFormat b) → IsPcm (pcm_syntax pcm)
-pcm-fits b None is =
+pcm-fits : (f : PictureFormat) (b : BlockSizes) (pcm : Option PcmFormat) → IfSome pcm (IsPcmFormat f b)
+    → IsPcm f (pcm_syntax pcm)
+pcm-fits f b None is =
     record { luma_bits = omega arith; chroma_bits = omega arith; least = λ e. absurd cc; greatest = omega arith }
-pcm-fits b (Some pcm) is =
+pcm-fits f b (Some pcm) is =
     let most = below_both (max_pcm_log2 pcm) (ctb_log2 b) 5 is.greatest in
     record {
       luma_bits = omega (arith, is.luma_depth);
@@ -100,7 +102,7 @@ module _ (p : PicturePlan) (sps : IsSps p.sps) (t : SegmentPlan) where
   pub format-fits : IsFormat (unit_format p.sps p.pps t.header.slice)
   unfolding unit_format
   format-fits =
-      let pcm = pcm-fits p.sps.blocks p.sps.tools.pcm sps.tools.pcm in
+      let pcm = pcm-fits p.sps.format p.sps.blocks p.sps.tools.pcm sps.tools.pcm in
       record {
         luma = (omega arith, omega (arith, sps.format.luma_depth));
         chroma = (omega arith, omega (arith, sps.format.chroma_depth));
@@ -111,7 +113,7 @@ module _ (p : PicturePlan) (sps : IsSps p.sps) (t : SegmentPlan) where
   syntax-fits : (s : SegmentPlan) → Fits Format (segment_syntax p s)
   unfolding unit_format slice_syntax
   syntax-fits s =
-      let pcm = pcm-fits p.sps.blocks p.sps.tools.pcm sps.tools.pcm in
+      let pcm = pcm-fits p.sps.format p.sps.blocks p.sps.tools.pcm sps.tools.pcm in
       let most = below_both (max_tb_log2 p.sps.blocks) (ctb_log2 p.sps.blocks) 5 sps.blocks.max_tb in
       record {
         transform = omega (arith, most);
