@@ -291,7 +291,7 @@ sequence_set_is s (
         (
           tools,
           tools-ok,
-          (references, references-ok, (strong, a, (vui, b, e))),
+          (references, references-ok, (strong, a, (vui, b, (kept, k, e)))),
         ),
       ),
     ),

@@ -39,6 +39,7 @@ use Rattle.spec_slice_headers.specs.SegmentHeader.{alignment, slice_header_of}
 use Rattle.spec_slice_headers.specs.SegmentStart.{front, later_place, place}
 use Rattle.spec_slice_headers.specs.SliceFields.{slice_type, temporal_flag, qp_delta, chroma_offset, own_deblocking}
 use Rattle.spec_slice_headers.specs.SliceFields.{deblocking, filter_fields, later_fields, slice_fields}
+use Rattle.spec_parameter_sets.specs.Levels.{level_of, max_dpb_size, within_level, level_kept}
 use Rattle.spec_written_headers.specs.Codes.{bits_of, spelled, code_at}
 use Rattle.spec_reference_pictures.specs.ReferenceLists.{in_turn, temporary_entry, reference_list, reference_lists}
 use Rattle.spec_output_order.specs.OutputOrder.{is_full_of_references, needs_bumping, bumped, started, ended}
@@ -56,7 +57,7 @@ unfoldable pub sets_computed : ⊤
 unfolding sequence_payload picture_payload made_sps made_pps highest_ordering blocks_across deblocking_offset
     deblocking_control pps_identity pps_slice_defaults pps_quantization pps_prediction pps_filters
     picture_parameter_set picture_parameter_set_of reserved_44bits profile sub_layer_flags reserved_2bits sub_layer
-    profile_tier_level side conformance_window main_only picture_format sub_layer_ordering ordered_sub_layers
+    profile_tier_level level_of max_dpb_size within_level level_kept side conformance_window main_only picture_format sub_layer_ordering ordered_sub_layers
     block_sizes present_scaling_lists scaling_lists pcm_bit_depth pcm_format sets_behind short_term_ref_pic_sets
     long_term_candidate long_term_candidates sub_layers sps_identity sps_order sps_tools sps_references
     sequence_parameter_set sequence_parameter_set_of field_at repeated each bit_of bits number_of u_at flag_at ue_at

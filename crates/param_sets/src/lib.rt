@@ -2,6 +2,7 @@
 #![tactic(auto)]
 
 mod block_sizes;
+mod level;
 mod picture_format;
 mod picture_scaling;
 mod profile;

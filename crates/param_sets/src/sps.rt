@@ -11,6 +11,7 @@ ghost use Rattle.spec_parameter_sets.specs.SequenceParameterSet.{sps_order, sps_
 ghost use Rattle.spec_parameter_sets.specs.SequenceParameterSet.{sequence_parameter_set, sequence_parameter_set_of};
 
 use crate::block_sizes::{read_block_sizes, read_pcm_format};
+use crate::level::judge_level;
 use crate::picture_format::read_picture_format;
 use crate::profile::read_profile_tier_level;
 use crate::reference_sets::{read_long_term_candidates, read_short_term_sets};
@@ -168,6 +169,13 @@ fn read_fields<'a>(alloc: Global, reader: &mut FieldReader<'a>) -> Result<SpsFie
     let references = read_references(alloc, reader, &order)?;
     let strong_intra_smoothing_enabled_flag = reader.flag()?;
     let vui_parameters_present_flag = reader.flag()?;
+    judge_level(
+        reader,
+        identity.profile_tier_level.general_level_idc,
+        format.pic_width_in_luma_samples,
+        format.pic_height_in_luma_samples,
+        greatest_buffering(order.sub_layer_ordering.as_slice()) + 1,
+    )?;
     Ok(SpsFields {
         identity,
         format,
@@ -183,7 +191,8 @@ fn read_fields<'a>(alloc: Global, reader: &mut FieldReader<'a>) -> Result<SpsFie
 /// The sequence parameter set whose payload, behind the unit's header, this is. The first field that breaks a rule or
 /// meets a limit decides: `ParamSyntax` where the payload ends inside a field or a prefix has over 31 zeros,
 /// `ParamRange` where a field is out of range (7.4.3.2), `Profile` where the set isn't one of the Main profile, the
-/// limits `Side` and `Area` where a picture is too large. What stands behind vui_parameters_present_flag isn't read.
+/// limits `Side` and `Area` where a picture is too large, and behind the last field `LevelExceeded` where the pictures
+/// exceed the level (A.4.1). What stands behind vui_parameters_present_flag isn't read.
 #[tactic(auto, unfolding(spec_parameter_sets::specs::SequenceParameterSet::sequence_parameter_set_of))]
 pub fn read_sps(alloc: Global, rbsp: &[u8]) -> Result<Sps, Refusal>
     ensures value { Parses (λ x. x) result (sequence_parameter_set_of rbsp.now) }

@@ -1,5 +1,6 @@
 pub mod Scaling
 pub mod PictureParameterSet
+pub mod Levels
 pub mod SequenceParameterSet
 pub mod Fits
 pub mod ProfileTierLevel

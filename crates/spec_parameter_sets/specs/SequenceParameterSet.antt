@@ -24,6 +24,7 @@ use Rattle.spec_bits.specs.Bits.{bits}
 use Rattle.spec_formats.specs.Format.{wanted}
 use Rattle.spec_formats.specs.Fields.{Header, read, value_of, ◌>>=◌, give, ranged, u, flag, ue, ue_to, optional}
 use Rattle.spec_formats.specs.Fields.{repeated}
+use Rattle.spec_parameter_sets.specs.Levels.{level_kept}
 use Rattle.spec_parameter_sets.specs.ProfileTierLevel.{profile_tier_level}
 use Rattle.spec_parameter_sets.specs.Scaling.{scaling_list_data}
 use Rattle.spec_reference_pictures.specs.ShortTermSets.{st_ref_pic_set}
@@ -257,7 +258,7 @@ sps_references order = do
     sps_temporal_mvp_enabled_flag = sps_temporal_mvp_enabled_flag;
   })
 
--- a sequence parameter set
+-- a sequence parameter set. Its level is judged behind its last field
 unfoldable pub sequence_parameter_set : Header SpsFields
 sequence_parameter_set = do
   identity ← sps_identity
@@ -268,6 +269,10 @@ sequence_parameter_set = do
   references ← sps_references order
   strong_intra_smoothing_enabled_flag ← flag
   vui_parameters_present_flag ← flag
+  kept ←
+      level_kept identity.profile_tier_level.general_level_idc format.pic_width_in_luma_samples
+      format.pic_height_in_luma_samples
+      ((highest_ordering order.sub_layer_ordering).max_dec_pic_buffering_minus1 + 1)
   give (record {
     identity = identity;
     format = format;

@@ -1,12 +1,13 @@
 //! Laws of the definitions.
 
-ghost use Rattle.std.specs.Prelude.{◌≡◌, Bool, List, Ok};
+ghost use Rattle.std.specs.Prelude.{◌≡◌, ℕ, Bool, IfSome, List, Ok};
 ghost use Rattle.header_types.specs.declared.scaling.ScalingLists.{ScalingLists};
 ghost use Rattle.header_types.specs.Scaling.{IsScalingLists};
 ghost use Rattle.hv_base.specs.declared.field_rules.TheConstants.{PARAMETER_SET_RULES};
 ghost use Rattle.spec_formats.specs.Fields.{field_at, read};
 ghost use Rattle.spec_formats.specs.Format.{IsSpelledAs};
 ghost use Rattle.spec_formats.specs.Locality.{IsLocal};
+ghost use Rattle.spec_parameter_sets.specs.Levels.{HasGreatestSide, level_of};
 ghost use Rattle.spec_parameter_sets.specs.PictureParameterSet.{picture_parameter_set};
 ghost use Rattle.spec_parameter_sets.specs.Scaling.{scaling_list_data};
 ghost use Rattle.spec_parameter_sets.specs.SequenceParameterSet.{sequence_parameter_set};
@@ -15,6 +16,11 @@ ghost use Rattle.spec_parameter_sets.specs.SequenceParameterSet.{sequence_parame
 pub fn scaling_lists_are_in_range()
     ensures { (bits left : List Bool) (s : ScalingLists)
         → read PARAMETER_SET_RULES scaling_list_data bits ≡ Ok (s, left) → IsScalingLists s }
+{}
+
+/// The greatest side of each level is the greatest whole number whose square is at most 8 * MaxLumaPs (A.4.1).
+pub fn level_sides_are_greatest()
+    ensures { (idc : ℕ) → IfSome (level_of idc) HasGreatestSide }
 {}
 
 /// A parameter set depends on the bits up to its last field that is read, and on none behind them: neither on what
