@@ -29,8 +29,9 @@ use stream_maker::make;
 ///
 /// `decode`, `hash` and `list` read the stream of `src` and write of its pictures to `out`, in output order, with the
 /// options `--workers N` (1 to 64), `--ahead N` (1 to 16) and `--no-hash`. `decode` writes I420: the planes Y, Cb and
-/// Cr of each picture, a byte a sample. `hash` writes a line `<k> <md5>` a picture, over these bytes, and `list` a line
-/// `<k> <poc> <nal type> <width>x<height>`; k counts from 0.
+/// Cr of each picture, a byte a sample where both bit depths are 8, and else two, the low one first. `hash` writes a
+/// line `<k> <md5>` a picture, over these bytes, and `list` a line `<k> <poc> <nal type> <width>x<height>`; k counts
+/// from 0.
 ///
 /// `make` writes a stream to `out`, and reads nothing: that of `--seed N` (of 64 bits) with `--pictures K` (1 to 1000).
 /// Both are required. With `--summary` it writes in place of the stream one line `pictures <K> bytes <n> md5 <digits>`,

@@ -1,9 +1,10 @@
 -- The bytes that are written of the pictures of a stream that is made.
-use Rattle.std.proofs.Common.{◌≡◌, ℕ, suc, ◌+◌, ◌*◌, ◌%◌, ◌<◌, Bool, true, List, [], ◌∷◌, ◌++◌, get_or, length}
-use Rattle.std.proofs.Common.{map, refl, ap, ◌∙◌, arith}
-use Rattle.std.specs.List.{concat, range_with_len}
+use Rattle.std.proofs.Common.{◌≡◌, ℕ, zero, suc, ◌+◌, ◌*◌, ◌%◌, ◌<◌, Bool, true, false, List, [], ◌∷◌, ◌++◌, get_or}
+use Rattle.std.proofs.Common.{length, map, refl, sym, ap, ◌∙◌, arith}
+use Rattle.std.specs.List.{concat, flat_map, range_with_len}
+use Rattle.std.proofs.lemmas.List.Concat.{flat_map_single}
 use Rattle.spec_picture_build.specs.Border.{Samples}
-use Rattle.spec_picture_build.specs.Output.{Window, picture_bytes, plane_bytes, window_of}
+use Rattle.spec_picture_build.specs.Output.{Window, picture_bytes, plane_bytes, row_bytes, sample_bytes, window_of}
 use Rattle.spec_decoder.specs.declared.form.Form.TheVariants as form
 use Rattle.spec_decoder.specs.Decoder.{bytes_of, decoded}
 use Rattle.spec_decoder.specs.Output.{OutPicture, bytes_out, written}
@@ -21,13 +22,32 @@ use Rattle.made_decoding_laws.proofs.Whole.{HasSizes, rows_are, sizes_are}
 low_byte : (v w : ℕ) → v ≡ w → w < 256 → v % 256 ≡ w
 low_byte v w e low = omega (arith, e, low)
 
-window_bytes : (samples : Samples) (c : ℕ) (w : Window) (l : List ℕ) → length l ≡ w.width * w.height
+-- a row of which a sample goes out as a byte
+byte_row : (samples : Samples) (c : ℕ) (w : Window) (y : ℕ) → w.two_bytes ≡ false
+    → row_bytes samples c w y
+    ≡ map (λ x. samples c (w.left + x) (w.top + y) % 256) (range_with_len 0 w.width)
+byte_row samples c w y one =
+    ap (λ two. flat_map (λ x. sample_bytes two (samples c (w.left + x) (w.top + y))) (range_with_len 0 w.width)) one
+    ∙ flat_map_single (λ x. samples c (w.left + x) (w.top + y) % 256) (range_with_len 0 w.width)
+
+byte_rows : (samples : Samples) (c : ℕ) (w : Window) (ys : List ℕ) → w.two_bytes ≡ false
+    → concat (map (row_bytes samples c w) ys)
+    ≡ concat (map (λ y. map (λ x. samples c (w.left + x) (w.top + y) % 256) (range_with_len 0 w.width)) ys)
+byte_rows samples c w [] one = refl
+byte_rows samples c w (y ∷ ys) one =
+    ap (λ l. l ++ concat (map (row_bytes samples c w) ys)) (byte_row samples c w y one)
+    ∙ ap (λ l. map (λ x. samples c (w.left + x) (w.top + y) % 256) (range_with_len 0 w.width) ++ l)
+    (byte_rows samples c w ys one)
+
+window_bytes : (samples : Samples) (c : ℕ) (w : Window) (l : List ℕ) → w.two_bytes ≡ false
+    → length l ≡ w.width * w.height
     → ((x y : ℕ) → x < w.width → y < w.height
     → samples c (w.left + x) (w.top + y) ≡ get_or l (w.width * y + x) 0)
     → ((x y : ℕ) → x < w.width → y < w.height → get_or l (w.width * y + x) 0 < 256) → plane_bytes samples c w ≡ l
 unfolding plane_bytes
-window_bytes samples c w l count is low =
-    rows_are w.width w.height 0 l (λ x y. samples c (w.left + x) (w.top + y) % 256) count
+window_bytes samples c w l one count is low =
+    byte_rows samples c w (range_with_len 0 w.height) one
+    ∙ rows_are w.width w.height 0 l (λ x y. samples c (w.left + x) (w.top + y) % 256) count
     (λ x y few down.
     let on : 0 + y ≡ y = omega arith in
     ap (λ k. samples c (w.left + x) (w.top + k) % 256) on
@@ -52,13 +72,13 @@ shown_bytes seed j out is =
     let bytes : AreBytes p = bytes_are seed j in
     ap (λ format. picture_bytes format out.samples) is.format
     ∙ three_parts _ _ _ p.luma p.cb p.cr
-    (window_bytes out.samples 0 (window_of made_format 0) p.luma sizes.luma
+    (window_bytes out.samples 0 (window_of made_format 0) p.luma refl sizes.luma
     (λ x y few low. at_window out.samples 0 x y _ (is.samples 0 x y (omega arith) few low))
     (λ x y few low. bytes 0 x y (omega arith) few low))
-    (window_bytes out.samples 1 (window_of made_format 1) p.cb sizes.cb
+    (window_bytes out.samples 1 (window_of made_format 1) p.cb refl sizes.cb
     (λ x y few low. at_window out.samples 1 x y _ (is.samples 1 x y (omega arith) few low))
     (λ x y few low. bytes 1 x y (omega arith) few low))
-    (window_bytes out.samples 2 (window_of made_format 2) p.cr sizes.cr
+    (window_bytes out.samples 2 (window_of made_format 2) p.cr refl sizes.cr
     (λ x y few low. at_window out.samples 2 x y _ (is.samples 2 x y (omega arith) few low))
     (λ x y few low. bytes 2 x y (omega arith) few low))
 

@@ -4,7 +4,7 @@ ghost use Rattle.std.specs.Prelude.{◌≡◌, ℕ, ◌*◌, ◌≤◌, ◌<◌,
 ghost use Rattle.md5.specs.Md5.{Holds, md5};
 ghost use Rattle.picture_buffer.specs.Planes.{samples_of, plane_width, plane_height};
 ghost use Rattle.spec_picture_build.specs.Output.{picture_bytes, plane_bytes};
-ghost use Rattle.yuv_writer.specs.Parts.{LiesIn};
+ghost use Rattle.yuv_writer.specs.Parts.{row_size, LiesIn};
 
 use crate::gathering::gather;
 use crate::pieces::{ROOM, rows_of_piece};
@@ -36,7 +36,7 @@ fn hash_plane(planes: &Planes, c: usize, window: &PlaneWindow, buffer: &mut [u8]
     ensures held { (m : List ℕ) → Holds hash.old m
         → Holds hash.new (m ++ plane_bytes (samples_of planes.now) c window.now) }
 {
-    let rows = rows_of_piece(window.width);
+    let rows = rows_of_piece(window.row_size());
     let mut done = 0;
     while done < window.height {
         let count = rows.min(window.height - done);
@@ -49,11 +49,11 @@ fn hash_plane(planes: &Planes, c: usize, window: &PlaneWindow, buffer: &mut [u8]
 fn hash_piece(planes: &Planes, c: usize, window: &PlaneWindow, buffer: &mut [u8], hash: &mut Md5)
     requires component { c < 3 }
     requires inside { LiesIn window.now (plane_width planes.now c) (plane_height planes.now c) }
-    requires room { window.now.width * window.now.height ≤ length buffer.old }
+    requires room { row_size window.now * window.now.height ≤ length buffer.old }
     ensures buffer { length buffer.new ≡ length buffer.old }
     ensures held { (m : List ℕ) → Holds hash.old m
         → Holds hash.new (m ++ plane_bytes (samples_of planes.now) c window.now) }
 {
     gather(planes, c, window, buffer);
-    hash.update(&buffer[..window.width as usize * window.height as usize]);
+    hash.update(&buffer[..window.row_size() as usize * window.height as usize]);
 }

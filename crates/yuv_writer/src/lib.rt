@@ -1,4 +1,5 @@
-//! Pictures as they are put out: I420 inside the conformance window, a byte a sample (H.265 7.4.3.2, C.5.2.4).
+//! Pictures as they are put out: I420 inside the conformance window, a byte a sample, or two where a bit depth is over
+//! 8 (H.265 7.4.3.2, C.5.2.4).
 #![tactic(auto)]
 
 mod gathering;

@@ -10,7 +10,8 @@ use crate::window::window_of;
 use hv_io::{Failed, Sink};
 use picture_buffer::Picture;
 
-/// Writes the planes Y, Cb and Cr of a picture inside its conformance window, row after row, a byte a sample.
+/// Writes the planes Y, Cb and Cr of a picture inside its conformance window, row after row: a byte a sample where both
+/// bit depths are 8, and else two, the low one first.
 ///
 /// `Failed` where a write failed; a front of these bytes was gained then. It takes no memory.
 #[tactic(auto, unfolding(spec_picture_build::specs::Output::picture_bytes))]

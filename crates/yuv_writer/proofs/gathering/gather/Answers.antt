@@ -1,6 +1,5 @@
-use Rattle.std.proofs.Common.{◌*◌, refl, rules, ap, ◌∙◌, arith}
+use Rattle.std.proofs.Common.{ℕ, ◌*◌, refl, rules, ap, ◌∙◌, arith}
 use Rattle.picture_buffer.specs.Planes.{samples_of}
-use Rattle.spec_picture_build.specs.Output.{Window}
 use Rattle.yuv_writer.proofs.Rows.{gathered_count, gathered_more, gathered_none}
 use Rattle.yuv_writer.proofs.gathering.gather.Goals as goal
 
@@ -12,8 +11,8 @@ loop-row-init c = record {
 
 pub loop-row-preserved : goal.loop-row-preserved
 loop-row-preserved c =
-    let place = ap (λ (w : Window). w.width * c.loop-row.row) c.window.view_is in
-    let width = ap (λ (w : Window). w.width) c.window.view_is in record {
+    let place = ap (λ (n : ℕ). n * c.loop-row.row) c.row_size-row_size.ensures.value in
+    let width = c.row_size-row_size.ensures.value in record {
       count =
           gathered_count (samples_of c.args.planes.now) c.args.c c.args.window.now c.loop-row.row _ _ c.loop-row.bytes
           c.lay_row.new.bytes place (omega (arith, width)) (search rules) (search rules) c.lay_row.ensures

@@ -11,7 +11,8 @@ returns c =
       top = c.window.inside.top;
       width = c.window.inside.width;
       height = c.window.inside.height;
+      two_bytes = c.window.inside.two_bytes;
     } in
     rw (← c.window.view_is) (row_filled (samples_of c.args.planes.now) c.args.c w c.args.row _
     (plane_width c.args.planes.now c.args.c) c.row-samples.result.now _ c.row-samples.ensures.count (search rules)
-    (search rules) c.narrow.ensures.count c.narrow.ensures.value c.row-samples.ensures.samples)
+    (search rules) c.lay_samples.ensures c.row-samples.ensures.samples)
