@@ -1,5 +1,5 @@
 -- Samples in the range of their bit depth.
-use Rattle.std.specs.Prelude.{ℕ, ◌^◌, ◌<◌, Option, Some, None, ⊤}
+use Rattle.std.specs.Prelude.{ℕ, ◌+◌, ◌*◌, ◌^◌, ◌<◌, List, [], ◌∷◌, Option, Some, None, ⊤}
 use Rattle.spec_reconstruction.specs.declared.format.UnitFormat.{UnitFormat}
 use Rattle.spec_reconstruction.specs.Known.{Known}
 use Rattle.spec_reconstruction.specs.Parameters.{depth_of}
@@ -12,3 +12,8 @@ IsInRange depth (Some sample) = sample < 2 ^ depth
 -- all that are known of a unit and beside it
 abbrev pub AreInRange : UnitFormat → Known → Type 0
 AreInRange format known = (c column line : ℕ) → IsInRange (depth_of format c) (known c column line)
+
+-- the number that bytes spell, the low one first
+abbrev pub number_of : List ℕ → ℕ
+number_of [] = 0
+number_of (byte ∷ bytes) = byte + 256 * number_of bytes
