@@ -149,3 +149,14 @@ pub(crate) fn number_of(text: &str) -> Result<u32, RowError> {
         Err(_) => Err(RowError::Unreadable),
     }
 }
+
+/// The words of a command line; none for `-`.
+pub(crate) fn words_of(alloc: Global, text: &str) -> Result<Vec<String>, RowError> {
+    let mut words = Vec::new(alloc);
+    for word in text.split_whitespace() {
+        if word != "-" {
+            words.push(String::from_str(alloc, word)?)?;
+        }
+    }
+    Ok(words)
+}

@@ -1,16 +1,22 @@
-//! Runs the program's public call on streams in memory, row by row of the files `runs.txt` and `plans.txt`, and prints
-//! each row that ends in another way than it says, then a sum. The crate's README.md says how a row reads.
+//! Runs the program's public call, sessions and the planner on streams in memory, row by row of three tables, and
+//! prints each row that ends in another way than it says, then a sum. The crate's README.md says how a row reads.
 #![tactic(auto)]
 
+mod asked;
 mod byte_text;
+mod outcome_text;
 mod plan_row;
+mod pushes;
 mod row_error;
+mod row_output;
 mod run_row;
+mod session_row;
 mod tally;
 
 use crate::plan_row::plan_rows;
 use crate::row_error::RowError;
 use crate::run_row::run_rows;
+use crate::session_row::session_rows;
 use crate::tally::Tally;
 use std::fs;
 
@@ -19,6 +25,7 @@ fn main(rt: HostRuntime) -> Result<(), RowError> {
     let runs = fs::read_to_string(&rt, "runs.txt")?;
     run_rows(&rt, rt.alloc(), runs.as_str(), &mut tally)?;
     add_plans(&rt, &mut tally)?;
+    add_sessions(&rt, &mut tally)?;
     print_tally(&rt, &tally)
 }
 
@@ -26,6 +33,12 @@ fn main(rt: HostRuntime) -> Result<(), RowError> {
 fn add_plans(rt: &HostRuntime, tally: &mut Tally) -> Result<(), RowError> {
     let plans = fs::read_to_string(rt, "plans.txt")?;
     plan_rows(rt.alloc(), plans.as_str(), tally)
+}
+
+/// Pushes the streams of the rows of `sessions.txt`.
+fn add_sessions(rt: &HostRuntime, tally: &mut Tally) -> Result<(), RowError> {
+    let sessions = fs::read_to_string(rt, "sessions.txt")?;
+    session_rows(rt.alloc(), sessions.as_str(), tally)
 }
 
 /// Prints in what runs differed, and the sum.

@@ -1,12 +1,15 @@
-//! Rows of `runs.txt`: a command line and a stream, and how `run` answers them.
+//! Rows of `runs.txt`: a command line and a stream, and how `run` and a session answer them.
 
-use crate::byte_text::{UnitNames, bytes_of, name_and_columns, number_of};
+use crate::asked::Asked;
+use crate::byte_text::{UnitNames, name_and_columns, number_of, words_of};
+use crate::outcome_text::outcome_text;
+use crate::pushes::{Pieces, PushedEnd, push_pieces};
 use crate::row_error::RowError;
+use crate::row_output::RowOutput;
 use crate::tally::Tally;
 use command_line::run;
 use hv_base::{Outcome, Status};
 use hv_io::{MemSink, MemSource, OpenGate};
-use md5::{Digest, Md5};
 use std::alloc::Global;
 use std::sync::Wait;
 use std::thread::Threads;
@@ -17,16 +20,6 @@ const ROOM: usize = 1 << 20;
 
 /// The sizes of pieces with which a row without faulty ends is run.
 const PIECES: [u32; 3] = [1, 7, 65_536];
-
-/// What a row says of the bytes of the output.
-#[derive(Drop)]
-enum Output {
-    Bytes(Vec<u8>),
-    /// So many grey pictures of 8x8 luma samples.
-    Grey(u32),
-    /// The MD5 in lower case digits.
-    Md5(String),
-}
 
 /// The pieces in which the source and the sinks work, the bytes that the output takes, and the calls that fail.
 #[derive(Drop)]
@@ -50,7 +43,7 @@ struct RunInput {
 #[derive(Drop)]
 struct RunEnd {
     status: u32,
-    output: Output,
+    output: RowOutput,
     told: String,
 }
 
@@ -144,7 +137,7 @@ fn made_stream(alloc: Global, text: &str) -> Result<Vec<u8>, RowError> {
 
 /// How a row says that its run ends.
 fn end_of(alloc: Global, columns: Columns<'_>, is_whole: bool) -> Result<RunEnd, RowError> {
-    let output = output_of(alloc, columns.output)?;
+    let output = RowOutput::read(alloc, columns.output)?;
     let told = told_of(alloc, columns.told, is_whole)?;
     Ok(RunEnd {
         status: columns.status,
@@ -167,6 +160,7 @@ fn run_row<R: Threads + Wait + Sync>(
     for piece in pieces_of(row.input.ends.piece) {
         if piece != 0 {
             tally.add_run(columns.name, difference(rt, alloc, &row, piece)?)?;
+            push_row(alloc, columns.name, &row, piece, tally)?;
         }
     }
     Ok(())
@@ -178,17 +172,6 @@ fn pieces_of(own: Option<u32>) -> [u32; 3] {
         0 => PIECES,
         own => [own, 0, 0],
     }
-}
-
-/// The words of a command line; none for `-`.
-fn words_of(alloc: Global, text: &str) -> Result<Vec<String>, RowError> {
-    let mut words = Vec::new(alloc);
-    for word in text.split_whitespace() {
-        if word != "-" {
-            words.push(String::from_str(alloc, word)?)?;
-        }
-    }
-    Ok(words)
 }
 
 /// Faulty ends: `by=N` for pieces of N bytes; `room=N` for an output of N bytes; `read=N`, `write=N` and `tell=N` for a
@@ -233,35 +216,6 @@ impl Ends {
     }
 }
 
-/// The output: `-` for none, `grey N`, `md5 DIGITS`, `lines A, B`, or its bytes.
-fn output_of(alloc: Global, text: &str) -> Result<Output, RowError> {
-    match text.split_once(' ') {
-        Some((kind, rest)) => output_of_kind(alloc, kind, rest),
-        None if text == "-" => Ok(Output::Bytes(Vec::new(alloc))),
-        None => Ok(Output::Bytes(bytes_of(alloc, text)?)),
-    }
-}
-
-/// The output that isn't written as its bytes.
-fn output_of_kind(alloc: Global, kind: &str, rest: &str) -> Result<Output, RowError> {
-    match kind {
-        "grey" => Ok(Output::Grey(number_of(rest)?)),
-        "md5" => Ok(Output::Md5(String::from_str(alloc, rest)?)),
-        "lines" => Ok(Output::Bytes(bytes_of_lines(alloc, rest)?)),
-        _ => Err(RowError::Unreadable),
-    }
-}
-
-/// The bytes of lines, each with its end.
-fn bytes_of_lines(alloc: Global, text: &str) -> Result<Vec<u8>, RowError> {
-    let mut bytes = Vec::new(alloc);
-    for line in text.split(", ") {
-        bytes.extend_from_slice(line.as_bytes())?;
-        bytes.push(b'\n')?;
-    }
-    Ok(bytes)
-}
-
 /// What the error sink gains: the line, or nothing for `-`; where a write to it fails, a front of the line.
 fn told_of(alloc: Global, line: &str, is_whole: bool) -> Result<String, RowError> {
     let end = if is_whole { "\n" } else { "" };
@@ -295,6 +249,61 @@ fn difference<R: Threads + Wait + Sync>(
     difference_of(alloc, &row.end, piece, status, out.bytes(), err.bytes())
 }
 
+/// Pushes the stream of a row into a session, in these pieces. Not where the row doesn't decode, its words are faulty,
+/// or its error sink fails, which a session doesn't know.
+fn push_row(
+    alloc: Global,
+    name: &str,
+    row: &RunRow,
+    piece: u32,
+    tally: &mut Tally,
+) -> Result<(), RowError> {
+    if row.end.status == 1 || !row.input.ends.tells.is_empty() {
+        return Ok(());
+    }
+    match Asked::read(row.input.words.as_slice())? {
+        Some(asked) => tally.add_run(name, pushed_difference(alloc, row, asked, piece)?),
+        None => Ok(()),
+    }
+}
+
+/// In what a session that gets the stream in these pieces differs from what the row says.
+fn pushed_difference(
+    alloc: Global,
+    row: &RunRow,
+    asked: Asked,
+    piece: u32,
+) -> Result<Option<String>, RowError> {
+    let RunInput { bytes, ends, .. } = &row.input;
+    let size = (piece as usize).max(1);
+    let pieces = Pieces {
+        bytes: bytes.as_slice(),
+        size,
+        fails: ends.reads.as_slice(),
+    };
+    let mut out = MemSink::new(alloc, ends.room, size, ends.writes.as_slice())?;
+    let PushedEnd { outcome, is_sound } = push_pieces(
+        asked.session(alloc)?,
+        asked,
+        pieces,
+        &mut out,
+    );
+    if !is_sound {
+        return Ok(Some(format!(in alloc;
+            "pushed in pieces of {piece}: it holds or answers more"
+        )?));
+    }
+    let Status(status) = outcome.status();
+    let told = line_of(alloc, outcome)?;
+    difference_of(alloc, &row.end, piece, status, out.bytes(), told.as_bytes())
+}
+
+/// What is told of an outcome: its line, or nothing where all went well.
+fn line_of(alloc: Global, outcome: Outcome) -> Result<String, RowError> {
+    let text = outcome_text(alloc, outcome)?;
+    told_of(alloc, text.as_str(), true)
+}
+
 /// In what a run in these pieces, which ended so, differs from what its row says.
 fn difference_of(
     alloc: Global,
@@ -304,7 +313,7 @@ fn difference_of(
     output: &[u8],
     told: &[u8],
 ) -> Result<Option<String>, RowError> {
-    let is_output = is_output(alloc, &end.output, output)?;
+    let is_output = end.output.is(alloc, output)?;
     let is_status = u32::from(status) == end.status;
     if is_status && is_output && told == end.told.as_bytes() {
         return Ok(None);
@@ -315,23 +324,4 @@ fn difference_of(
         "pieces of {piece}: status {status}, {bytes} bytes, told {told:?}"
     )?;
     Ok(Some(text))
-}
-
-fn is_output(alloc: Global, output: &Output, bytes: &[u8]) -> Result<bool, RowError> {
-    match output {
-        Output::Bytes(wanted) => Ok(bytes == wanted.as_slice()),
-        Output::Grey(count) => {
-            Ok(
-                bytes.len() as u64 == u64::from(*count) * 96
-                    && bytes.iter().all(|byte| *byte == 128),
-            )
-        }
-        Output::Md5(wanted) => is_md5(alloc, wanted.as_str(), bytes),
-    }
-}
-
-/// Whether bytes have the MD5 of these digits.
-fn is_md5(alloc: Global, wanted: &str, bytes: &[u8]) -> Result<bool, RowError> {
-    let digest = hex::encode(alloc, Md5::digest(bytes))?;
-    Ok(digest.as_str() == wanted)
 }

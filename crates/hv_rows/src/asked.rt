@@ -1,0 +1,76 @@
+//! What the words of a row ask of a session.
+
+use crate::byte_text::number_of;
+use crate::row_error::RowError;
+use decoder::{Form, Options, Session};
+use std::alloc::{AllocError, Global};
+
+/// What the words of a row ask of a session.
+#[derive(Clone, Copy)]
+pub(crate) struct Asked {
+    form: Form,
+    hash: bool,
+    ahead: u32,
+}
+
+impl Asked {
+    /// What these words ask for, the words of a command line that isn't faulty; `None` where they don't decode.
+    pub(crate) fn read(words: &[String]) -> Result<Option<Asked>, RowError> {
+        let Some(form) = form_of(words) else {
+            return Ok(None);
+        };
+        let mut asked = Asked {
+            form,
+            hash: true,
+            ahead: 4,
+        };
+        let mut before = "";
+        for word in words {
+            asked.take(before, word.as_str())?;
+            before = word.as_str();
+        }
+        Ok(Some(asked))
+    }
+
+    /// Takes a word behind another.
+    fn take(&mut self, before: &str, word: &str) -> Result<(), RowError> {
+        if word == "--no-hash" {
+            self.hash = false;
+        }
+        if before == "--ahead" {
+            self.ahead = number_of(word)?;
+        }
+        if let Some(number) = word.strip_prefix("--ahead=") {
+            self.ahead = number_of(number)?;
+        }
+        Ok(())
+    }
+
+    /// A session that was given nothing.
+    pub(crate) fn session(self, alloc: Global) -> Result<Session, AllocError> {
+        Session::new(
+            alloc,
+            Options {
+                workers: 4,
+                ahead: self.ahead.max(1).min(16),
+                hash: self.hash,
+                form: self.form,
+            },
+        )
+    }
+
+    /// The most plans that a session may hold.
+    pub(crate) fn ahead(self) -> u32 {
+        self.ahead
+    }
+}
+
+/// What is written of each picture, by the first of the words; `None` where they don't decode.
+fn form_of(words: &[String]) -> Option<Form> {
+    match words.first()?.as_str() {
+        "decode" => Some(Form::I420),
+        "hash" => Some(Form::Hash),
+        "list" => Some(Form::List),
+        _ => None,
+    }
+}
