@@ -1,10 +1,10 @@
 //! sao (7.3.8.3).
 
-ghost use Rattle.std.specs.Prelude.{◌≡◌, ◌≤◌, IfOk};
+ghost use Rattle.std.specs.Prelude.{◌≡◌, ◌≤◌, ◌^◌, IfOk};
 ghost use Rattle.spec_cabac.specs.Engine.{IsLive};
 ghost use Rattle.spec_slice_data.specs.Offset.{band, band_offset, class_of, class_where, edge, kind_of, like_component};
-ghost use Rattle.spec_slice_data.specs.Offset.{merge_flag, offsets, own_component, own_sao, sao, sao_offset_abs};
-ghost use Rattle.spec_slice_data.specs.Offset.{sao_or_above, sao_type_idx};
+ghost use Rattle.spec_slice_data.specs.Offset.{greatest_offset, merge_flag, offsets, own_component, own_sao, sao};
+ghost use Rattle.spec_slice_data.specs.Offset.{sao_offset_abs, sao_or_above, sao_type_idx};
 ghost use Rattle.cabac_contexts.specs.Takes.{Takes};
 
 use cabac_contexts::BinReader;
@@ -14,21 +14,41 @@ use spec_cabac::{SAO_MERGE_FLAG, SAO_TYPE_IDX};
 use spec_slice_data::CtuSyntax;
 use transform_tree::signed;
 
+/// 2^`n`.
+#[tactic(auto, using(crate::proofs::Powers::few_sizes, crate::proofs::Powers::some_sizes))]
+fn sizes_of(n: u32) -> u32
+    requires { n ≤ 5 }
+    ensures value { result ≡ 2 ^ n }
+    ensures some { 1 ≤ result }
+    ensures few { result ≤ 32 }
+{
+    1 << n
+}
+
+/// The greatest sao_offset_abs, by the bit depth of the component.
+#[tactic(auto, unfolding(spec_slice_data::specs::Offset::greatest_offset))]
+fn greatest_offset(depth: u8) -> u32
+    ensures value { result ≡ greatest_offset depth }
+    ensures small { result ≤ 31 }
+{
+    sizes_of(u32::from(depth).min(10).saturating_sub(5)) - 1
+}
+
 /// sao_offset_abs.
 #[tactic(auto, unfolding(spec_slice_data::specs::Offset::sao_offset_abs))]
-fn sao_offset_abs(reader: &mut BinReader<'_>) -> Result<u32, Breach>
+fn sao_offset_abs(reader: &mut BinReader<'_>, depth: u8) -> Result<u32, Breach>
     requires { IsLive reader.old.interval }
-    ensures value { Takes (λ x. x) result reader.old reader.new sao_offset_abs }
-    ensures small { IfOk result (λ n. n ≤ 7) }
+    ensures value { Takes (λ x. x) result reader.old reader.new (sao_offset_abs depth) }
+    ensures small { IfOk result (λ n. n ≤ 31) }
 {
-    reader.truncated(7)
+    reader.truncated(greatest_offset(depth))
 }
 
 /// An offset of band offset.
 #[tactic(auto, unfolding(spec_slice_data::specs::Offset::band_offset))]
 fn band_offset(reader: &mut BinReader<'_>, size: u32) -> Result<i8, Breach>
     requires live { IsLive reader.old.interval }
-    requires small { size ≤ 7 }
+    requires small { size ≤ 31 }
     ensures { Takes (λ x. x) result reader.old reader.new (band_offset size) }
 {
     let negative = if size == 0 { false } else { reader.bypass()? };
@@ -45,10 +65,10 @@ fn band(
     d: u32,
 ) -> Result<ComponentOffset, Breach>
     requires live { IsLive reader.old.interval }
-    requires a { a ≤ 7 }
-    requires b { b ≤ 7 }
-    requires c { c ≤ 7 }
-    requires d { d ≤ 7 }
+    requires a { a ≤ 31 }
+    requires b { b ≤ 31 }
+    requires c { c ≤ 31 }
+    requires d { d ≤ 31 }
     ensures { Takes (λ x. x) result reader.old reader.new (band a b c d) }
 {
     let first = band_offset(reader, a)?;
@@ -84,29 +104,30 @@ fn class_where(reader: &mut BinReader<'_>, shared: Option<u8>) -> Result<u8, Bre
 
 /// The offsets of edge offset: the first two raise, the others lower.
 fn edge(class: u8, a: u32, b: u32, c: u32, d: u32) -> ComponentOffset
-    requires a { a ≤ 7 }
-    requires b { b ≤ 7 }
-    requires c { c ≤ 7 }
-    requires d { d ≤ 7 }
+    requires a { a ≤ 31 }
+    requires b { b ≤ 31 }
+    requires c { c ≤ 31 }
+    requires d { d ≤ 31 }
     ensures { result ≡ edge class a b c d }
 {
     ComponentOffset::Edge(class, [a as i8, b as i8, signed(c, true), signed(d, true)])
 }
 
-/// The offsets of a component of this type.
+/// The offsets of a component of this bit depth and this type.
 #[tactic(auto, unfolding(spec_slice_data::specs::Offset::offsets))]
 fn offsets(
     reader: &mut BinReader<'_>,
+    depth: u8,
     kind: u8,
     shared: Option<u8>,
 ) -> Result<ComponentOffset, Breach>
     requires { IsLive reader.old.interval }
-    ensures { Takes (λ x. x) result reader.old reader.new (offsets kind shared) }
+    ensures { Takes (λ x. x) result reader.old reader.new (offsets depth kind shared) }
 {
-    let a = sao_offset_abs(reader)?;
-    let b = sao_offset_abs(reader)?;
-    let c = sao_offset_abs(reader)?;
-    let d = sao_offset_abs(reader)?;
+    let a = sao_offset_abs(reader, depth)?;
+    let b = sao_offset_abs(reader, depth)?;
+    let c = sao_offset_abs(reader, depth)?;
+    let d = sao_offset_abs(reader, depth)?;
     if kind == 1 {
         return band(reader, a, b, c, d);
     }
@@ -116,30 +137,31 @@ fn offsets(
 
 /// Luma, or Cb.
 #[tactic(auto, unfolding(spec_slice_data::specs::Offset::own_component))]
-fn own_component(reader: &mut BinReader<'_>) -> Result<ComponentOffset, Breach>
+fn own_component(reader: &mut BinReader<'_>, depth: u8) -> Result<ComponentOffset, Breach>
     requires { IsLive reader.old.interval }
-    ensures { Takes (λ x. x) result reader.old reader.new own_component }
+    ensures { Takes (λ x. x) result reader.old reader.new (own_component depth) }
 {
     let kind = sao_type_idx(reader)?;
     if kind == 0 {
         return Ok(ComponentOffset::Off);
     }
-    offsets(reader, kind, None)
+    offsets(reader, depth, kind, None)
 }
 
 /// Cr, which has the type and the class of Cb.
 #[tactic(auto, unfolding(spec_slice_data::specs::Offset::like_component))]
 fn like_component(
     reader: &mut BinReader<'_>,
+    depth: u8,
     cb: ComponentOffset,
 ) -> Result<ComponentOffset, Breach>
     requires { IsLive reader.old.interval }
-    ensures { Takes (λ x. x) result reader.old reader.new (like_component cb) }
+    ensures { Takes (λ x. x) result reader.old reader.new (like_component depth cb) }
 {
     match cb {
         ComponentOffset::Off => Ok(ComponentOffset::Off),
-        ComponentOffset::Band(_, _) => offsets(reader, 1, Some(0)),
-        ComponentOffset::Edge(class, _) => offsets(reader, 2, Some(class)),
+        ComponentOffset::Band(_, _) => offsets(reader, depth, 1, Some(0)),
+        ComponentOffset::Edge(class, _) => offsets(reader, depth, 2, Some(class)),
     }
 }
 
@@ -150,17 +172,17 @@ fn own_sao(reader: &mut BinReader<'_>, syntax: &CtuSyntax) -> Result<Sao, Breach
     ensures { Takes (λ x. x) result reader.old reader.new (own_sao syntax.now) }
 {
     let luma = if syntax.sao_luma {
-        own_component(reader)?
+        own_component(reader, syntax.luma_depth)?
     } else {
         ComponentOffset::Off
     };
     let cb = if syntax.sao_chroma {
-        own_component(reader)?
+        own_component(reader, syntax.chroma_depth)?
     } else {
         ComponentOffset::Off
     };
     let cr = if syntax.sao_chroma {
-        like_component(reader, cb)?
+        like_component(reader, syntax.chroma_depth, cb)?
     } else {
         ComponentOffset::Off
     };

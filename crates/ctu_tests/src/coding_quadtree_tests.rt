@@ -58,6 +58,8 @@ const SAMPLES: CtuSyntax = CtuSyntax {
     log2_max_transform: 2,
     max_depth_intra: 0,
     log2_group: 2,
+    luma_depth: 8,
+    chroma_depth: 8,
     qp_offset: 0,
     cu_qp_delta_enabled: false,
     transquant_bypass_enabled: false,

@@ -1,6 +1,6 @@
 -- sao (7.3.8.3, 7.4.9.3, 9.3.3.2).
-use Rattle.std.specs.Prelude.{ℕ, zero, suc, ◌==◌, ℤ, pos, negsuc, Bool, true, false, [], ◌∷◌, Option, Some, None}
-use Rattle.std.specs.Prelude.{if◌then◌else◌}
+use Rattle.std.specs.Prelude.{ℕ, zero, suc, ◌-◌, ◌^◌, ◌==◌, min, ℤ, pos, negsuc, Bool, true, false, [], ◌∷◌, Option}
+use Rattle.std.specs.Prelude.{Some, None, if◌then◌else◌}
 use Rattle.ctu_records.specs.declared.offset.ComponentOffset.{ComponentOffset}
 use Rattle.ctu_records.specs.declared.offset.ComponentOffset.TheVariants.{Off, Band, Edge}
 use Rattle.ctu_records.specs.declared.offset.Sao.{Sao}
@@ -9,9 +9,13 @@ use Rattle.spec_cabac.specs.Bins.{Tree, decision, bypass, fixed, truncated}
 use Rattle.spec_formats.specs.Format.{◌>>=◌, give, when◌then◌else◌}
 use Rattle.spec_slice_data.specs.declared.syntax.CtuSyntax.{CtuSyntax}
 
--- sao_offset_abs: TR with cMax 7, by bypass bins, where samples have 8 bits
-unfoldable pub sao_offset_abs : Tree ℕ
-sao_offset_abs = truncated (λ i. bypass) 7
+-- cMax of sao_offset_abs, by the bit depth of the component
+unfoldable pub greatest_offset : ℕ → ℕ
+greatest_offset depth = 2 ^ (min depth 10 - 5) - 1
+
+-- sao_offset_abs: TR by bypass bins
+unfoldable pub sao_offset_abs : ℕ → Tree ℕ
+sao_offset_abs depth = truncated (λ i. bypass) (greatest_offset depth)
 
 -- a number as one that isn't above 0
 abbrev pub negated : ℕ → ℤ
@@ -63,24 +67,24 @@ edge_offset shared a b c d = do
   class ← class_where shared
   give (edge class a b c d)
 
--- the offsets of a component of this type, which shares its class with Cb or has its own
-unfoldable pub offsets : ℕ → Option ℕ → Tree ComponentOffset
-offsets kind shared = do
-  a ← sao_offset_abs
-  b ← sao_offset_abs
-  c ← sao_offset_abs
-  d ← sao_offset_abs
+-- the offsets of a component of this bit depth and this type, which shares its class with Cb or has its own
+unfoldable pub offsets : ℕ → ℕ → Option ℕ → Tree ComponentOffset
+offsets depth kind shared = do
+  a ← sao_offset_abs depth
+  b ← sao_offset_abs depth
+  c ← sao_offset_abs depth
+  d ← sao_offset_abs depth
   when kind == 1 then band a b c d else edge_offset shared a b c d
 
 -- the parameters of a component of this SaoTypeIdx
-abbrev pub component : ℕ → Option ℕ → Tree ComponentOffset
-component kind shared = when kind == 0 then give Off else offsets kind shared
+abbrev pub component : ℕ → ℕ → Option ℕ → Tree ComponentOffset
+component depth kind shared = when kind == 0 then give Off else offsets depth kind shared
 
 -- luma, or Cb
-unfoldable pub own_component : Tree ComponentOffset
-own_component = do
+unfoldable pub own_component : ℕ → Tree ComponentOffset
+own_component depth = do
   kind ← sao_type_idx
-  component kind None
+  component depth kind None
 
 -- SaoTypeIdx
 abbrev pub kind_of : ComponentOffset → ℕ
@@ -95,23 +99,23 @@ class_of (Band position values) = 0
 class_of (Edge class values) = class
 
 -- Cr has the type and the class of Cb
-unfoldable pub like_component : ComponentOffset → Tree ComponentOffset
-like_component cb = component (kind_of cb) (Some (class_of cb))
+unfoldable pub like_component : ℕ → ComponentOffset → Tree ComponentOffset
+like_component depth cb = component depth (kind_of cb) (Some (class_of cb))
 
 -- own parameters, where the slice has offsets
-abbrev pub own_where : Bool → Tree ComponentOffset
-own_where applied = when applied then own_component else give Off
+abbrev pub own_where : ℕ → Bool → Tree ComponentOffset
+own_where depth applied = when applied then own_component depth else give Off
 
 -- those of Cr, which has the kind and the class of Cb
-abbrev pub like_where : Bool → ComponentOffset → Tree ComponentOffset
-like_where applied cb = when applied then like_component cb else give Off
+abbrev pub like_where : ℕ → Bool → ComponentOffset → Tree ComponentOffset
+like_where depth applied cb = when applied then like_component depth cb else give Off
 
 -- parameters of the unit's own
 unfoldable pub own_sao : CtuSyntax → Tree Sao
 own_sao syntax = do
-  luma ← own_where syntax.sao_luma
-  cb ← own_where syntax.sao_chroma
-  cr ← like_where syntax.sao_chroma cb
+  luma ← own_where syntax.luma_depth syntax.sao_luma
+  cb ← own_where syntax.chroma_depth syntax.sao_chroma
+  cr ← like_where syntax.chroma_depth syntax.sao_chroma cb
   give (record { luma = luma; cb = cb; cr = cr })
 
 -- sao_merge_left_flag or sao_merge_up_flag, where there is a unit in the slice to merge with

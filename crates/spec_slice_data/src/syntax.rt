@@ -52,6 +52,10 @@ pub struct CtuSyntax {
     pub max_depth_intra: u8,
     /// Log2MinCuQpDeltaSize.
     pub log2_group: u8,
+    /// BitDepthY.
+    pub luma_depth: u8,
+    /// BitDepthC.
+    pub chroma_depth: u8,
     /// QpBdOffsetY.
     pub qp_offset: u8,
     /// cu_qp_delta_enabled_flag: whether quantization groups may tell a difference of their parameter.

@@ -119,7 +119,8 @@ begins common picture segment address left above place h =
     (λ k. seen_beside left above place.x place.y (place.x + 4 * k) (place.y - 1)) (place_of above)
     (λ k lt.
     let there =
-    there_of (has_above picture segment address) (picture.across - n * column_of picture address) (2 ^ place.size) k lt in
+    there_of (has_above picture segment address) (picture.across - n * column_of picture address)
+    (2 ^ place.size) k lt in
     let row : picture.width ≤ address = behind_row picture segment address there.is in
     let top : 0 < place.y = rw h.y (below_top n address picture.width some_n h.some row) in
     above_seen left above place.x place.y k top) in

@@ -28,6 +28,8 @@ pub(crate) fn segment_syntax(picture: &PicturePlan, segment: &SegmentPlan) -> Ct
         log2_max_transform: (sps.max_tb_log2() - 2) as u8,
         max_depth_intra: fields.blocks.max_transform_hierarchy_depth_intra as u8,
         log2_group: log2_group(sps.ctb_log2(), pps.quantization.diff_cu_qp_delta_depth),
+        luma_depth: (8 + fields.format.bit_depth_luma_minus8) as u8,
+        chroma_depth: (8 + fields.format.bit_depth_chroma_minus8) as u8,
         qp_offset: (6 * fields.format.bit_depth_luma_minus8) as u8,
         cu_qp_delta_enabled: pps.quantization.diff_cu_qp_delta_depth.is_some(),
         transquant_bypass_enabled: pps.prediction.transquant_bypass_enabled_flag,
@@ -141,8 +143,8 @@ fn pcm_syntax(sps: &Sps) -> PcmSyntax
 }
 
 fn blocks_of(pcm: PcmFormat) -> PcmSyntax
-    requires luma { pcm.pcm_sample_bit_depth_luma_minus1 ≤ 7 }
-    requires chroma { pcm.pcm_sample_bit_depth_chroma_minus1 ≤ 7 }
+    requires luma { pcm.pcm_sample_bit_depth_luma_minus1 ≤ 9 }
+    requires chroma { pcm.pcm_sample_bit_depth_chroma_minus1 ≤ 9 }
     requires greatest { max_pcm_log2 pcm ≤ 6 }
     ensures value { result ≡ pcm_syntax (Some pcm) }
     ensures luma { result.luma_bits ≤ 16 }
