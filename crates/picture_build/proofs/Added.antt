@@ -50,7 +50,8 @@ pub inter_is : (buffer : List DecodedPicture) (p : PicturePlan) (s : SegmentPlan
     → known ≡ known_of_unit (motions_of buffer) p s unit motions → slice ≡ slice_motion p s unit.ctu
     → weighting ≡ slice_weighting s.header.slice.inter
     → column ≡ first_column (picture_shape p.sps p.pps) unit.ctu → row ≡ first_row (picture_shape p.sps p.pps) unit.ctu
-    → inter_unit known slice weighting (pictures_of buffer) column row ≡ unit_inter buffer p s unit motions
+    → inter_unit known slice weighting (pictures_of p.sps.format buffer) column row
+    ≡ unit_inter buffer p s unit motions
 unfolding unit_inter
 inter_is buffer p s unit motions known slice weighting column row ek es ew ec er = rw (ek, es, ew, ec, er) refl
 

@@ -1,22 +1,25 @@
 -- The samples of held pictures as others refer to them.
 use Rattle.std.proofs.Common.{◌≡◌, ℕ, zero, suc, ◌+◌, ◌-◌, ◌/◌, ◌^◌, ◌<◌, ◌≤◌, ◌==◌, Bool, true, false, ℤ, min, List}
-use Rattle.std.proofs.Common.{Option, Some, None, get_or, length, slice_get, option_map, refl, sym, ap, subst, ◌∙◌, ◌⊎◌}
-use Rattle.std.proofs.Common.{inl, inr, if◌then◌else◌, arith}
-use Rattle.std.specs.List.{All}
-use Rattle.std.proofs.Math.Nat.{div-mul-le_self, pow-le-pow_right}
-use Rattle.std.proofs.lemmas.Option.{slice_get-map, slice_get_cases}
+use Rattle.std.proofs.Common.{Option, Some, None, slice_get, option_map, refl, sym, ap, subst, ◌∙◌}
+use Rattle.std.proofs.Common.{if◌then◌else◌, arith}
+use Rattle.std.proofs.Math.Nat.{div-mul-le_self, one-le-pow}
+use Rattle.std.proofs.lemmas.Option.{slice_get-map}
+use Rattle.header_types.specs.declared.pps.PpsFields.{PpsFields}
 use Rattle.header_types.specs.declared.sps.PictureFormat.{PictureFormat}
+use Rattle.header_types.specs.declared.sps.SpsFields.{SpsFields}
 use Rattle.header_types.specs.SequenceParameterSets.{IsPictureFormat}
 use Rattle.inter_samples.specs.Inter.{AreSmall}
-use Rattle.picture_buffer.specs.Pictures.{HasFormat, HeldPicture}
+use Rattle.slice_types.specs.declared.slice.SliceFields.{SliceFields}
+use Rattle.picture_buffer.specs.Pictures.{HeldPicture}
 use Rattle.picture_buffer.specs.Planes.{HasSides, PictureSamples, plane_height, plane_width, samples_of}
+use Rattle.picture_build.specs.Formats.{HasDepths}
 use Rattle.picture_build.specs.Pictures.{buffer_of, decoded_of}
 use Rattle.spec_inter_prediction.specs.Taps.{clamped}
+use Rattle.spec_picture_build.specs.Format.{unit_format}
 use Rattle.spec_picture_build.specs.References.{DecodedPicture, format_height, format_width, greatest_sample}
 use Rattle.spec_picture_build.specs.References.{pictures_of, reference_sample}
 use Rattle.spec_reconstruction.specs.declared.format.UnitFormat.{UnitFormat}
 use Rattle.spec_reconstruction.specs.Parameters.{depth_of}
-use Rattle.spec_reconstruction.specs.Sound.{IsFormat}
 
 -- a picture of the buffer by its place
 pub held_at : (bases : List HeldPicture) (place : ℕ) (o : Option HeldPicture) → slice_get bases place ≡ o
@@ -28,57 +31,38 @@ either : (P : ℕ → Type 0) (t : Bool) (a b : ℕ) → P a → P b → P (if t
 either P true a b pa pb = pa
 either P false a b pa pb = pb
 
--- the greatest sample of 8 bits
-greatest : (f : PictureFormat) (c : ℕ) → IsPictureFormat f → greatest_sample f c ≡ 255
-greatest f c is =
-    either (λ d. 2 ^ d - 1 ≡ 255) (c == 0) (8 + f.bit_depth_luma_minus8) (8 + f.bit_depth_chroma_minus8)
-    (ap (λ d. 2 ^ (8 + d) - 1) is.luma_depth) (ap (λ d. 2 ^ (8 + d) - 1) is.chroma_depth)
+chosen : (t : Bool) (a b c d : ℕ) → a ≡ c → b ≡ d → (if t then a else b) ≡ (if t then c else d)
+chosen true a b c d e f = e
+chosen false a b c d e f = f
 
-least_depth : (format : UnitFormat) (c : ℕ) → IsFormat format → 8 ≤ depth_of format c
-least_depth format c is = either (λ d. 8 ≤ d) (c == 0) format.luma_depth format.chroma_depth is.luma.0 is.chroma.0
+some_power : (d : ℕ) → 0 < 2 ^ d
+some_power d = let p : 1 ≤ 2 ^ d = one-le-pow d 2 (omega arith) in omega (arith, p)
 
-small_min : (s g d : ℕ) → g ≡ 255 → 8 ≤ d → min s g < 2 ^ d
-small_min s g d e le =
-    let p : 2 ^ 8 ≤ 2 ^ d = pow-le-pow_right (omega arith) le in
-    let m : min s g ≤ g = grind arith in
-    omega (arith, p, m, e)
+small_min : (s d n : ℕ) → d ≡ n → min s (2 ^ n - 1) < 2 ^ d
+small_min s d n e =
+    let some = some_power n in
+    let m : min s (2 ^ n - 1) ≤ 2 ^ n - 1 = grind arith in
+    let below : min s (2 ^ n - 1) < 2 ^ n = omega (arith, m, some) in
+    subst (λ k. min s (2 ^ n - 1) < 2 ^ k) (sym e) below
 
-some_power : (d : ℕ) → 8 ≤ d → 0 < 2 ^ d
-some_power d le = let p : 2 ^ 8 ≤ 2 ^ d = pow-le-pow_right (omega arith) le in omega (arith, p)
-
-small_at : (format : UnitFormat) (o : Option HeldPicture) (c : ℕ) (x y : ℤ) → IsFormat format
-    → ((p : HeldPicture) → o ≡ Some p → HasFormat p)
-    → reference_sample (option_map decoded_of o) c x y < 2 ^ depth_of format c
+small_at : (sps : SpsFields) (format : UnitFormat) (o : Option DecodedPicture) (c : ℕ) (x y : ℤ) → HasDepths sps format
+    → reference_sample sps.format o c x y < 2 ^ depth_of format c
 unfolding reference_sample
-small_at format None c x y is all = some_power (depth_of format c) (least_depth format c is)
-small_at format (Some p) c x y is all =
-    small_min _ (greatest_sample p.format c) (depth_of format c) (greatest p.format c (all p refl))
-    (least_depth format c is)
+small_at sps format None c x y depths = some_power (depth_of format c)
+small_at sps format (Some p) c x y depths =
+    small_min _ (depth_of format c) _ (chosen (c == 0) format.luma_depth format.chroma_depth
+    (8 + sps.format.bit_depth_luma_minus8) (8 + sps.format.bit_depth_chroma_minus8) depths.0 depths.1)
 
-some_is : (p q : HeldPicture) → Some p ≡ Some q → p ≡ q
-some_is p q e = ap (λ (o : Option HeldPicture). or_else q o) e
-  where
-    or_else : HeldPicture → Option HeldPicture → HeldPicture
-    or_else d None = d
-    or_else d (Some r) = r
+-- the bit depths of what the samples of a slice's units depend on
+pub depths_of : (sps : SpsFields) (pps : PpsFields) (slice : SliceFields) (format : UnitFormat)
+    → format ≡ unit_format sps pps slice → HasDepths sps format
+unfolding unit_format
+depths_of sps pps slice format e = rw e (refl, refl)
 
-format_at : (bases : List HeldPicture) (place : ℕ) → All HasFormat bases
-    → (p : HeldPicture) → slice_get bases place ≡ Some p → HasFormat p
-format_at bases place all p e = by (slice_get_cases bases place).1
-  where
-    by : ((q : HeldPicture) × (place < length bases) × (slice_get bases place ≡ Some q) × (get_or bases place q ≡ q))
-        ⊎ ((length bases ≤ place) × (slice_get bases place ≡ None))
-        → HasFormat p
-    by (inl t) = subst HasFormat (t.3 ∙ some_is t.0 p (sym t.2 ∙ e)) (all place t.0 t.1)
-    by (inr t) = let none : None ≡ Some p = sym t.1 ∙ e in absurd cc
-
--- the samples of all pictures are in the range of each bit depth
-pub are_small : (format : UnitFormat) (bases : List HeldPicture) → IsFormat format → All HasFormat bases
-    → AreSmall format (pictures_of (buffer_of bases))
-are_small format bases is all place c x y =
-    subst (λ (o : Option DecodedPicture). reference_sample o c x y < 2 ^ depth_of format c)
-    (sym (held_at bases place (slice_get bases place) refl))
-    (small_at format (slice_get bases place) c x y is (format_at bases place all))
+-- the samples of all pictures are in the range of the bit depths of the picture that refers to them
+pub are_small : (sps : SpsFields) (format : UnitFormat) (bases : List HeldPicture) → HasDepths sps format
+    → AreSmall format (pictures_of sps.format (buffer_of bases))
+are_small sps format bases depths place c x y = small_at sps format (slice_get (buffer_of bases) place) c x y depths
 
 -- a component's plane in the sides of its picture's format
 widths : (p : PictureSamples) (f : PictureFormat) (c : ℕ) → c < 3
@@ -117,37 +101,35 @@ pub plane_rows : (p : PictureSamples) (f : PictureFormat) (c : ℕ) → c < 3
 plane_rows p f c lt sides is = subst (λ n. n ≤ 65536) (sym (heights p f c lt sides)) (few_height f c is)
 
 -- a sample of a picture that has some of the component
-pub sample_held : (p : HeldPicture) (c : ℕ) (x y : ℤ) (read held : ℕ) → c < 3
+pub sample_held : (format : PictureFormat) (p : HeldPicture) (c : ℕ) (x y : ℤ) (read held : ℕ) → c < 3
     → HasSides p.planes p.format.pic_width_in_luma_samples p.format.pic_height_in_luma_samples
-    → IsPictureFormat p.format
     → read ≡ samples_of p.planes c (clamped x (plane_width p.planes c)) (clamped y (plane_height p.planes c))
-    → held ≡ min read 255
-    → held ≡ reference_sample (Some (decoded_of p)) c x y
+    → held ≡ min read (greatest_sample format c)
+    → held ≡ reference_sample format (Some (decoded_of p)) c x y
 unfolding reference_sample
-sample_held p c x y read held lt sides is e h =
+sample_held format p c x y read held lt sides e h =
+    let g = greatest_sample format c in
     h
-    ∙ ap (λ v. min v 255) e
-    ∙ ap (λ w. min (samples_of p.planes c (clamped x w) (clamped y (plane_height p.planes c))) 255)
+    ∙ ap (λ v. min v g) e
+    ∙ ap (λ w. min (samples_of p.planes c (clamped x w) (clamped y (plane_height p.planes c))) g)
     (widths p.planes p.format c lt sides)
-    ∙ ap (λ w. min (samples_of p.planes c (clamped x (format_width p.format c)) (clamped y w)) 255)
+    ∙ ap (λ w. min (samples_of p.planes c (clamped x (format_width p.format c)) (clamped y w)) g)
     (heights p.planes p.format c lt sides)
-    ∙ ap
-    (λ g. min (samples_of p.planes c (clamped x (format_width p.format c)) (clamped y (format_height p.format c))) g)
-    (sym (greatest p.format c is))
 
 -- and of one that has none
-pub sample_none : (p : HeldPicture) (c : ℕ) (x y : ℤ) (held : ℕ) → ((i j : ℕ) → samples_of p.planes c i j ≡ 0)
-    → held ≡ 0 → held ≡ reference_sample (Some (decoded_of p)) c x y
+pub sample_none : (format : PictureFormat) (p : HeldPicture) (c : ℕ) (x y : ℤ) (held : ℕ)
+    → ((i j : ℕ) → samples_of p.planes c i j ≡ 0) → held ≡ 0
+    → held ≡ reference_sample format (Some (decoded_of p)) c x y
 unfolding reference_sample
-sample_none p c x y held none e =
+sample_none format p c x y held none e =
     let zero_min : (g : ℕ) → 0 ≡ min 0 g = λ g. grind arith in
-    e ∙ zero_min (greatest_sample p.format c)
-    ∙ ap (λ v. min v (greatest_sample p.format c))
+    e ∙ zero_min (greatest_sample format c)
+    ∙ ap (λ v. min v (greatest_sample format c))
     (sym (none (clamped x (format_width p.format c)) (clamped y (format_height p.format c))))
 
 -- and at a place where the buffer has none
-pub sample_nowhere : (bases : List HeldPicture) (place c : ℕ) (x y : ℤ) (held : ℕ) → slice_get bases place ≡ None
-    → held ≡ 0 → held ≡ pictures_of (buffer_of bases) place c x y
+pub sample_nowhere : (format : PictureFormat) (bases : List HeldPicture) (place c : ℕ) (x y : ℤ) (held : ℕ)
+    → slice_get bases place ≡ None → held ≡ 0 → held ≡ pictures_of format (buffer_of bases) place c x y
 unfolding reference_sample
-sample_nowhere bases place c x y held none e =
-    e ∙ sym (ap (λ (o : Option DecodedPicture). reference_sample o c x y) (held_at bases place None none))
+sample_nowhere format bases place c x y held none e =
+    e ∙ sym (ap (λ (o : Option DecodedPicture). reference_sample format o c x y) (held_at bases place None none))

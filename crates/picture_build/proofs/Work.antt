@@ -3,6 +3,7 @@ use Rattle.std.proofs.Common.{◌≡◌, ℕ, ◌<◌, List, refl, ap, subst, �
 use Rattle.ctu_motion.specs.Held.{Cells, held as motion_held}
 use Rattle.ctu_records.specs.Tree.{Ctu}
 use Rattle.inter_samples.specs.Inter.{inter_unit}
+use Rattle.header_types.specs.declared.sps.SpsFields.{SpsFields}
 use Rattle.picture_buffer.specs.Motion.{motions_of}
 use Rattle.picture_buffer.specs.Pictures.{HeldPicture}
 use Rattle.picture_buffer.specs.Planes.{samples_of}
@@ -67,34 +68,37 @@ given_joins view here p s number ctu given same entry told =
     (data_of v.filters).coded given) same told)
 
 -- its samples
-abbrev built_at : UnitFormat → Ctu → Cells → SliceMotion → SliceWeighting → List HeldPicture → Standing → Known
-built_at format ctu cells slice weighting bases view =
+abbrev built_at : UnitFormat → Ctu → Cells → SliceMotion → SliceWeighting → SpsFields → List HeldPicture → Standing
+    → Known
+built_at format ctu cells slice weighting sps bases view =
     unit_built format
-    (inter_unit (motion_held cells) slice weighting (pictures_of (buffer_of bases))
+    (inter_unit (motion_held cells) slice weighting (pictures_of sps.format (buffer_of bases))
     (first_column view.unit.layout view.unit.address) (first_row view.unit.layout view.unit.address))
     ctu.items (known_beside view.unit.layout view.unit.slice view.unit.address (samples_of view.planes))
 
 pub samples_join : (view here : Standing) (p : PicturePlan) (s : SegmentPlan) (number : ℕ) (ctu : Ctu) (cells : Cells)
-    (format : UnitFormat) (slice : SliceMotion) (bases : List HeldPicture) (built : Known)
-    → view ≡ here → IsUnit p s here.unit → bases ≡ here.bases
+    (format : UnitFormat) (slice : SliceMotion) (sps : SpsFields) (bases : List HeldPicture) (built : Known)
+    → view ≡ here → IsUnit p s here.unit → sps ≡ p.sps → bases ≡ here.bases
     → slice ≡ slice_motion p s here.unit.address
     → motion_held cells
     ≡ known_of_unit (motions_at (buffer_of here.bases)) p s (tree_unit number here.unit.address ctu)
     (motions_of here.motion)
     → (first_row view.unit.layout view.unit.address < view.unit.layout.down
-    → built ≡ built_at format ctu cells slice (slice_weighting s.header.slice.inter) bases view)
+    → built ≡ built_at format ctu cells slice (slice_weighting s.header.slice.inter) sps bases view)
     → first_row here.unit.layout here.unit.address < here.unit.layout.down
     → built
     ≡ unit_built format
     (unit_inter (buffer_of here.bases) p s (tree_unit number here.unit.address ctu) (motions_of here.motion))
     ctu.items (known_beside here.unit.layout here.unit.slice here.unit.address (samples_of here.planes))
-samples_join view here p s number ctu cells format slice bases built same is eb es ek told there =
+samples_join view here p s number ctu cells format slice sps bases built same is ep eb es ek told there =
     let by : InterUnit → Known =
     λ inter. unit_built format inter ctu.items
     (known_beside here.unit.layout here.unit.slice here.unit.address (samples_of here.planes)) in
     subst (λ (v : Standing). first_row v.unit.layout v.unit.address < v.unit.layout.down
-    → built ≡ built_at format ctu cells slice (slice_weighting s.header.slice.inter) bases v) same told there
-    ∙ ap (λ (b : List HeldPicture). built_at format ctu cells slice (slice_weighting s.header.slice.inter) b here) eb
+    → built ≡ built_at format ctu cells slice (slice_weighting s.header.slice.inter) sps bases v) same told there
+    ∙ ap (λ (q : SpsFields). built_at format ctu cells slice (slice_weighting s.header.slice.inter) q bases here) ep
+    ∙ ap (λ (b : List HeldPicture). built_at format ctu cells slice (slice_weighting s.header.slice.inter) p.sps b here)
+    eb
     ∙ ap by
     (inter_is (buffer_of here.bases) p s (tree_unit number here.unit.address ctu) (motions_of here.motion) _ _ _ _ _
     ek es refl (ap (λ (q : PictureShape). first_column q here.unit.address) is.layout)

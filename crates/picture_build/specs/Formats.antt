@@ -1,5 +1,5 @@
 -- What the samples of the coding tree units of a picture's slices depend on (7.4.7.1).
-use Rattle.std.specs.Prelude.{◌≡◌, ◌+ℤ◌}
+use Rattle.std.specs.Prelude.{◌≡◌, ◌+◌, ◌+ℤ◌}
 use Rattle.header_types.specs.declared.pps.PpsFields.{PpsFields}
 use Rattle.slice_types.specs.declared.slice.SliceFields.{SliceFields}
 use Rattle.header_types.specs.declared.sps.SpsFields.{SpsFields}
@@ -24,3 +24,9 @@ of_slice pps slice format = record {
 -- the format of each slice of a picture but for its offsets
 abbrev pub IsCommon : SpsFields → PpsFields → UnitFormat → Type 0
 IsCommon sps pps format = (slice : SliceFields) → of_slice pps slice format ≡ unit_format sps pps slice
+
+-- the bit depths of a picture
+abbrev pub HasDepths : SpsFields → UnitFormat → Type 0
+HasDepths sps format =
+    (format.luma_depth ≡ 8 + sps.format.bit_depth_luma_minus8)
+    × (format.chroma_depth ≡ 8 + sps.format.bit_depth_chroma_minus8)

@@ -58,8 +58,8 @@ struct PcmBits {
 fn pcm_bits(sps: &Sps) -> PcmBits
     ensures luma { result.luma ≡ (pcm_syntax sps.now.tools.pcm).luma_bits }
     ensures chroma { result.chroma ≡ (pcm_syntax sps.now.tools.pcm).chroma_bits }
-    ensures few_luma { result.luma ≤ 8 }
-    ensures few_chroma { result.chroma ≤ 8 }
+    ensures few_luma { result.luma ≤ 8 + sps.now.format.bit_depth_luma_minus8 }
+    ensures few_chroma { result.chroma ≤ 8 + sps.now.format.bit_depth_chroma_minus8 }
 {
     match sps.fields().tools.pcm {
         None => PcmBits { luma: 0, chroma: 0 },

@@ -1,32 +1,38 @@
 //! The samples of the pictures that a picture refers to (8.5.3.3.3).
 
-ghost use Rattle.std.specs.Prelude.{◌≡◌, ◌<◌, ◌≤◌, ℕ, ℤ, pos, ◌+ℤ◌, ◌≤ℤ◌, length, min, true, false, Some};
+ghost use Rattle.std.specs.Prelude.{◌≡◌, ◌+◌, ◌-◌, ◌^◌, ◌<◌, ◌≤◌, ℕ, ℤ, pos, ◌+ℤ◌, ◌≤ℤ◌, length, min, true};
+ghost use Rattle.std.specs.Prelude.{false, Some};
 ghost use Rattle.inter_pred.specs.Passes.{at};
 ghost use Rattle.inter_samples.specs.Inter.{AreSmall};
 ghost use Rattle.picture_buffer.specs.Planes.{plane_height, plane_width, samples_of};
 ghost use Rattle.picture_build.specs.Pictures.{buffer_of, decoded_of};
+ghost use Rattle.picture_build.specs.Formats.{HasDepths};
 ghost use Rattle.spec_inter_prediction.specs.Taps.{clamped};
-ghost use Rattle.spec_picture_build.specs.References.{pictures_of, reference_sample};
+ghost use Rattle.spec_picture_build.specs.References.{greatest_sample, pictures_of, reference_sample};
 ghost use Rattle.spec_reconstruction.specs.declared.format.UnitFormat.{UnitFormat};
-ghost use Rattle.spec_reconstruction.specs.Sound.{IsFormat};
 
+use header_types::Sps;
 use inter_pred::{RefWindow, clamped, held_line};
 use picture_buffer::{Bases, Picture, Planes};
 
-/// The pictures of the decoded picture buffer, by their places.
+/// The pictures of the decoded picture buffer, by their places, for a picture that refers to them.
 #[derive(Clone, Copy)]
 pub(crate) struct References<'a> {
     bases: &'a Bases,
+    /// That picture's sequence parameter set.
+    sps: &'a Sps,
 }
 
 impl<'a> References<'a> {
-    /// Those of a buffer. Their samples are in the range of every bit depth.
-    pub(crate) fn new(bases: &'a Bases) -> References<'a>
+    /// Those of a buffer, for a picture of this sequence parameter set. Their samples are in the range of its bit
+    /// depths.
+    pub(crate) fn new(bases: &'a Bases, sps: &'a Sps) -> References<'a>
         ensures value { result.bases.now ≡ bases.now }
-        ensures small { (format : UnitFormat) → IsFormat format → AreSmall format (pictures_of (buffer_of bases.now)) }
+        ensures sps { result.sps.now ≡ sps.now }
+        ensures small { (format : UnitFormat) → HasDepths sps.now format
+            → AreSmall format (pictures_of sps.now.format (buffer_of bases.now)) }
     {
-        let _ = bases.len();
-        References { bases }
+        References { bases, sps }
     }
 }
 
@@ -34,27 +40,54 @@ impl<'a> RefWindow for References<'a> {
     ghost use Rattle.picture_build.specs.Pictures.{buffer_of};
     ghost use Rattle.spec_picture_build.specs.References.{pictures_of};
 
-    ghost reference_at = { λ r. pictures_of (buffer_of r.bases.now) };
+    ghost reference_at = { λ r. pictures_of r.sps.now.format (buffer_of r.bases.now) };
 
     fn row(&mut self, picture: u32, component: u8, x: i32, y: i32, out: &mut [u16]) {
         match self.bases.get(picture) {
-            Some(held) => picture_row(held, component as usize, x, y, out),
+            Some(held) => picture_row(held, self.sps, component as usize, x, y, out),
             None => clear(out),
         }
     }
 }
 
-/// The samples of a line of component `c` from a column on; 0 where it has none.
-fn picture_row(picture: &Picture, c: usize, x: i32, y: i32, out: &mut [u16])
+/// The greatest sample of component `c` of pictures of this sequence parameter set.
+fn greatest_sample(sps: &Sps, c: usize) -> u16
+    ensures { result ≡ greatest_sample sps.now.format c }
+{
+    let format = &sps.fields().format;
+    let minus8 = if c == 0 {
+        format.bit_depth_luma_minus8
+    } else {
+        format.bit_depth_chroma_minus8
+    };
+    greatest_of(minus8)
+}
+
+/// That of a bit depth less 8.
+fn greatest_of(minus8: u32) -> u16
+    requires { minus8 ≤ 2 }
+    ensures { result ≡ 2 ^ (8 + minus8) - 1 }
+{
+    match minus8 {
+        0 => 255,
+        1 => 511,
+        _ => 1023,
+    }
+}
+
+/// The samples of a line of component `c` from a column on, for a picture of this sequence parameter set; 0 where it
+/// has none.
+fn picture_row(picture: &Picture, sps: &Sps, c: usize, x: i32, y: i32, out: &mut [u16])
     requires count { length out.old ≤ 71 }
     requires place { x ≤ℤ pos 1073741824 }
     ensures { (k : ℕ) → k < length out.old
-        → at out.new k ≡ reference_sample (Some (decoded_of picture.now)) c (x +ℤ pos k) y }
+        → at out.new k ≡ reference_sample sps.now.format (Some (decoded_of picture.now)) c (x +ℤ pos k) y }
 {
     let _ = picture.format();
     let planes = picture.planes();
     if has_samples(planes, c) {
-        clamped_row(planes, c, x, y, out);
+        let greatest = greatest_sample(sps, c);
+        clamped_row(planes, c, greatest, x, y, out);
     } else {
         clear(out);
     }
@@ -69,9 +102,9 @@ fn has_samples(planes: &Planes, c: usize) -> bool
     c < 3 && planes.width(c) > 0 && planes.height(c) > 0
 }
 
-/// The samples of a line of component `c` from a column on, both clamped into the picture, and the samples held to 8
-/// bits, which none that was decoded exceeds.
-fn clamped_row(planes: &Planes, c: usize, x: i32, y: i32, out: &mut [u16])
+/// The samples of a line of component `c` from a column on, both clamped into the picture, and the samples held to a
+/// greatest one.
+fn clamped_row(planes: &Planes, c: usize, greatest: u16, x: i32, y: i32, out: &mut [u16])
     requires component { c < 3 }
     requires columns { (0 < plane_width planes.now c) × (plane_width planes.now c ≤ 65536) }
     requires rows { (0 < plane_height planes.now c) × (plane_height planes.now c ≤ 65536) }
@@ -80,10 +113,10 @@ fn clamped_row(planes: &Planes, c: usize, x: i32, y: i32, out: &mut [u16])
     ensures { (k : ℕ) → k < length out.old
         → at out.new k
         ≡ min (samples_of planes.now c (clamped (x +ℤ pos k) (plane_width planes.now c))
-        (clamped y (plane_height planes.now c))) 255 }
+        (clamped y (plane_height planes.now c))) greatest }
 {
     let line = planes.row(c, clamped(y, planes.height(c)));
-    held_line(line, x, 255, out);
+    held_line(line, x, greatest, out);
 }
 
 /// Samples where there is no picture.

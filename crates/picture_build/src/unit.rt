@@ -5,6 +5,7 @@ ghost use Rattle.std.specs.List.{All};
 ghost use Rattle.ctu_build.specs.Held.{held};
 ghost use Rattle.ctu_motion.specs.Held.{held as motion_held};
 ghost use Rattle.ctu_records.specs.Tree.{qp_at};
+ghost use Rattle.picture_build.specs.Formats.{HasDepths};
 ghost use Rattle.picture_build.specs.Pictures.{buffer_of};
 ghost use Rattle.picture_buffer.specs.Motion.{motions_of};
 ghost use Rattle.picture_buffer.specs.Planes.{HasSides, samples_of};
@@ -40,6 +41,7 @@ pub(crate) fn build_beside(
 )
     requires unit { IsUnit source.now.plan.now source.now.segment.now unit.now }
     requires format { IsFormat source.now.format.now }
+    requires depths { HasDepths source.now.plan.now.sps source.now.format.now }
     requires sides { HasSides built.planes.now (4 * unit.now.layout.across) (4 * unit.now.layout.down) }
     ensures slice { work.new.slice ≡ slice_motion source.now.plan.now source.now.segment.now unit.now.address }
     ensures motion { (number : ℕ) → All IsPlacedItem records.now.items
@@ -64,6 +66,6 @@ pub(crate) fn build_beside(
     let slice = &source.segment.header.fields().slice;
     let lists = &slice_of(source.plan, source.segment).lists;
     let beside = PictureBeside::new(*unit, built, collocated_entry(slice, lists));
-    let mut references = References::new(built.bases);
+    let mut references = References::new(built.bases, &source.plan.sps);
     build_unit(source, records, &beside, &mut references, scratch, work);
 }

@@ -4,4 +4,4 @@ pub mod Laying
 pub mod Units
 pub mod Pictures
 pub mod Filtered
-pub mod Written
+pub mod OutputBytes

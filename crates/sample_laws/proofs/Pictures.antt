@@ -6,6 +6,7 @@ use Rattle.std.specs.Option.{unwrap_or}
 use Rattle.std.specs.List.{All, fold}
 use Rattle.std.proofs.Math.Pow.{lt_of_le_ones}
 use Rattle.std.proofs.lemmas.List.Elements.{All-head, All-tail}
+use Rattle.header_types.specs.declared.sps.PictureFormat.{PictureFormat}
 use Rattle.header_types.specs.SequenceParameterSets.{IsSps}
 use Rattle.plan_types.specs.declared.picture_plan.PicturePlan.{PicturePlan}
 use Rattle.plan_types.specs.declared.segment_plan.SegmentPlan.{SegmentPlan}
@@ -137,9 +138,10 @@ module _ (buffer : List DecodedPicture) (p : PicturePlan) (sps : IsSps p.sps) wh
   unfolding picture_built
   whole_below built is = gives_below built (picture_read p []) refl is
 
-pub held_idle : (d : DecodedPicture) → ((c x y : ℕ) → d.samples c x y ≤ greatest_sample d.format c) → (c : ℕ) (x y : ℤ)
-    → reference_sample (Some d) c x y
+pub held_idle : (format : PictureFormat) (d : DecodedPicture)
+    → ((c x y : ℕ) → d.samples c x y ≤ greatest_sample format c) → (c : ℕ) (x y : ℤ)
+    → reference_sample format (Some d) c x y
     ≡ d.samples c (clamped x (format_width d.format c)) (clamped y (format_height d.format c))
 unfolding reference_sample
-held_idle d below c x y =
+held_idle format d below c x y =
     least_is _ _ (below c (clamped x (format_width d.format c)) (clamped y (format_height d.format c)))

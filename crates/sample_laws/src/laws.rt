@@ -3,7 +3,8 @@
 ghost use Rattle.std.specs.Prelude.{◌≡◌, ◌≤◌, ℕ, ℤ, List, Some, Ok};
 ghost use Rattle.std.specs.List.{All};
 ghost use Rattle.ctu_records.specs.declared.item.Item.{Item};
-ghost use Rattle.header_types.specs.SequenceParameterSets.{IsPictureFormat, IsSps};
+ghost use Rattle.header_types.specs.declared.sps.PictureFormat.{PictureFormat};
+ghost use Rattle.header_types.specs.SequenceParameterSets.{IsSps};
 ghost use Rattle.plan_types.specs.declared.picture_plan.PicturePlan.{PicturePlan};
 ghost use Rattle.plan_types.specs.declared.segment_plan.SegmentPlan.{SegmentPlan};
 ghost use Rattle.spec_decoded_pictures.specs.Decoded.{picture_decoded};
@@ -11,7 +12,6 @@ ghost use Rattle.spec_inter_prediction.specs.Taps.{clamped};
 ghost use Rattle.spec_picture_trees.specs.Picture.{TreeUnit};
 ghost use Rattle.spec_picture_build.specs.Built.{BuiltPicture, picture_built, units_built};
 ghost use Rattle.spec_picture_build.specs.Format.{unit_format};
-ghost use Rattle.spec_picture_build.specs.Output.{has_two_bytes, sample_bytes};
 ghost use Rattle.spec_picture_build.specs.References.{DecodedPicture, format_height, format_width, greatest_sample};
 ghost use Rattle.spec_picture_build.specs.References.{reference_sample};
 ghost use Rattle.spec_reconstruction.specs.declared.format.UnitFormat.{UnitFormat};
@@ -19,7 +19,7 @@ ghost use Rattle.spec_reconstruction.specs.Inter.{InterUnit};
 ghost use Rattle.spec_reconstruction.specs.Known.{Known};
 ghost use Rattle.spec_reconstruction.specs.Sound.{IsFormat, ArePulses};
 ghost use Rattle.spec_reconstruction.specs.Unit.{unit_built};
-ghost use Rattle.sample_laws.specs.Ranges.{AreInRange, number_of};
+ghost use Rattle.sample_laws.specs.Ranges.{AreInRange};
 
 /// Where the samples known before a unit are in range, so are those known behind it; and no sample of a picture exceeds
 /// the greatest one of its component, before its loop filters. Of what was read that takes samples of pulse code
@@ -45,19 +45,13 @@ pub fn decoded_samples_are_in_range()
         → (c x y : ℕ) → decoded.samples c x y ≤ greatest_sample decoded.format c }
 {}
 
-/// Where the samples of a picture are in range, its samples as a reference are those at the nearest place inside: that
-/// they are held to the bit depth changes nothing.
+/// Where the samples of a picture are in the range of pictures of a format, as those of a decoded picture are in that
+/// of its own, its samples as a reference of such a picture are those at the nearest place inside: that they are held
+/// to the bit depth changes nothing.
 pub fn references_in_range_are_not_held()
-    ensures same { (d : DecodedPicture) → ((c x y : ℕ) → d.samples c x y ≤ greatest_sample d.format c)
+    ensures same { (format : PictureFormat) (d : DecodedPicture)
+        → ((c x y : ℕ) → d.samples c x y ≤ greatest_sample format c)
         → (c : ℕ) (x y : ℤ)
-        → reference_sample (Some d) c x y
+        → reference_sample format (Some d) c x y
         ≡ d.samples c (clamped x (format_width d.format c)) (clamped y (format_height d.format c)) }
-{}
-
-/// Where the samples of a picture are in range, no bit of them is lost where they go out: their bytes spell them, the
-/// low one first.
-pub fn samples_in_range_go_out_whole()
-    ensures whole { (d : DecodedPicture) → IsPictureFormat d.format
-        → ((c x y : ℕ) → d.samples c x y ≤ greatest_sample d.format c)
-        → (c x y : ℕ) → number_of (sample_bytes (has_two_bytes d.format) (d.samples c x y)) ≡ d.samples c x y }
 {}

@@ -3,7 +3,9 @@
 #![tactic(auto)]
 
 mod laws;
+mod written;
 
 pub use laws::{
     built_samples_are_in_range, decoded_samples_are_in_range, references_in_range_are_not_held,
 };
+pub use written::samples_in_range_go_out_whole;

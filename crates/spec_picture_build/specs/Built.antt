@@ -39,7 +39,7 @@ unit_inter buffer p s unit motions = record {
   motion = known_of_unit (motions_of buffer) p s unit motions;
   slice = slice_motion p s unit.ctu;
   weighting = slice_weighting s.header.slice.inter;
-  pictures = pictures_of buffer;
+  pictures = pictures_of p.sps.format buffer;
   column = first_column (picture_shape p.sps p.pps) unit.ctu;
   row = first_row (picture_shape p.sps p.pps) unit.ctu;
 }

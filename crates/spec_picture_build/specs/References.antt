@@ -26,17 +26,18 @@ abbrev pub greatest_sample : PictureFormat → ℕ → ℕ
 greatest_sample format c =
     2 ^ (if c == 0 then 8 + format.bit_depth_luma_minus8 else 8 + format.bit_depth_chroma_minus8) - 1
 
--- the sample of a picture at a column and a line, or the nearest one inside. It is held to the bit depth, which no
--- sample that was decoded exceeds; where there is no picture it is 0
-unfoldable pub reference_sample : Option DecodedPicture → ℕ → ℤ → ℤ → ℕ
-reference_sample None c x y = 0
-reference_sample (Some p) c x y =
+-- the sample of a picture at a column and a line, or the nearest one inside. It is held to the bit depth of pictures of
+-- a format, that of the picture that refers to it, which no sample of a picture of this depth exceeds; where there is
+-- no picture it is 0
+unfoldable pub reference_sample : PictureFormat → Option DecodedPicture → ℕ → ℤ → ℤ → ℕ
+reference_sample format None c x y = 0
+reference_sample format (Some p) c x y =
     min (p.samples c (clamped x (format_width p.format c)) (clamped y (format_height p.format c)))
-    (greatest_sample p.format c)
+    (greatest_sample format c)
 
--- the samples of the pictures of a buffer, by their places
-abbrev pub pictures_of : List DecodedPicture → Pictures
-pictures_of buffer place c x y = reference_sample (slice_get buffer place) c x y
+-- the samples of the pictures of a buffer, by their places, for a picture of a format
+abbrev pub pictures_of : PictureFormat → List DecodedPicture → Pictures
+pictures_of format buffer place c x y = reference_sample format (slice_get buffer place) c x y
 
 -- their motion
 abbrev pub motions_in : Option DecodedPicture → Motions

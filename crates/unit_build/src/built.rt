@@ -20,6 +20,7 @@ pub struct BuiltUnit {
 
 impl BuiltUnit {
     /// Of no unit yet.
+    #[inline(always)]
     pub fn new() -> BuiltUnit {
         BuiltUnit {
             samples: UnitSamples::new(),

@@ -5,6 +5,7 @@ use mir.Syntax.{w32}
 use Rattle.inter_pred.specs.Passes.{at}
 use Rattle.picture_buffer.specs.Planes.{PictureSamples, plane_height, plane_width, samples_of}
 use Rattle.spec_inter_prediction.specs.Taps.{clamped}
+use Rattle.spec_picture_build.specs.References.{greatest_sample}
 use Rattle.picture_build.proofs.Referring.{sample_held, sample_none}
 use Rattle.picture_build.proofs.references.picture_row.Goals as goal
 
@@ -17,10 +18,11 @@ returns-then-has_samples c = λ k lt.
     let told : at c.clamped_row.new.out k
     ≡ min (samples_of c.planes-planes.result.now c.args.c
     (clamped (c.args.x +ℤ pos k) (plane_width c.planes-planes.result.now c.args.c))
-    (clamped c.args.y (plane_height c.planes-planes.result.now c.args.c))) 255 =
-    grind (arith, to_z-of_z, read) in
-    sample_held c.args.picture.now c.args.c (c.args.x +ℤ pos k) c.args.y _ _ three c.planes-planes.ensures.sides
-    c.format.ensures.format
+    (clamped c.args.y (plane_height c.planes-planes.result.now c.args.c)))
+    (greatest_sample c.args.sps.now.format c.args.c) =
+    grind (arith, to_z-of_z, read, c.greatest_sample-greatest.ensures) in
+    sample_held c.args.sps.now.format c.args.picture.now c.args.c (c.args.x +ℤ pos k) c.args.y _ _ three
+    c.planes-planes.ensures.sides
     (ap (λ (q : PictureSamples). samples_of q c.args.c (clamped (c.args.x +ℤ pos k) (plane_width q c.args.c))
     (clamped c.args.y (plane_height q c.args.c)))
     c.planes-planes.ensures.value)
@@ -28,4 +30,5 @@ returns-then-has_samples c = λ k lt.
 
 pub returns-else-has_samples : goal.returns-else-has_samples
 returns-else-has_samples c = λ k lt.
-    sample_none c.args.picture.now c.args.c (c.args.x +ℤ pos k) c.args.y _ (search rules) (c.clear.ensures k lt)
+    sample_none c.args.sps.now.format c.args.picture.now c.args.c (c.args.x +ℤ pos k) c.args.y _ (search rules)
+    (c.clear.ensures k lt)

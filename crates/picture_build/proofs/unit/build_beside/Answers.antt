@@ -29,8 +29,9 @@ returns-clause-samples c = λ number there sound.
     let s : SegmentPlan = c.args.source.now.segment.now in
     let entry : c.collocated_entry.result ≡ collocated_entry s.header.slice (slice_start p s).lists = search rules in
     samples_join c.new-beside.result _ p s number c.args.records.now c.build_unit.new.built.motion
-    c.args.source.now.format.now c.build_unit.new.built.slice c.new-references.result.bases.now _
-    c.new-beside.ensures c.requires.unit c.new-references.ensures.value (search rules)
+    c.args.source.now.format.now c.build_unit.new.built.slice c.new-references.result.sps.now
+    c.new-references.result.bases.now _
+    c.new-beside.ensures c.requires.unit (search rules) c.new-references.ensures.value (search rules)
     (motion_joins c.new-beside.result _ p s number c.args.records.now c.build_unit.new.built.motion
     c.new-beside.ensures entry
     (c.build_unit.ensures.motion (all_placed c.args.source.now.format.now c.args.records.now.items sound)))

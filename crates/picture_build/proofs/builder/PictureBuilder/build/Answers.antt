@@ -21,6 +21,7 @@ use Rattle.picture_build.specs.Building.{Building, behind_by, built_by}
 use Rattle.picture_build.specs.Pictures.{buffer_of}
 use Rattle.picture_build.proofs.Added.{moved, unit_is}
 use Rattle.picture_build.proofs.Behind.{behind_unit}
+use Rattle.picture_build.proofs.Referring.{depths_of}
 use Rattle.picture_build.proofs.builder.PictureBuilder.build.Goals as goal
 
 pub returns-clause-value : goal.returns-clause-value
@@ -88,3 +89,10 @@ returns-clause-behind g c = λ number.
     c.args.segment.now unit format (behind_by old) (motions_of c.lay_unit-2.new.field) (data_of c.lay.new.self)
     c.build_beside.new.work.filters c.self.invariant.8 c.self.invariant.7 depth sound moves
     (c.build_beside.ensures.filters number) c.lay.ensures.value)
+
+pub build_beside-requires-clause-depths : goal.build_beside-requires-clause-depths
+build_beside-requires-clause-depths g c =
+    let format : c.set_slice.new.format
+    ≡ unit_format c.self.inside.plan.now.sps c.self.inside.plan.now.pps c.args.segment.now.header.slice =
+    search rules in
+    depths_of _ _ c.args.segment.now.header.slice _ format
