@@ -1,10 +1,12 @@
 -- The ranges of sequence parameter sets that are read.
 use Rattle.std.proofs.Common.{◌≡◌, ◌∙◌, ℕ, zero, suc, ◌+◌, ◌-◌, ◌*◌, ◌%◌, ◌^◌, ◌<◌, ◌≤◌, Bool, true, false, ◌&&◌, ◌==◌}
 use Rattle.std.proofs.Common.{List, [], ◌∷◌, ◌++◌, length, Option, IfSome, All, Ok, min, sym, length-append, arith}
+use Rattle.std.proofs.Common.{if◌then◌else◌}
 use Rattle.std.specs.Prelude.{nat_le}
 use Rattle.std.proofs.lemmas.Bool.{and_parts, eqb-true, leb-true, ltb-true}
 use Rattle.std.proofs.lemmas.List.Elements.{All-get_or, All-nil, All-push}
 use Rattle.hv_base.specs.declared.field_rules.TheConstants.{PARAMETER_SET_RULES}
+use Rattle.header_types.specs.declared.profile.Profile.{Profile}
 use Rattle.header_types.specs.declared.scaling.ScalingLists.{ScalingLists}
 use Rattle.header_types.specs.declared.short_term_set.StRps.{StRps}
 use Rattle.header_types.specs.declared.sps.BlockSizes.{BlockSizes}
@@ -27,10 +29,12 @@ use Rattle.header_types.specs.SequenceParameterSets.{highest_ordering, max_lsb_o
 use Rattle.header_types.proofs.ReferencePictures.{All-IsStRps-weaker}
 use Rattle.spec_bits.specs.Bits.{bits}
 use Rattle.spec_formats.proofs.Values.{CanBe}
+use Rattle.spec_parameter_sets.specs.ProfileTierLevel.{greatest_depth_minus8, is_main_10}
 use Rattle.spec_parameter_sets.specs.Scaling.{scaling_list_data}
-use Rattle.spec_parameter_sets.specs.SequenceParameterSet.{block_sizes, conformance_window, long_term_candidate}
-use Rattle.spec_parameter_sets.specs.SequenceParameterSet.{long_term_candidates, main_only, ordered_sub_layers}
-use Rattle.spec_parameter_sets.specs.SequenceParameterSet.{pcm_bit_depth, pcm_format, picture_format}
+use Rattle.spec_parameter_sets.specs.SequenceParameterSet.{bit_depth, block_sizes, conformance_window}
+use Rattle.spec_parameter_sets.specs.SequenceParameterSet.{long_term_candidate, long_term_candidates, main_only}
+use Rattle.spec_parameter_sets.specs.SequenceParameterSet.{ordered_sub_layers, pcm_bit_depth, pcm_format}
+use Rattle.spec_parameter_sets.specs.SequenceParameterSet.{picture_format}
 use Rattle.spec_parameter_sets.specs.SequenceParameterSet.{present_scaling_lists, scaling_lists, sequence_parameter_set}
 use Rattle.spec_parameter_sets.specs.SequenceParameterSet.{sequence_parameter_set_of, sets_behind}
 use Rattle.spec_parameter_sets.specs.SequenceParameterSet.{short_term_ref_pic_sets, side, sub_layer_ordering}
@@ -62,9 +66,24 @@ main_is : (value n : ℕ) → CanBe (main_only value) n → n ≡ value
 unfolding main_only
 main_is value n (found, a, (main, main-is, e)) = sym e ∙ eqb-true _ _ (wanted_is (found == value) _ main main-is)
 
-format_is : (f : PictureFormat) → CanBe picture_format f → IsPictureFormat f
+few_bits : (p : Profile) → greatest_depth_minus8 p ≤ 2
+unfolding greatest_depth_minus8
+few_bits p = by (is_main_10 p.profile_idc p.profile_compatibility_flags)
+  where
+    by : (b : Bool) → (if b then 2 else 0) ≤ 2
+    by true = omega arith
+    by false = omega arith
+
+bits_are : (p : Profile) (n : ℕ) → CanBe (bit_depth (greatest_depth_minus8 p)) n → n ≤ 2
+unfolding bit_depth
+bits_are p n (found, a, (within, within-is, e)) =
+    let few = few_bits p in
+    let is = leb-true _ _ (wanted_is (nat_le found (greatest_depth_minus8 p)) _ within within-is) in
+    rw (← e) (omega (arith, few, is))
+
+format_is : (p : Profile) (f : PictureFormat) → CanBe (picture_format p) f → IsPictureFormat f
 unfolding picture_format
-format_is f (
+format_is p f (
   chroma,
   chroma-is,
   (
@@ -89,8 +108,8 @@ format_is f (
       window =
           optional_is (IsConformanceWindow width height) flag (conformance_window width height) window
           (window_is width height) window-ok;
-      luma_depth = main_is 0 luma luma-is;
-      chroma_depth = main_is 0 depth depth-is;
+      luma_depth = bits_are p luma luma-is;
+      chroma_depth = bits_are p depth depth-is;
     })
 
 -- ---- sub-layers
@@ -300,7 +319,7 @@ sequence_set_is s (
     let ordered = order_is identity.sps_max_sub_layers_minus1 order order-ok in
     rw (← e) (record {
       identity = identity_is identity id-ok;
-      format = format_is format format-ok;
+      format = format_is identity.profile_tier_level.general format format-ok;
       order = ordered;
       blocks = blocks_are format.pic_width_in_luma_samples format.pic_height_in_luma_samples blocks blocks-ok;
       tools = tools_are format blocks tools tools-ok;

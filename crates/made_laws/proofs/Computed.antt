@@ -6,8 +6,9 @@ use Rattle.spec_parameter_sets.specs.PictureParameterSet.{pps_slice_defaults, pp
 use Rattle.spec_parameter_sets.specs.PictureParameterSet.{pps_filters, picture_parameter_set}
 use Rattle.spec_parameter_sets.specs.PictureParameterSet.{picture_parameter_set_of}
 use Rattle.spec_parameter_sets.specs.ProfileTierLevel.{reserved_44bits, profile, sub_layer_flags, reserved_2bits}
-use Rattle.spec_parameter_sets.specs.ProfileTierLevel.{sub_layer, profile_tier_level}
-use Rattle.spec_parameter_sets.specs.SequenceParameterSet.{side, conformance_window, main_only, picture_format}
+use Rattle.spec_parameter_sets.specs.ProfileTierLevel.{greatest_depth_minus8, sub_layer, profile_tier_level}
+use Rattle.spec_parameter_sets.specs.SequenceParameterSet.{side, conformance_window, main_only, bit_depth}
+use Rattle.spec_parameter_sets.specs.SequenceParameterSet.{picture_format}
 use Rattle.spec_parameter_sets.specs.SequenceParameterSet.{sub_layer_ordering, ordered_sub_layers, block_sizes}
 use Rattle.spec_parameter_sets.specs.SequenceParameterSet.{present_scaling_lists, scaling_lists, pcm_bit_depth}
 use Rattle.spec_parameter_sets.specs.SequenceParameterSet.{pcm_format, sets_behind, short_term_ref_pic_sets}
@@ -57,7 +58,8 @@ unfoldable pub sets_computed : ⊤
 unfolding sequence_payload picture_payload made_sps made_pps highest_ordering blocks_across deblocking_offset
     deblocking_control pps_identity pps_slice_defaults pps_quantization pps_prediction pps_filters
     picture_parameter_set picture_parameter_set_of reserved_44bits profile sub_layer_flags reserved_2bits sub_layer
-    profile_tier_level level_of max_dpb_size within_level level_kept side conformance_window main_only picture_format sub_layer_ordering ordered_sub_layers
+    profile_tier_level level_of max_dpb_size within_level level_kept side conformance_window main_only
+    greatest_depth_minus8 bit_depth picture_format sub_layer_ordering ordered_sub_layers
     block_sizes present_scaling_lists scaling_lists pcm_bit_depth pcm_format sets_behind short_term_ref_pic_sets
     long_term_candidate long_term_candidates sub_layers sps_identity sps_order sps_tools sps_references
     sequence_parameter_set sequence_parameter_set_of field_at repeated each bit_of bits number_of u_at flag_at ue_at

@@ -6,6 +6,7 @@ use Rattle.std.specs.Prelude.{◌==◌, slice_index_or}
 use Rattle.std.specs.Option.{unwrap_or}
 use Rattle.std.proofs.lemmas.Bool.{cases_eq, cases_lt, le-leb, lt-ltb}
 use Rattle.std.proofs.lemmas.Bool.Decides.{nat_tests}
+use Rattle.header_types.specs.declared.sps.PictureFormat.{PictureFormat}
 use Rattle.plan_types.specs.declared.picture_plan.PicturePlan.{PicturePlan}
 use Rattle.plan_types.specs.declared.segment_plan.SegmentPlan.{SegmentPlan}
 use Rattle.plan_types.specs.Segments.{address_of}
@@ -52,6 +53,7 @@ use Rattle.spec_made.specs.declared.units.Shift.{Shift}
 use Rattle.spec_made.specs.Draws.{no_unit}
 use Rattle.spec_made.specs.InterRows.{is_skipped, later_motion}
 use Rattle.spec_made.specs.Planes.{Planes}
+use Rattle.made_laws.specs.Sets.{made_format}
 use Rattle.made_row_laws.specs.Rows.{IsReadAs, tree_drawn, trees_drawn}
 use Rattle.made_row_laws.specs.Shapes.{made_shape}
 use Rattle.made_row_laws.specs.Units.{IsMotion, inter_items, unit_drawn, unit_items}
@@ -100,7 +102,8 @@ pointed slice first one (Some two) refers = rw (refers 0, refers 1) refl
 module _ (buffer : List DecodedPicture) (p : PicturePlan) (s : SegmentPlan) (first : ℕ → Reference)
     (is : IsInter p s first) (m : Motion) (small : IsMotion m) (units : List MadeUnit)
     (coded : is_skipped (slice_index_or units 0 no_unit) 0 ≡ false) (sample : Samples)
-    (predicted : (inter : InterUnit) (c x y : ℕ) → inter.pictures ≡ pictures_of buffer → inter.weighting ≡ Default
+    (predicted : (inter : InterUnit) (c x y : ℕ) → inter.pictures ≡ pictures_of made_format buffer
+    → inter.weighting ≡ Default
     → ((list : ℕ) → reference_in inter.slice list 0 ≡ first list) → c < 3 → x < width_of c → y < height_of c
     → inter_sample (unit_format p.sps p.pps s.header.slice) inter c (motion_drawn m) x y ≡ sample c x y) where
   abbrev items : ℕ → List Item
@@ -243,7 +246,8 @@ module _ (buffer : List DecodedPicture) (p : PicturePlan) (s : SegmentPlan) (fir
       (samples_of_place c * (4 * (i / 8)) + (y % side_of c + 1 - 1))) (column_is c x y i least few at)
       ∙ ap (λ k. inter_sample (unit_format p.sps p.pps s.header.slice) (inter i u) c motion x k)
       (line_is c x y i least few at)
-      ∙ predicted (inter i u) c x y refl is.weighting (λ list. is.references list i) least few low
+      ∙ predicted (inter i u) c x y (ap (λ (f : PictureFormat). pictures_of f buffer) is.format) is.weighting
+      (λ list. is.references list i) least few low
 
   abbrev built_known : ℕ → DecodedUnits → Known
   built_known i u =

@@ -99,7 +99,7 @@ least_is a b few = grind (arith, nat_tests)
 
 held_is : (d : DecodedPicture) (c a b v : ℕ) (x y : ℤ) → d.format ≡ made_format → clamped x (width_of c) ≡ a
     → clamped y (height_of c) ≡ b → c < 3 → d.samples c a b ≡ v → v < 256
-    → reference_sample (Some d) c x y ≡ v
+    → reference_sample made_format (Some d) c x y ≡ v
 unfolding reference_sample
 held_is d zero a b v x y format across down least is small =
     rw (format, across, down, is) (least_is v 255 (omega arith))
@@ -113,14 +113,14 @@ module _ (planes : Planes) (bytes : AreBytes planes) (buffer : List DecodedPictu
     (has : HasDrawn planes buffer place) (s : Shift) where
   reference_at : (c a b : ℕ) (x y : ℤ) → c < 3 → clamped x (width_of c) ≡ a → clamped y (height_of c) ≡ b
       → a < width_of c → b < height_of c
-      → pictures_of buffer place c x y ≡ drawn_at planes c a b
+      → pictures_of made_format buffer place c x y ≡ drawn_at planes c a b
   reference_at c a b x y least across down few low =
-      ap (λ (o : Option DecodedPicture). reference_sample o c x y) has.there
+      ap (λ (o : Option DecodedPicture). reference_sample made_format o c x y) has.there
       ∙ held_is has.picture c a b (drawn_at planes c a b) x y has.drawn.format across down least
       (has.drawn.samples c a b least few low) (bytes c a b least few low)
 
   pub moved_is : (c x y : ℕ) → c < 3 → x < width_of c → y < height_of c
-      → pictures_of buffer place c (pos x +ℤ steps c s.across) (pos y +ℤ steps c s.down)
+      → pictures_of made_format buffer place c (pos x +ℤ steps c s.across) (pos y +ℤ steps c s.down)
       ≡ drawn_at (moved_planes planes s) c x y
   unfolding moved_sample clamped
   moved_is zero x y least few low =

@@ -108,8 +108,8 @@ fn judge<'a>(
 }
 
 /// That pictures of these sides and this many that are kept are within the level of a general_level_idc, if it names
-/// one: else `LevelExceeded` with the first measure of these that is over, its value and what the level allows. It reads
-/// nothing.
+/// one: else `LevelExceeded` with the first measure of these that is over, its value and what the level allows. It
+/// reads nothing.
 #[tactic(auto, unfolding(spec_parameter_sets::specs::Levels::level_kept))]
 pub(crate) fn judge_level<'a>(
     reader: &mut FieldReader<'a>,

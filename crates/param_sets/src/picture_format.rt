@@ -4,10 +4,13 @@ ghost use Rattle.std.specs.Prelude.{◌≡◌, ◌+◌, ◌*◌, ◌<◌, ◌≤
 ghost use Rattle.header_fields.specs.Takes.{Takes};
 ghost use Rattle.header_types.specs.SequenceParameterSets.{IsConformanceWindow, IsPictureFormat};
 ghost use Rattle.spec_formats.specs.Fields.{optional};
-ghost use Rattle.spec_parameter_sets.specs.SequenceParameterSet.{side, conformance_window, main_only, picture_format};
+ghost use Rattle.spec_parameter_sets.specs.ProfileTierLevel.{greatest_depth_minus8};
+ghost use Rattle.spec_parameter_sets.specs.SequenceParameterSet.{side, conformance_window, main_only, bit_depth};
+ghost use Rattle.spec_parameter_sets.specs.SequenceParameterSet.{picture_format};
 
+use crate::profile::greatest_depth_minus8;
 use header_fields::FieldReader;
-use header_types::{ConformanceWindow, PictureFormat};
+use header_types::{ConformanceWindow, PictureFormat, Profile};
 use hv_base::{FaultKind, LimitKind, Refusal};
 
 /// A width or a height in luma samples.
@@ -59,7 +62,7 @@ fn read_window<'a>(
     }))
 }
 
-/// A field that has one value in the Main profile.
+/// A field that has one value in each profile.
 #[tactic(auto, unfolding(spec_parameter_sets::specs::SequenceParameterSet::main_only))]
 fn read_main_only<'a>(reader: &mut FieldReader<'a>, value: u32) -> Result<u32, Refusal>
     ensures value { Takes (λ x. x) result reader.old reader.new (main_only value) }
@@ -72,13 +75,29 @@ fn read_main_only<'a>(reader: &mut FieldReader<'a>, value: u32) -> Result<u32, R
     Ok(found)
 }
 
+/// The bit depth of a component less 8, which is `greatest` at most.
+#[tactic(auto, unfolding(spec_parameter_sets::specs::SequenceParameterSet::bit_depth))]
+fn read_bit_depth<'a>(reader: &mut FieldReader<'a>, greatest: u32) -> Result<u32, Refusal>
+    ensures value { Takes (λ x. x) result reader.old reader.new (bit_depth greatest) }
+    ensures within { IfOk result (λ x. x ≤ greatest) }
+{
+    let minus8 = reader.ue()?;
+    if minus8 > greatest {
+        return Err(Refusal::Fault(FaultKind::Profile));
+    }
+    Ok(minus8)
+}
+
+/// chroma_format_idc to bit_depth_chroma_minus8, by the general profile.
 #[tactic(auto, unfolding(spec_parameter_sets::specs::SequenceParameterSet::picture_format))]
 pub(crate) fn read_picture_format<'a>(
     reader: &mut FieldReader<'a>,
+    general: &Profile,
 ) -> Result<PictureFormat, Refusal>
-    ensures value { Takes (λ x. x) result reader.old reader.new picture_format }
+    ensures value { Takes (λ x. x) result reader.old reader.new (picture_format general.now) }
     ensures in_range { IfOk result IsPictureFormat }
 {
+    let greatest = greatest_depth_minus8(general);
     let chroma_format_idc = read_main_only(reader, 1)?;
     let pic_width_in_luma_samples = read_side(reader)?;
     let pic_height_in_luma_samples = read_side(reader)?;
@@ -92,8 +111,8 @@ pub(crate) fn read_picture_format<'a>(
         pic_width_in_luma_samples,
         pic_height_in_luma_samples,
     )?;
-    let bit_depth_luma_minus8 = read_main_only(reader, 0)?;
-    let bit_depth_chroma_minus8 = read_main_only(reader, 0)?;
+    let bit_depth_luma_minus8 = read_bit_depth(reader, greatest)?;
+    let bit_depth_chroma_minus8 = read_bit_depth(reader, greatest)?;
     Ok(PictureFormat {
         chroma_format_idc,
         pic_width_in_luma_samples,

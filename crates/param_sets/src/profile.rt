@@ -3,8 +3,9 @@
 ghost use Rattle.std.specs.Prelude.{◌≡◌, ◌≤◌, true, false};
 ghost use Rattle.header_fields.specs.Takes.{Takes};
 ghost use Rattle.spec_formats.specs.Fields.{optional, repeated, each, u};
-ghost use Rattle.spec_parameter_sets.specs.ProfileTierLevel.{is_main, reserved_44bits, profile, sub_layer_flags};
-ghost use Rattle.spec_parameter_sets.specs.ProfileTierLevel.{reserved_2bits, sub_layer, profile_tier_level};
+ghost use Rattle.spec_parameter_sets.specs.ProfileTierLevel.{is_main, is_main_10, reserved_44bits, profile};
+ghost use Rattle.spec_parameter_sets.specs.ProfileTierLevel.{greatest_depth_minus8, sub_layer_flags, reserved_2bits};
+ghost use Rattle.spec_parameter_sets.specs.ProfileTierLevel.{sub_layer, profile_tier_level};
 
 use header_fields::FieldReader;
 use header_types::{FieldList, Profile, ProfileTierLevel, SubLayerProfile};
@@ -16,6 +17,29 @@ fn is_main(profile_idc: u32, profile_compatibility_flags: u32) -> bool
     ensures { result ≡ is_main profile_idc profile_compatibility_flags }
 {
     profile_idc == 1 || (profile_compatibility_flags >> 30) % 2 == 1
+}
+
+/// Whether the stream conforms to the Main 10 profile (A.3.3).
+fn is_main_10(profile_idc: u32, profile_compatibility_flags: u32) -> bool
+    ensures { result ≡ is_main_10 profile_idc profile_compatibility_flags }
+{
+    profile_idc == 2 || (profile_compatibility_flags >> 29) % 2 == 1
+}
+
+/// The greatest bit depth of a profile, less 8.
+#[tactic(auto, unfolding(spec_parameter_sets::specs::ProfileTierLevel::greatest_depth_minus8))]
+pub(crate) fn greatest_depth_minus8(profile: &Profile) -> u32
+    ensures value { result ≡ greatest_depth_minus8 profile.now }
+    ensures few { result ≤ 2 }
+{
+    if is_main_10(
+        u32::from(profile.profile_idc),
+        profile.profile_compatibility_flags,
+    ) {
+        2
+    } else {
+        0
+    }
 }
 
 #[tactic(auto, unfolding(spec_parameter_sets::specs::ProfileTierLevel::reserved_44bits))]
@@ -35,7 +59,9 @@ fn read_profile<'a>(reader: &mut FieldReader<'a>, is_general: bool) -> Result<Pr
     let tier_flag = reader.flag()?;
     let profile_idc = reader.u(5)?;
     let profile_compatibility_flags = reader.u(32)?;
-    if is_general && !is_main(profile_idc, profile_compatibility_flags) {
+    let is_decoded = is_main(profile_idc, profile_compatibility_flags)
+        || is_main_10(profile_idc, profile_compatibility_flags);
+    if is_general && !is_decoded {
         return Err(Refusal::Fault(FaultKind::Profile));
     }
     let progressive_source_flag = reader.flag()?;

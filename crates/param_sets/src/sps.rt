@@ -158,7 +158,7 @@ fn read_fields<'a>(alloc: Global, reader: &mut FieldReader<'a>) -> Result<SpsFie
     ensures in_range { IfOk result IsSps }
 {
     let identity = read_identity(alloc, reader)?;
-    let format = read_picture_format(reader)?;
+    let format = read_picture_format(reader, &identity.profile_tier_level.general)?;
     let order = read_order(alloc, reader, identity.sps_max_sub_layers_minus1)?;
     let blocks = read_block_sizes(
         reader,
@@ -190,9 +190,9 @@ fn read_fields<'a>(alloc: Global, reader: &mut FieldReader<'a>) -> Result<SpsFie
 
 /// The sequence parameter set whose payload, behind the unit's header, this is. The first field that breaks a rule or
 /// meets a limit decides: `ParamSyntax` where the payload ends inside a field or a prefix has over 31 zeros,
-/// `ParamRange` where a field is out of range (7.4.3.2), `Profile` where the set isn't one of the Main profile, the
-/// limits `Side` and `Area` where a picture is too large, and behind the last field `LevelExceeded` where the pictures
-/// exceed the level (A.4.1). What stands behind vui_parameters_present_flag isn't read.
+/// `ParamRange` where a field is out of range (7.4.3.2), `Profile` where the set isn't one of the Main or the Main 10
+/// profile, the limits `Side` and `Area` where a picture is too large, and behind the last field `LevelExceeded` where
+/// the pictures exceed the level (A.4.1). What stands behind vui_parameters_present_flag isn't read.
 #[tactic(auto, unfolding(spec_parameter_sets::specs::SequenceParameterSet::sequence_parameter_set_of))]
 pub fn read_sps(alloc: Global, rbsp: &[u8]) -> Result<Sps, Refusal>
     ensures value { Parses (λ x. x) result (sequence_parameter_set_of rbsp.now) }

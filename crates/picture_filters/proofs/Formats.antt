@@ -39,8 +39,8 @@ size_is p s = sixteens (ctb_log2 p.sps.blocks) s.blocks.least_ctb s.blocks.great
 least : (w : ℕ) → w % 8 ≡ 0 → 1 ≤ w → 8 ≤ w
 least w e some = omega (arith, e, some)
 
-depth : (n : ℕ) → n ≡ 0 → (8 ≤ n + 8) × (n + 8 ≤ 14)
-depth n e = (omega arith, omega (arith, e))
+depth : (n : ℕ) → n ≤ 2 → (8 ≤ n + 8) × (n + 8 ≤ 14)
+depth n few = (omega arith, omega (arith, few))
 
 format_is : (p : PicturePlan) → IsSps p.sps → IsFormat (filter_format p)
 unfolding filter_format

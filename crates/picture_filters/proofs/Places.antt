@@ -51,7 +51,8 @@ kept_in places flags kept side row first field f count told x j hx hj = elim (ca
 
 -- the flags of a row of blocks are those of its places
 pub kept_row : (places : FieldPlaces) (flags : Cells Bool) (kept : List Bool) (side row first : ℕ)
-    → IsField places flags → first ≡ min (side * row) flags.down → length kept ≡ flags.across * min side (flags.down - first)
+    → IsField places flags → first ≡ min (side * row) flags.down
+    → length kept ≡ flags.across * min side (flags.down - first)
     → ((x j : ℕ) → x < flags.across → j < side → first + j < flags.down
     → get_or kept (flags.across * j + x) false ≡ cell false flags x (first + j))
     → (x j : ℕ) → x < places.across → j < side

@@ -1,5 +1,6 @@
 -- profile_tier_level (7.3.3, 7.4.4).
 use Rattle.std.specs.Prelude.{ℕ, zero, suc, ◌+◌, ◌-◌, ◌*◌, ◌/◌, ◌%◌, ◌^◌, Bool, true, false, not, ◌||◌, ◌==◌}
+use Rattle.std.specs.Prelude.{if◌then◌else◌}
 use Rattle.hv_base.specs.declared.breach.Breach.TheVariants as breach
 use Rattle.hv_base.specs.declared.fault.FaultKind.TheVariants as fault
 use Rattle.header_types.specs.declared.profile.Profile.{Profile}
@@ -12,9 +13,21 @@ use Rattle.spec_formats.specs.Fields.{Header, ◌>>=◌, give, u, flag, optional
 abbrev pub compatibility_flag_1 : ℕ → Bool
 compatibility_flag_1 flags = flags / 2 ^ 30 % 2 == 1
 
+-- profile_compatibility_flag[2], the third
+abbrev pub compatibility_flag_2 : ℕ → Bool
+compatibility_flag_2 flags = flags / 2 ^ 29 % 2 == 1
+
 -- whether the stream conforms to the Main profile (A.3.2), by profile_idc and the compatibility flags
 abbrev pub is_main : ℕ → ℕ → Bool
 is_main profile_idc flags = (profile_idc == 1) || compatibility_flag_1 flags
+
+-- whether it conforms to the Main 10 profile (A.3.3)
+abbrev pub is_main_10 : ℕ → ℕ → Bool
+is_main_10 profile_idc flags = (profile_idc == 2) || compatibility_flag_2 flags
+
+-- the greatest bit depth of the profile, less 8
+unfoldable pub greatest_depth_minus8 : Profile → ℕ
+greatest_depth_minus8 p = if is_main_10 p.profile_idc p.profile_compatibility_flags then 2 else 0
 
 -- reserved_zero_44bits, as their first 32 and their last 12
 unfoldable pub reserved_44bits : Header ℕ
@@ -23,14 +36,18 @@ reserved_44bits = do
   low ← u 12
   give (high * 4096 + low)
 
--- the 88 bits of a profile, which is to be the Main profile where it is the general one
+-- the 88 bits of a profile, which is to be Main or Main 10 where it is the general one
 unfoldable pub profile : Bool → Header Profile
 profile is_general = do
   profile_space ← u 2
   tier_flag ← flag
   profile_idc ← u 5
   profile_compatibility_flags ← u 32
-  main ← wanted (not is_general || is_main profile_idc profile_compatibility_flags) (breach.Fault fault.Profile)
+  decoded ←
+      wanted
+      (not is_general || is_main profile_idc profile_compatibility_flags
+      || is_main_10 profile_idc profile_compatibility_flags)
+      (breach.Fault fault.Profile)
   progressive_source_flag ← flag
   interlaced_source_flag ← flag
   non_packed_constraint_flag ← flag

@@ -6,6 +6,7 @@ use Rattle.hv_base.specs.declared.breach.Breach.TheVariants as breach
 use Rattle.hv_base.specs.declared.fault.FaultKind.TheVariants as fault
 use Rattle.hv_base.specs.declared.field_rules.TheConstants.{PARAMETER_SET_RULES}
 use Rattle.hv_base.specs.declared.limit.LimitKind.TheVariants as bound
+use Rattle.header_types.specs.declared.profile.Profile.{Profile}
 use Rattle.header_types.specs.declared.scaling.ScalingLists.{ScalingLists}
 use Rattle.header_types.specs.declared.short_term_set.StRps.{StRps}
 use Rattle.header_types.specs.declared.sps.BlockSizes.{BlockSizes}
@@ -25,7 +26,7 @@ use Rattle.spec_formats.specs.Format.{wanted}
 use Rattle.spec_formats.specs.Fields.{Header, read, value_of, ◌>>=◌, give, ranged, u, flag, ue, ue_to, optional}
 use Rattle.spec_formats.specs.Fields.{repeated}
 use Rattle.spec_parameter_sets.specs.Levels.{level_kept}
-use Rattle.spec_parameter_sets.specs.ProfileTierLevel.{profile_tier_level}
+use Rattle.spec_parameter_sets.specs.ProfileTierLevel.{greatest_depth_minus8, profile_tier_level}
 use Rattle.spec_parameter_sets.specs.Scaling.{scaling_list_data}
 use Rattle.spec_reference_pictures.specs.ShortTermSets.{st_ref_pic_set}
 
@@ -53,24 +54,32 @@ conformance_window width height = do
     conf_win_bottom_offset = conf_win_bottom_offset;
   })
 
--- a field that has one value in the Main profile
+-- a field that has one value in each profile
 unfoldable pub main_only : ℕ → Header ℕ
 main_only value = do
   found ← ue
   main ← wanted (found == value) (breach.Fault fault.Profile)
   give found
 
--- chroma_format_idc to bit_depth_chroma_minus8; separate_colour_plane_flag stands behind a chroma_format_idc of 3 alone
-unfoldable pub picture_format : Header PictureFormat
-picture_format = do
+-- the bit depth of a component less 8, which the profile bounds
+unfoldable pub bit_depth : ℕ → Header ℕ
+bit_depth greatest_minus8 = do
+  minus8 ← ue
+  within ← wanted (nat_le minus8 greatest_minus8) (breach.Fault fault.Profile)
+  give minus8
+
+-- chroma_format_idc to bit_depth_chroma_minus8, by the general profile; separate_colour_plane_flag stands behind a
+-- chroma_format_idc of 3 alone
+unfoldable pub picture_format : Profile → Header PictureFormat
+picture_format general = do
   chroma_format_idc ← main_only 1
   pic_width_in_luma_samples ← side
   pic_height_in_luma_samples ← side
   small ← wanted (nat_le (pic_width_in_luma_samples * pic_height_in_luma_samples) 35651584) (breach.Limit bound.Area)
   conformance_window_flag ← flag
   window ← optional conformance_window_flag (conformance_window pic_width_in_luma_samples pic_height_in_luma_samples)
-  bit_depth_luma_minus8 ← main_only 0
-  bit_depth_chroma_minus8 ← main_only 0
+  bit_depth_luma_minus8 ← bit_depth (greatest_depth_minus8 general)
+  bit_depth_chroma_minus8 ← bit_depth (greatest_depth_minus8 general)
   give (record {
     chroma_format_idc = chroma_format_idc;
     pic_width_in_luma_samples = pic_width_in_luma_samples;
@@ -262,7 +271,7 @@ sps_references order = do
 unfoldable pub sequence_parameter_set : Header SpsFields
 sequence_parameter_set = do
   identity ← sps_identity
-  format ← picture_format
+  format ← picture_format identity.profile_tier_level.general
   order ← sps_order identity.sps_max_sub_layers_minus1
   blocks ← block_sizes format.pic_width_in_luma_samples format.pic_height_in_luma_samples
   tools ← sps_tools format blocks
