@@ -33,7 +33,7 @@ fn print_digest<W: Write>(digest: &[u8; 16], out: &mut W) -> io::Result<()> {
     writeln!(out)
 }
 
-/// The MD5 of the samples of a component in so many rows from one on, a byte a sample.
+/// The MD5 of the samples of a component in so many rows from one on, of each its low byte.
 fn digest(planes: &Planes, c: usize, first: u32, rows: u32) -> [u8; 16]
     requires { c < 3 }
 {
