@@ -13,7 +13,7 @@ pieces-preserved c = record {
   added = piece_added c.args.depth c.args.hash.now c.pieces.hash c.add_piece.new.hash c.args.samples.now
       c.pieces.rest.now c.split_at.result.0.now c.split_at.result.1.now c.split_at.ensures.by_index.0
       c.pieces.invariant.added c.add_piece.ensures.held;
-  room = refilled c.pieces.bytes c.add_piece.new.bytes (length c.split_at.result.0.now) c.pieces.invariant.room
+  room = refilled 1024 c.pieces.bytes c.add_piece.new.bytes (length c.split_at.result.0.now) c.pieces.invariant.room
       (search rules) (search rules);
 }
 

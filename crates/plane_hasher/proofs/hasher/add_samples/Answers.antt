@@ -1,6 +1,25 @@
-use Rattle.std.proofs.Common.{append-nil, sym, subst}
-use Rattle.md5.specs.Md5.{Holds}
+use Rattle.std.proofs.Common.{◌*◌, rules, length}
+use Rattle.plane_hasher.proofs.Adding.{all_added, none_added, none_left, piece_added, refilled}
 use Rattle.plane_hasher.proofs.hasher.add_samples.Goals as goal
 
-pub loop-sample-init : goal.loop-sample-init
-loop-sample-init c = λ m held. subst (Holds c.args.hash.now) (sym (append-nil m)) held
+pub pieces-init : goal.pieces-init
+pieces-init c = record {
+  added = none_added c.args.depth c.args.hash.now c.args.samples.now;
+  room = search rules;
+}
+
+pub pieces-preserved : goal.pieces-preserved
+pieces-preserved c = record {
+  added = piece_added c.args.depth c.args.hash.now c.pieces.hash c.add_wide_piece.new.hash c.args.samples.now
+      c.pieces.rest.now c.split_at.result.0.now c.split_at.result.1.now c.split_at.ensures.by_index.0
+      c.pieces.invariant.added c.add_wide_piece.ensures.held;
+  room = refilled 2048 c.pieces.bytes c.add_wide_piece.new.bytes
+      (2 * length c.split_at.result.0.now) c.pieces.invariant.room
+      (search rules) (search rules);
+}
+
+pub returns : goal.returns
+returns c =
+    all_added c.args.depth c.args.hash.now c.pieces.hash c.args.samples.now c.pieces.rest.now
+    (none_left c.pieces.rest.now (search rules))
+    c.pieces.invariant.added
