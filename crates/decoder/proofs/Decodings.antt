@@ -1,5 +1,6 @@
 -- From reading a source and pushing what was read to what a run owes.
-use Rattle.std.proofs.Common.{◌≡◌, ℕ, ◌≤◌, Bool, true, false, List, [], ◌++◌, length, take, Option, Some, None, refl, sym, ap}
+use Rattle.std.proofs.Common.{◌≡◌, ℕ, ◌≤◌, Bool, true, false, List, [], ◌++◌, length, take, Option, Some, None, refl}
+use Rattle.std.proofs.Common.{sym, ap}
 use Rattle.std.proofs.Common.{subst, ◌∙◌, append-nil}
 use Rattle.std.specs.List.{concat}
 use Rattle.std.specs.Option.{unwrap_or}
@@ -113,7 +114,8 @@ module _ {S T : Type 0} (left : S → Option (List ℕ)) (failed : S → ℕ) (s
     wrote = counted ∙ h.wrote;
   }
 
-  unread : (a b z : S) (bytes : List ℕ) → Takes (left a) (left b) bytes → left z ≡ left b → Takes (left a) (left z) bytes
+  unread : (a b z : S) (bytes : List ℕ) → Takes (left a) (left b) bytes → left z ≡ left b
+      → Takes (left a) (left z) bytes
   unread a b z bytes t same = subst (λ (rest : Option (List ℕ)). Takes (left a) rest bytes) (sym same) t
 
   halted : (s : Session) (a b z : S) (x y w : T) (r : Option Outcome) (h : Read s a b x y) → left z ≡ left b
@@ -144,7 +146,8 @@ module _ {S T : Type 0} (left : S → Option (List ℕ)) (failed : S → ℕ) (s
       headline_stopped options.form options.hash (change_of left failed a b) (change_of sink faults x y) h.bytes
       outcome.Memory h.takes not-memory
       (answered s a b x y y false h.bytes outcome.Memory h
-      (ended-unfed sink faults s.options y s.decoder going.given [] h.gained false h.bytes going.taken going.tells.told))
+      (ended-unfed sink faults s.options y s.decoder going.given [] h.gained false h.bytes going.taken
+      going.tells.told))
 
   -- nothing is read yet
   pub nothing-read : (s : Session) (a : S) (x : T) → Stands s [] [] → s.outcome ≡ None → s.options ≡ options

@@ -1,5 +1,6 @@
 -- Planes against the hashes that are stated for them.
-use Rattle.std.proofs.Common.{◌≡◌, ℕ, zero, suc, ◌+◌, ◌<◌, ◌≤◌, List, [], ◌∷◌, ◌++◌, length, get_or, map, drop, Option, Some, None}
+use Rattle.std.proofs.Common.{◌≡◌, ℕ, zero, suc, ◌+◌, ◌<◌, ◌≤◌, List, [], ◌∷◌, ◌++◌, length, get_or, map, drop, Option}
+use Rattle.std.proofs.Common.{Some, None}
 use Rattle.std.proofs.Common.{refl, sym, ap, subst, ◌∙◌, append-nil, arith}
 use Rattle.std.specs.List.{concat, range_with_len}
 use Rattle.std.proofs.lemmas.List.{drop_all}
@@ -17,7 +18,8 @@ use Rattle.picture_buffer.specs.Planes.{HasSides, PictureSamples, plane_height, 
 use Rattle.picture_build.specs.Pictures.{decoded_of}
 use Rattle.spec_picture_build.specs.References.{DecodedPicture, format_height, format_width}
 use Rattle.spec_picture_plan.specs.Closing.{or_later}
-use Rattle.spec_decoder.specs.Hashes.{bit_depth, computed_hash, first_mismatch, mismatch_at, mismatch_by, mismatch_of, plane_samples}
+use Rattle.spec_decoder.specs.Hashes.{bit_depth, computed_hash, first_mismatch, mismatch_at, mismatch_by, mismatch_of}
+use Rattle.spec_decoder.specs.Hashes.{plane_samples}
 use Rattle.spec_decoder.specs.Hashes.{row_samples, rows_samples}
 use Rattle.decoder.specs.declared.hashes.PlaneDigests.{PlaneDigests}
 use Rattle.decoder.specs.Digests.{AreComputed}

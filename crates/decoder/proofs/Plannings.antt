@@ -59,7 +59,8 @@ pub owed-unit : (hash : Bool) (ended : Bool) (p : Plans) (old : List BufferPictu
     × (owed_behind hash ended p old (t ∷ later)
     ≡ decoded_from hash (finished d.last d.stop) (pictures_of (behind_unit p (t ∷ [])).flights ++ d.pictures) old)
     × ((new : List BufferPicture)
-    → owed_behind hash ended (behind_unit p (t ∷ [])).left new later ≡ decoded_from hash (finished d.last d.stop) d.pictures new)
+    → owed_behind hash ended (behind_unit p (t ∷ [])).left new later
+    ≡ decoded_from hash (finished d.last d.stop) d.pictures new)
 unfolding owed_behind
 owed-unit hash ended p old t later = (
   planned_behind ended (behind_unit p (t ∷ [])).left later,
@@ -104,7 +105,8 @@ stopped-owed ended p later e none is =
     ∙ ap (λ (next : Result Between Stop). behind_closed [] (planned_next next (λ s. planned_from ended s later))) is
 
 -- where a unit stops the stream, its flights are the last
-pub owed-stopped : (hash : Bool) (ended : Bool) (p : Plans) (buffer : List BufferPicture) (t : Told) (later : List Told) (e : Stop)
+pub owed-stopped : (hash : Bool) (ended : Bool) (p : Plans) (buffer : List BufferPicture) (t : Told)
+    (later : List Told) (e : Stop)
     → stop_of p.next ≡ None → stop_of (behind_unit p (t ∷ [])).left.next ≡ Some e
     → owed_behind hash ended p buffer (t ∷ later)
     ≡ decoded_from hash (finished [] (Some e)) (pictures_of (behind_unit p (t ∷ [])).flights) buffer
@@ -115,7 +117,8 @@ owed-stopped hash ended p buffer t later e going is =
     ap (decoded_behind hash buffer) (planned-unit ended p t later)
     ∙ ap (λ (d : Planned). decoded_behind hash buffer (behind_closed (pictures_of g.flights) d))
     (stopped-owed ended g.left later e (unit-stopped p p.next t e going next) next)
-    ∙ ap (λ (ps : List PicturePlan). decoded_from hash (finished [] (Some e)) ps buffer) (append-nil (pictures_of g.flights))
+    ∙ ap (λ (ps : List PicturePlan). decoded_from hash (finished [] (Some e)) ps buffer) (append-nil
+    (pictures_of g.flights))
 
 same_stop : (next : Result Between Stop) → plan.stop_of next ≡ stop_of next
 same_stop (Ok s) = refl
@@ -160,7 +163,8 @@ end-next hash p buffer (Err e) =
 -- the input's end
 pub owed-end : (hash : Bool) (p : Plans) (buffer : List BufferPicture)
     → owed_behind hash true p buffer []
-    ≡ decoded_from hash (finished (at_end p).last (stop_of (at_end p).left.next)) (pictures_of (at_end p).flights) buffer
+    ≡ decoded_from hash (finished (at_end p).last (stop_of (at_end p).left.next)) (pictures_of
+    (at_end p).flights) buffer
 unfolding owed_behind planned_behind at_end
 owed-end hash p buffer = end-next hash p buffer p.next
 
@@ -168,7 +172,8 @@ halt-next : (hash : Bool) (p : Plans) (buffer : List BufferPicture) (next : Resu
     → decoded_behind hash buffer (behind_closed p.pending (planned_next next (λ s. planned_end false s)))
     ≡ decoded_from hash (finished [] (stop_of next)) (pictures_of (cut (waiting p.pending)).flights) buffer
 halt-next hash p buffer (Ok s) =
-    last-of hash (behind_closed p.pending (planned_end false s)) buffer (pictures_of (cut (waiting p.pending)).flights) []
+    last-of hash (behind_closed p.pending (planned_end false s)) buffer (pictures_of (cut
+    (waiting p.pending)).flights) []
     (Ok s)
     (append-nil p.pending ∙ sym (cut-flights (waiting p.pending)))
     refl
@@ -183,7 +188,8 @@ halt-next hash p buffer (Err e) =
 -- no more units, though the input hasn't ended
 pub owed-halt : (hash : Bool) (p : Plans) (buffer : List BufferPicture)
     → owed_behind hash false p buffer []
-    ≡ decoded_from hash (finished (halted p).last (stop_of (halted p).left.next)) (pictures_of (halted p).flights) buffer
+    ≡ decoded_from hash (finished (halted p).last (stop_of (halted p).left.next)) (pictures_of
+    (halted p).flights) buffer
 unfolding owed_behind planned_behind halted
 owed-halt hash p buffer = halt-next hash p buffer p.next
 

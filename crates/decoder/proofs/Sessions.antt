@@ -1,5 +1,6 @@
 -- What a session's calls leave it to stand for.
-use Rattle.std.proofs.Common.{◌≡◌, ℕ, ◌≤◌, Bool, true, false, All, List, [], ◌∷◌, ◌++◌, length, take, Option, Some, None}
+use Rattle.std.proofs.Common.{◌≡◌, ℕ, ◌≤◌, Bool, true, false, All, List, [], ◌∷◌, ◌++◌, length, take, Option, Some}
+use Rattle.std.proofs.Common.{None}
 use Rattle.std.proofs.Common.{Result, Ok, Err, refl, sym, ap, subst, ◌∙◌, append_assoc, append-nil, arith}
 use Rattle.std.specs.List.{concat}
 use Rattle.std.specs.Prelude.{OnOk, is_err}
@@ -22,7 +23,8 @@ use Rattle.spec_picture_plan.specs.Planned.{behind_closed, planned_from, planned
 use Rattle.picture_plan.specs.Plans.{Plans, stop_of}
 use Rattle.spec_decoder.specs.declared.form.Form.{Form}
 use Rattle.spec_decoder.specs.Output.{OutPicture, written}
-use Rattle.spec_decoder.specs.Decoder.{BufferPicture, Continues, Decoded, bytes_of, decoded, decoded_from, finished, out_at}
+use Rattle.spec_decoder.specs.Decoder.{BufferPicture, Continues, Decoded, bytes_of, decoded, decoded_from, finished}
+use Rattle.spec_decoder.specs.Decoder.{out_at}
 use Rattle.spec_decoder.specs.Decoder.{put_out}
 use Rattle.spec_decoder.specs.Decoder.{ended as ended_with}
 use Rattle.spec_decoder.specs.Trail.{first_of, trail_of}
@@ -124,7 +126,8 @@ few-held : (options : Options) (d : Decoder) (given : List Told) (gained : List 
     → length (buffer_of d.buffer) ≤ 16
 few-held options d given gained h =
     let all : All (KeepsAtMost 16) (h.done ++ (planned_behind false d.planner []).pictures) =
-    subst (λ (p : planning.Planned). All (KeepsAtMost 16) p.pictures) (h.planned false []) (few_are_kept false (given ++ [])) in
+    subst (λ (p : planning.Planned). All (KeepsAtMost 16) p.pictures) (h.planned false []) (few_are_kept false
+    (given ++ [])) in
     h.few 16 (all-front 16 h.done (planned_behind false d.planner []).pictures all)
 
 before-first : (s : Session) (bytes gained : List ℕ) (given : List Told) (h : HasTaken s.options s.decoder given gained)
@@ -209,7 +212,8 @@ fed-ok (Err e) P p ok = absurd cc
 
 -- nothing stopped behind a piece
 pub pushed-on : (s : Session) (options : Options) (out : Change) (bytes gained : List ℕ) → s.outcome ≡ None
-    → s.options ≡ options → Reached options out s.framer s.decoder false bytes gained [] → Pushed s out bytes gained None
+    → s.options ≡ options → Reached options out s.framer s.decoder false bytes gained []
+    → Pushed s out bytes gained None
 pushed-on s options out bytes gained none same t =
     let r : Reached s.options out s.framer s.decoder false bytes gained [] =
     subst (λ (o : Options). Reached o out s.framer s.decoder false bytes gained []) (sym same) t in

@@ -1,5 +1,6 @@
 -- What taking units of a stream does, one after the other.
-use Rattle.std.proofs.Common.{◌≡◌, ◌⊎◌, inl, inr, ℕ, ◌+◌, ◌≤◌, ◌<◌, Bool, true, false, List, [], ◌∷◌, ◌++◌, length, take}
+use Rattle.std.proofs.Common.{◌≡◌, ◌⊎◌, inl, inr, ℕ, ◌+◌, ◌≤◌, ◌<◌, Bool, true, false, List, [], ◌∷◌, ◌++◌, length}
+use Rattle.std.proofs.Common.{take}
 use Rattle.std.proofs.Common.{Option, Some, None, Result, Ok, Err, refl, sym, ap, subst, ◌∙◌, append_assoc, append-nil}
 use Rattle.std.proofs.Common.{arith}
 use Rattle.std.specs.List.{concat}
@@ -30,7 +31,8 @@ use Rattle.picture_plan.specs.Flights.{pictures_of}
 use Rattle.picture_plan.specs.Plans.{Plans, Given, behind_unit, at_end, halted, stop_of}
 use Rattle.spec_decoder.specs.declared.form.Form.{Form}
 use Rattle.spec_decoder.specs.Output.{OutPicture, told_number, written}
-use Rattle.spec_decoder.specs.Decoder.{BufferPicture, Decoded, decoded, decoded_from, decoded_picture, entered, finished}
+use Rattle.spec_decoder.specs.Decoder.{BufferPicture, Decoded, decoded, decoded_from, decoded_picture, entered}
+use Rattle.spec_decoder.specs.Decoder.{finished}
 use Rattle.spec_decoder.specs.Decoder.{kept_from}
 use Rattle.spec_decoder.specs.Decoder.{ended as ended_with}
 use Rattle.decoder.specs.declared.options.Options.{Options}
@@ -44,7 +46,8 @@ use Rattle.decoder.specs.Taking.{Stops, left_of}
 use Rattle.decoder.specs.Writing.{Ends, IsAnswered, Owed, Passes, WritesFirst, owed_from}
 use Rattle.decoder.proofs.Writes.{all-back, all-front, behind, by, no_memory, number-then, owed-put, run-then}
 use Rattle.decoder.proofs.Writes.{written-then}
-use Rattle.decoder.proofs.Plannings.{owed-unit, unit-last, owed-stopped, owed-end, owed-halt, planned-unit, broken-stops}
+use Rattle.decoder.proofs.Plannings.{owed-unit, unit-last, owed-stopped, owed-end, owed-halt, planned-unit}
+use Rattle.decoder.proofs.Plannings.{broken-stops}
 use Rattle.decoder.proofs.Plannings.{met-stops}
 use Rattle.decoder.proofs.Tellings.{history, left-less, tells-unit, tells-fault, tells-limit}
 use Rattle.session_laws.proofs.Pending.{few_wait, same_ahead}
@@ -154,7 +157,8 @@ pub unit-ends : (form : Form) (hash : Bool) (out : Change) (ended : Bool) (old :
     (decoded_from hash (finished last stop) (pictures_of flights) (buffer_of old.buffer))) out o
     → IsAnswered (still_owed form hash ended old.planner old.buffer (t ∷ later)) out o
 unit-ends form hash out ended old new told t later flights last stop e o is value going same some answered =
-    let v : behind_unit old.planner (t ∷ []) ≡ given-as flights last new = ap (behind_unit old.planner) (sym is) ∙ value in
+    let v : behind_unit old.planner (t ∷ []) ≡ given-as flights last new = ap (behind_unit old.planner) (sym is)
+    ∙ value in
     let stopped : stop_of (behind_unit old.planner (t ∷ [])).left.next ≡ Some e =
     ap (λ (g : Given). stop_of g.left.next) v ∙ sym same ∙ some in
     let none : last ≡ [] = ap (λ (g : Given). g.last) (sym v) ∙ unit-last old.planner t in
@@ -162,7 +166,8 @@ unit-ends form hash out ended old new told t later flights last stop e o is valu
     ≡ decoded_from hash (finished last stop) (pictures_of flights) (buffer_of old.buffer) =
     owed-stopped hash ended old.planner (buffer_of old.buffer) t later e going stopped
     ∙ ap (λ (g : Given). decoded_from hash (finished [] (Some e)) (pictures_of g.flights) (buffer_of old.buffer)) v
-    ∙ ap (λ (s : Option Stop). decoded_from hash (finished [] s) (pictures_of flights) (buffer_of old.buffer)) (sym some)
+    ∙ ap (λ (s : Option Stop). decoded_from hash (finished [] s) (pictures_of flights) (buffer_of old.buffer))
+    (sym some)
     ∙ ap (λ (places : List ℕ). decoded_from hash (finished places stop) (pictures_of flights) (buffer_of old.buffer))
     (sym none) in
     subst (λ (d : Decoded). IsAnswered (owed_from form old.buffer.number d) out o) (sym owed) answered
@@ -221,7 +226,8 @@ answer-less old new next.End p more end going a = absurd (end refl)
 closed-both : (a b : List PicturePlan) (x : planning.Planned)
     → behind_closed a (behind_closed b x) ≡ behind_closed (a ++ b) x
 closed-both a b x =
-    ap (λ (ps : List PicturePlan). let q : planning.Planned = record { pictures = ps; last = x.last; stop = x.stop } in q)
+    ap (λ (ps : List PicturePlan). let q : planning.Planned = record { pictures = ps; last = x.last; stop = x.stop }
+    in q)
     (sym (append_assoc a b x.pictures))
 
 front-number : (outs : List OutPicture) (k : ℕ) → told_number (length outs) ≡ told_number k
@@ -280,7 +286,8 @@ took-unit options out old new told t given gained is h p =
       going = p.going;
       ahead = ap (λ (q : Plans). q.ahead) (sym p.left) ∙ same_ahead old.planner told ∙ h.ahead;
       some =
-          subst (λ (n : ℕ). 1 ≤ n) (sym (ap (λ (q : Plans). q.ahead) (sym p.left) ∙ same_ahead old.planner told)) h.some;
+          subst (λ (n : ℕ). 1 ≤ n) (sym (ap (λ (q : Plans). q.ahead) (sym p.left)
+          ∙ same_ahead old.planner told)) h.some;
       waiting =
           subst (λ (q : Plans). length q.pending ≤ q.ahead) p.left
           (subst (λ (n : ℕ). length (behind_unit old.planner told).left.pending ≤ n)

@@ -85,7 +85,8 @@ out-next buffer places i x d lt is =
     ∙ next-first (slice_get buffer x) (out_at buffer (drop (i + 1) places))
 
 -- pictures that go out are pieces; those behind them are numbered on
-pub owed-put : (form : Form) (k j : ℕ) (ps : List OutPicture) (later : Decoded) → told_number (k + length ps) ≡ told_number j
+pub owed-put : (form : Form) (k j : ℕ) (ps : List OutPicture) (later : Decoded)
+    → told_number (k + length ps) ≡ told_number j
     → owed_from form k (put_out ps later) ≡ behind (written form k ps) (owed_from form j later)
 owed-put form k j ps later e =
     ap (λ (rs : List (List ℕ)). let o : Owed = record { pieces = rs; stop = later.stop } in o)
@@ -554,7 +555,8 @@ module _ {X : Type 0} (bytes : X → Option (List ℕ)) (faults : X → ℕ) whe
         → Breaks form (by a b) k (out_at buffer last) o
         → IsAnswered (owed_from form k (finished last end buffer)) (by a b) o
     end-over a b k buffer last end o w =
-        subst (λ (ps : List OutPicture). IsAnswered (owed_from form k (record { pictures = ps; stop = end })) (by a b) o)
+        subst (λ (ps : List OutPicture). IsAnswered (owed_from form k (record { pictures = ps; stop = end }))
+        (by a b) o)
         (append-nil (out_at buffer last)) (w (ended end))
 
     -- the last pictures are decoded

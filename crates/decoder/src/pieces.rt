@@ -17,8 +17,8 @@ use picture_buffer::Picture;
 use spec_decoder::Form;
 use yuv_writer::{picture_md5, write_picture};
 
-/// The text of a line, of at most 64 bytes: a number of up to 20 digits and a digest of 32, or that number, one of up to
-/// 11 characters and three of up to 10 digits, with what stands between them and the line feed.
+/// The text of a line, of at most 64 bytes: a number of up to 20 digits and a digest of 32, or that number, one of up
+/// to 11 characters and three of up to 10 digits, with what stands between them and the line feed.
 type Line = ArrayVec<u8, 64>;
 
 /// Writes the piece of a picture of a number.

@@ -114,5 +114,6 @@ pub kept_between : (picture : PictureShape) (address : ℕ) (between : Between) 
     → new.reader ≡ reader → new.records ≡ ctu
     → new.stored ≡ stored_behind picture address reader.bins.contexts between.stored
     → reader.last ≡ ctu.quantization.last
-    → next_between picture address between ctu (state_of reader.bins) ≡ between_of new (between.units ++ new.records ∷ [])
+    → next_between picture address between ctu (state_of reader.bins)
+    ≡ between_of new (between.units ++ new.records ∷ [])
 kept_between picture address between reader ctu new er ec es el = rw (er, ec, es, el) refl

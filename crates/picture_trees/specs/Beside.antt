@@ -4,7 +4,8 @@ use Rattle.ctu_records.specs.Tree.{Ctu}
 use Rattle.unit_trees.specs.declared.edges.Edge.{Edge}
 use Rattle.unit_trees.specs.Edges.{bottom_of, no_edge, right_of}
 
--- a unit's side in places, what the unit before one leaves to the right, and what the last unit of each column leaves to
+-- a unit's side in places, what the unit before one leaves to the right, and what the last unit of each column leaves
+-- to
 -- the one below it
 pub record UnitsBeside : Type 0 where
   pub side : ℕ

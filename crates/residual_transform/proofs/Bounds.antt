@@ -73,7 +73,8 @@ pub half_within : (entries values : List ℤ) (stride size half first n j column
 half_within entries values stride size half first n j column matrix small long halves one few inside beside =
     sum_within 2949120 n _ (λ k below.
     let k_in : 2 * k + first < size = omega arith in
-    let e : stride * (2 * k + first) + j < length entries = (let i = matrix.inside (2 * k + first) k_in in omega arith) in
+    let e : stride * (2 * k + first) + j < length entries = (let i = matrix.inside
+    (2 * k + first) k_in in omega arith) in
     product_within _ _ (matrix.small (stride * (2 * k + first) + j) (pos 0) e)
     (every_other values size half first k column small long halves one (omega arith) beside))
 

@@ -13,7 +13,8 @@ pairs : (h : ℕ) (f : ℕ → ℤ)
     → int_sum_below (2 * h) f ≡ int_sum_below h (λ k. f (2 * k + 0)) +ℤ int_sum_below h (λ k. f (2 * k + 1))
 pairs zero f = refl
 pairs (suc h) f =
-    let below : int_sum_below (2 * h) f ≡ int_sum_below h (λ k. f (2 * k + 0)) +ℤ int_sum_below h (λ k. f (2 * k + 1)) = pairs h f in
+    let below : int_sum_below (2 * h) f ≡ int_sum_below h (λ k. f (2 * k + 0)) +ℤ int_sum_below h (λ k. f
+    (2 * k + 1)) = pairs h f in
     let e : 2 * suc h ≡ suc (suc (2 * h)) = omega arith in
     let z : 2 * h + 0 ≡ 2 * h = omega arith in
     let o : 2 * h + 1 ≡ suc (2 * h) = omega arith in
@@ -33,7 +34,8 @@ odd_count n f odd =
     let h : (n + 1) / 2 ≡ suc (n / 2) = omega (arith, odd) in
     let z : 2 * (n / 2) + 0 ≡ 2 * (n / 2) = omega arith in
     let below = pairs (n / 2) f in
-    let all : int_sum_below n f ≡ int_sum_below (2 * (n / 2)) f +ℤ f (2 * (n / 2)) = ap (λ (m : ℕ). int_sum_below m f) e in
+    let all : int_sum_below n f ≡ int_sum_below (2 * (n / 2)) f +ℤ f (2 * (n / 2)) = ap (λ
+    (m : ℕ). int_sum_below m f) e in
     rw (h, z) (omega (arith, ints, below, all))
 
 by_parity : (n : ℕ) (f : ℕ → ℤ) → int_sum_below n f
@@ -94,7 +96,8 @@ from_both_ends sums even odd entries values stride size half column n evens j
     matrix large halves few is even_is odd_is front back inside = ⊎_elim
     (λ near.
     let split = by_parity n (λ k. matrix_in entries stride k j *ℤ at values (size * k + column)) in
-    let e : at even j ≡ every_other_row entries values stride size column 0 ((n + 1) / 2) j = rw is at (even_is j near) in
+    let e : at even j ≡ every_other_row entries values stride size column 0 ((n + 1) / 2) j = rw is at
+    (even_is j near) in
     let o = odd_is j near in
     let both = front j near in
     omega (arith, ints, split, e, o, both))

@@ -240,7 +240,8 @@ sample_may : (row : OffsetRow) (block : CodingTreeBlock) (line c l i : ℕ) → 
     part_reads_both row block line (block.from + 1) (block.to - 1) c l ≡ true →
     part_reads_both row block line (block.to - 1) block.to c l ≡ true → block.from ≤ i → i < block.to →
     Stands block.from block.to i →
-    (may_read (plane_of row) i (top row + line) c l && may_read (plane_of row) i (top row + line) (2 - c) (2 - l)) ≡ true
+    (may_read (plane_of row) i (top row + line) c l && may_read (plane_of row) i (top row + line) (2 - c) (2 - l))
+    ≡ true
 sample_may row block line c l i of_row of_block inside few low head middle tail at below (First lt) =
     let is : IsPart row block line block.from (block.from + 1) = record {
       of_row = of_row;

@@ -5,5 +5,6 @@ use Rattle.intra_pred.proofs.planar_dc.planar_samples.Given as goal
 
 abbrev pub invariant-loop-x : goal.invariant-loop-x
 invariant-loop-x g l = (q : ℕ) → at l.out q
-    ≡ cond (nat_le (g.row.COUNT * l.y) q && nat_lt q (g.row.COUNT * l.y + l.x)) (planar l.log2 l.edge (q - g.row.COUNT * l.y) l.y)
+    ≡ cond (nat_le (g.row.COUNT * l.y) q && nat_lt q (g.row.COUNT * l.y + l.x)) (planar l.log2 l.edge
+    (q - g.row.COUNT * l.y) l.y)
     (at l.fn.out q)

@@ -10,5 +10,6 @@ invariant-loop-row g l = record {
   beneath : (i j : ℕ)
       → held_beneath l.motion i j
       ≡ cond (nat_le (4 * i) (unit_places l.unit.layout) && nat_lt j l.row)
-      (beneath_unit l.unit.layout l.unit.address (g.B.MotionBeneath.collocated_at l.beneath) i j) (held_beneath l.fn.motion i j);
+      (beneath_unit l.unit.layout l.unit.address (g.B.MotionBeneath.collocated_at l.beneath) i j)
+      (held_beneath l.fn.motion i j);
 }

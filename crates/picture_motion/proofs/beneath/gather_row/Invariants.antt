@@ -9,5 +9,6 @@ invariant-loop-column g l = record {
   beneath : (i j : ℕ)
       → held_beneath l.motion i j
       ≡ cond (j == l.row && nat_lt i l.column)
-      (beneath_unit l.unit.layout l.unit.address (g.B.MotionBeneath.collocated_at l.beneath) i l.row) (held_beneath l.fn.motion i j);
+      (beneath_unit l.unit.layout l.unit.address (g.B.MotionBeneath.collocated_at l.beneath) i l.row)
+      (held_beneath l.fn.motion i j);
 }

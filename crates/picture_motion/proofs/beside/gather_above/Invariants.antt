@@ -7,6 +7,7 @@ abbrev pub invariant-loop-column : goal.invariant-loop-column
 invariant-loop-column g l = record {
   places : (i j : ℕ)
       → held l.motion i j
-      ≡ cond (j == 0 && nat_lt i l.column) (at_border l.unit (g.B.MotionBeside.motion_at l.beside) i 0) (held l.fn.motion i j);
+      ≡ cond (j == 0 && nat_lt i l.column) (at_border l.unit (g.B.MotionBeside.motion_at l.beside) i 0)
+      (held l.fn.motion i j);
   beneath : held_beneath l.motion ≡ held_beneath l.fn.motion;
 }

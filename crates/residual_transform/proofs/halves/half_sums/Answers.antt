@@ -29,9 +29,11 @@ add_row-requires g c =
             rw (to_z-of_z w32 _ f) v,
             λ j inside.
                 is_partial_sum c.loop-k.k g.row.HALF _ _ (c.loop-k.invariant.told j inside)
-                (half_within c.args.matrix.now.entries.now c.args.values.now c.args.matrix.now.stride g.row.SIZE g.row.HALF
+                (half_within c.args.matrix.now.entries.now c.args.values.now c.args.matrix.now.stride g.row.SIZE
+                g.row.HALF
                 c.args.first c.loop-k.k j c.args.column
-                c.requires.matrix c.requires.values c.requires.room c.requires.half c.requires.first (omega arith) inside
+                c.requires.matrix c.requires.values c.requires.room c.requires.half c.requires.first
+                (omega arith) inside
                 c.requires.column)
                 (omega arith) (omega (arith, c.requires.matrix.few, c.requires.half)),
           ),
@@ -41,7 +43,8 @@ add_row-requires g c =
 
 pub loop-k-preserved : goal.loop-k-preserved
 loop-k-preserved g c =
-    let f : SFits w32 (at c.args.values.now (g.row.SIZE * (2 * c.loop-k.k + c.args.first) + c.args.column)) = search rules in
+    let f : SFits w32 (at c.args.values.now (g.row.SIZE *
+    (2 * c.loop-k.k + c.args.first) + c.args.column)) = search rules in
     record {
       told = λ j inside.
           let added = rw (to_z-of_z w32 _ f) at (c.add_row.ensures.value j inside) in

@@ -13,7 +13,8 @@ loop-column-preserved g c = record {
       (λ x. (y : ℕ) → y < g.row.SIZE
       → block_in g.row.SIZE c.store_held.new.out y x
       ≡ clip16 (rounded 7 (int_sum_below c.args.filled.rows
-      (λ k. matrix_in c.args.matrix.now.entries.now c.args.matrix.now.stride k y *ℤ at c.args.d.now (g.row.SIZE * k + x)))))
+      (λ k. matrix_in c.args.matrix.now.entries.now c.args.matrix.now.stride k y *ℤ at c.args.d.now
+      (g.row.SIZE * k + x)))))
       c.loop-column.column
       (λ k below y inside.
       let earlier : g.row.SIZE * k + y < g.row.SIZE * c.loop-column.column = grind (arith, rows) in

@@ -13,7 +13,8 @@ loop-line-preserved g c = record {
       (λ y. (x : ℕ) → x < g.row.SIZE
       → block_in g.row.SIZE c.store_residuals.new.out x y
       ≡ residual_of c.args.depth (int_sum_below c.args.columns
-      (λ k. matrix_in c.args.matrix.now.entries.now c.args.matrix.now.stride k x *ℤ block_in g.row.SIZE c.args.g.now y k)))
+      (λ k. matrix_in c.args.matrix.now.entries.now c.args.matrix.now.stride k x *ℤ block_in g.row.SIZE c.args.g.now
+      y k)))
       c.loop-line.line
       (λ k below x inside.
       let earlier : g.row.SIZE * k + x < g.row.SIZE * c.loop-line.line = grind (arith, rows) in

@@ -10,7 +10,8 @@ invariant-units g l = record {
   reached : (ended : Bool) (bytes : List ℕ) (given later : List Told) (gained : List ℕ)
       → StillTells l.fn.framer ended bytes given later → HasTaken l.options l.fn.self given gained
       → (rest : List Told)
-      × Reached l.options (change_of g.O.Sink.contents g.O.Sink.faults l.fn.out l.out) l.framer l.self ended bytes gained
+      × Reached l.options (change_of g.O.Sink.contents g.O.Sink.faults l.fn.out l.out) l.framer l.self ended bytes
+      gained
       rest;
   finished : l.framer.finished ≡ l.fn.framer.finished;
 }
