@@ -15,7 +15,7 @@ use std::alloc::{AllocError, Global};
 const PIECE: usize = 65_536;
 
 /// Reads the source, writes the pictures of its stream in output order, and answers how decoding ended. Of each picture
-/// that is written which the form of the options says: its planes Y, Cb and Cr as I420, a byte a sample, or a line.
+/// that is written which the form of the options says: its planes Y, Cb and Cr as I420, or a line.
 /// What was read is decoded before the next read, and a picture goes out as a `Session` says.
 ///
 /// Where the options say so, the planes of a picture are compared with the hashes that the stream states for them,
