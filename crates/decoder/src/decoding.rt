@@ -35,11 +35,11 @@ pub fn decode<S: Source, O: Sink>(
     ensures complete { IsComplete options.hash (change_of S.left S.faults src.old src.new)
         (change_of O.contents O.faults out.old out.new) result }
 {
-    let Ok(session) = Session::new(alloc, options) else {
+    let Ok(mut session) = Session::new(alloc, options) else {
         return Outcome::Memory;
     };
     match zeros(alloc, PIECE) {
-        Ok(mut piece) => decode_pieces(session, src, &mut piece, out),
+        Ok(mut piece) => decode_pieces(&mut session, src, &mut piece, out),
         Err(_) => Outcome::Memory,
     }
 }
@@ -47,29 +47,29 @@ pub fn decode<S: Source, O: Sink>(
 /// Reads the source through this buffer, piece by piece, into a session that was given nothing. It stops after 2^64 - 1
 /// reads, as for want of memory.
 fn decode_pieces<S: Source, O: Sink>(
-    session: Session,
+    session: &mut Session,
     src: &mut S,
     piece: &mut [u8],
     out: &mut O,
 ) -> Outcome
     requires room { 0 < length piece.old }
-    requires stands { Stands session [] [] }
-    requires going { session.outcome ≡ None }
-    ensures headline { Headline session.options.form session.options.hash (change_of S.left S.faults src.old src.new)
+    requires stands { Stands session.old [] [] }
+    requires going { session.old.outcome ≡ None }
+    ensures headline { Headline session.old.options.form session.old.options.hash
+        (change_of S.left S.faults src.old src.new)
         (change_of O.contents O.faults out.old out.new) result }
-    ensures complete { IsComplete session.options.hash (change_of S.left S.faults src.old src.new)
+    ensures complete { IsComplete session.old.options.hash (change_of S.left S.faults src.old src.new)
         (change_of O.contents O.faults out.old out.new) result }
 {
-    let mut session = session;
     for _ in 0..u64::MAX {
         match src.read(piece) {
-            Ok(0) => return session.finish(out),
+            Ok(0) => return session.end(out),
             Ok(count) => {
                 if let Some(outcome) = session.push(&piece[..count], out) {
                     return outcome;
                 }
             }
-            Err(Failed) => return session.halt(out).unwrap_or(Outcome::ReadFault),
+            Err(Failed) => return session.stop(out).unwrap_or(Outcome::ReadFault),
         }
     }
     Outcome::Memory

@@ -1,6 +1,6 @@
 //! A stream that comes in pieces.
 
-ghost use Rattle.std.specs.Prelude.{◌≡◌, false};
+ghost use Rattle.std.specs.Prelude.{◌≡◌, None, false};
 
 use crate::options::Options;
 use crate::stream::Decoder;
@@ -20,5 +20,5 @@ pub struct Session {
     pub(crate) decoder: Decoder,
     /// How decoding ended, once it has.
     pub(crate) outcome: Option<Outcome>,
-    ghost open: { framer.finished ≡ false },
+    ghost open: { outcome ≡ None → framer.finished ≡ false },
 }

@@ -59,6 +59,7 @@ impl Session {
 
     /// Takes a piece where decoding hasn't ended.
     fn take_piece<O: Sink>(&mut self, piece: &[u8], out: &mut O) -> Result<(), Outcome>
+        requires { self.old.outcome ≡ None }
         ensures taken { (bytes gained : List ℕ) → Stands self.old bytes gained → self.old.outcome ≡ None
             → TakesUnits self.old.options (change_of O.contents O.faults out.old out.new) self.new.framer
             self.new.decoder false (bytes ++ piece.now) gained result }
@@ -77,15 +78,31 @@ impl Session {
             → Ended (change_of O.contents O.faults out.old out.new) (all_owed self.options true bytes) gained result }
         ensures again { IfSome self.outcome (λ o. (result ≡ o) × (out.new ≡ out.old)) }
     {
+        let mut session = self;
+        session.end(out)
+    }
+
+    /// The same of a session that stays.
+    pub(crate) fn end<O: Sink>(&mut self, out: &mut O) -> Outcome
+        ensures ended { (bytes gained : List ℕ) → Stands self.old bytes gained → self.old.outcome ≡ None
+            → Ended (change_of O.contents O.faults out.old out.new) (all_owed self.old.options true bytes) gained
+            result }
+        ensures again { IfSome self.old.outcome (λ o. (result ≡ o) × (out.new ≡ out.old)) }
+    {
         if let Some(outcome) = self.outcome {
             return outcome;
         }
-        let mut framer = self.framer;
-        let mut decoder = self.decoder;
-        framer.finish();
-        match decoder.take_units(self.options, &mut framer, out) {
-            Ok(()) => decoder.write_end(self.options, out),
-            Err(outcome) => outcome,
+        self.framer.finish();
+        match self.decoder.take_units(self.options, &mut self.framer, out) {
+            Ok(()) => {
+                let outcome = self.decoder.write_end(self.options, out);
+                self.outcome = Some(outcome);
+                outcome
+            }
+            Err(outcome) => {
+                self.outcome = Some(outcome);
+                outcome
+            }
         }
     }
 
@@ -98,11 +115,22 @@ impl Session {
         ensures again { IfSome self.outcome (λ o. (result ≡ Some o) × (out.new ≡ out.old)) }
         ensures stop { self.outcome ≡ None → IsNoSuccess result }
     {
+        let mut session = self;
+        session.stop(out)
+    }
+
+    /// The same of a session that stays.
+    pub(crate) fn stop<O: Sink>(&mut self, out: &mut O) -> Option<Outcome>
+        ensures ended { (bytes gained : List ℕ) → Stands self.old bytes gained → self.old.outcome ≡ None
+            → Ended (change_of O.contents O.faults out.old out.new) (all_owed self.old.options false bytes) gained
+            (halted_as result) }
+        ensures again { IfSome self.old.outcome (λ o. (result ≡ Some o) × (out.new ≡ out.old)) }
+        ensures stop { self.old.outcome ≡ None → IsNoSuccess result }
+    {
         if let Some(outcome) = self.outcome {
             return Some(outcome);
         }
-        let mut decoder = self.decoder;
-        match decoder.write_halted(self.options, out) {
+        match self.decoder.write_halted(self.options, out) {
             Outcome::Ok => None,
             outcome => Some(outcome),
         }
