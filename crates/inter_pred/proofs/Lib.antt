@@ -8,3 +8,4 @@ pub mod Products
 pub mod Holding
 pub mod ByteJoining
 pub mod Means
+pub mod Lanes

@@ -8,10 +8,10 @@ use crate::down::columns_at;
 use crate::eight::interpolate_bytes;
 use crate::interpolation::lines_at;
 use crate::prediction::Prediction;
-use crate::reference::RefWindow;
+use crate::reference::{RefWindow, Window};
 use crate::scratch::Scratch;
 use crate::whole::copy;
-use crate::window::{Window, gather};
+use crate::window::gather;
 
 /// The fractions of a vector.
 #[derive(Clone, Copy)]

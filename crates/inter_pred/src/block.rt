@@ -9,9 +9,8 @@ ghost use Rattle.inter_pred.specs.Passes.{at_z};
 
 use crate::between::{Fractions, interpolate};
 use crate::prediction::Prediction;
-use crate::reference::RefWindow;
+use crate::reference::{RefWindow, Window};
 use crate::scratch::Scratch;
-use crate::window::Window;
 use ctu_records::Mv;
 
 /// A block of a picture, in samples of its component.

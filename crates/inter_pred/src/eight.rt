@@ -8,11 +8,11 @@ use crate::between::Fractions;
 use crate::bytes::filter_bytes;
 use crate::down::columns_at;
 use crate::prediction::Prediction;
-use crate::reference::RefWindow;
+use crate::reference::{RefWindow, Window};
 use crate::scratch::Scratch;
 use crate::whole::copy_bytes;
 use crate::width::in_eights;
-use crate::window::{Window, gather_bytes};
+use crate::window::gather_bytes;
 
 /// The prediction of a block. `first` begins where the samples begin that the filters meet, and has the block's size.
 pub fn interpolate_bytes<V: RefWindow, const TAPS: usize>(

@@ -22,6 +22,6 @@ mod window;
 pub use block::{PredictionBlock, chroma, luma};
 pub use line::{clamped, held_line};
 pub use prediction::Prediction;
-pub use reference::RefWindow;
+pub use reference::{RefWindow, Window};
 pub use scratch::Scratch;
 pub use weighting::{weigh_one, weigh_two};

@@ -4,6 +4,8 @@ ghost use Rattle.std.specs.Prelude.{◌≡◌, ◌<◌, ◌≤◌, ◌+◌, ℕ,
 ghost use Rattle.spec_inter_prediction.specs.Taps.{clamped};
 ghost use Rattle.inter_pred.specs.Passes.{at};
 
+use std::simd::prelude::*;
+
 /// A coordinate of a picture's side, Clip3(0, `side` - 1, `v`).
 #[inline(always)]
 #[tactic(auto, unfolding(spec_inter_prediction::specs::Taps::clamped))]
@@ -17,6 +19,7 @@ pub fn clamped(v: i32, side: u32) -> u32
 }
 
 /// The samples of a line from a column on, held to a greatest one; outside the line the nearest one inside.
+#[inline(always)]
 pub fn held_line(line: &[u16], x: i32, greatest: u16, out: &mut [u16])
     requires some_line { 0 < length line.now }
     requires line { length line.now ≤ 65536 }
@@ -33,13 +36,30 @@ pub fn held_line(line: &[u16], x: i32, greatest: u16, out: &mut [u16])
 }
 
 /// Samples of a line from a place on.
+#[inline(always)]
 fn copy_line(line: &[u16], from: usize, greatest: u16, out: &mut [u16])
     requires { from + length out.old ≤ length line.now }
     ensures { (k : ℕ) → k < length out.old → at out.new k ≡ min (at line.now (from + k)) greatest }
 {
-    for k in 0..out.len() {
-        out[k] = line[from + k].min(greatest);
+    let mut k = 0;
+    while out.len() - k >= 8 {
+        eight(line, from + k, greatest).copy_to_slice(&mut out[k..]);
+        k += 8;
     }
+    while k < out.len() {
+        out[k] = line[from + k].min(greatest);
+        k += 1;
+    }
+}
+
+/// Eight of them.
+#[inline(always)]
+fn eight(line: &[u16], start: usize, greatest: u16) -> u16x8
+    requires { start + 8 ≤ length line.now }
+    ensures long { length result ≡ 8 }
+    ensures value { (k : ℕ) → k < 8 → at result k ≡ min (at line.now (start + k)) greatest }
+{
+    u16x8::from_slice(&line[start..]).simd_min(u16x8::splat(greatest))
 }
 
 /// The same where some of the places are outside.

@@ -6,24 +6,7 @@ ghost use Rattle.std.specs.List.{All};
 ghost use Rattle.spec_inter_prediction.specs.Taps.{IsDepth};
 ghost use Rattle.inter_pred.specs.Passes.{at, IsByte, IsRaised};
 
-use crate::reference::RefWindow;
-
-/// A rectangle of a component of a reference picture. It may begin and end outside the picture.
-#[derive(Clone, Copy)]
-pub struct Window {
-    /// The picture, by its place in the decoded picture buffer.
-    pub picture: u32,
-    /// 0 for luma, 1 for Cb, 2 for Cr.
-    pub component: u8,
-    /// The first column, in samples of the component.
-    pub x: i32,
-    /// The first line.
-    pub y: i32,
-    /// How many columns it has, at most 71.
-    pub width: usize,
-    /// How many lines it has, at most 71.
-    pub height: usize,
-}
+use crate::reference::{RefWindow, Window};
 
 /// The samples of a window at 14 bits, in lines of 72.
 pub fn gather<V: RefWindow>(view: &mut V, from: Window, depth: u32, window: &mut [u16; 5112])
@@ -95,38 +78,7 @@ pub fn gather_bytes<V: RefWindow>(view: &mut V, from: Window, window: &mut [u16;
     ensures bytes { All IsByte window.new }
     ensures same { V.reference_at view.new ≡ V.reference_at view.old }
 {
-    for j in 0..from.height {
-        lay_bytes(view, from, from.y + j as i32, window, 72 * j);
-    }
-}
-
-/// A line of them, from a place on.
-fn lay_bytes<V: RefWindow>(view: &mut V, from: Window, y: i32, window: &mut [u16], to: usize)
-    requires size { from.width ≤ 71 }
-    requires room { to + from.width ≤ length window.old }
-    requires place { from.x ≤ℤ pos 1073741824 }
-    requires small { (x y : ℤ) → V.reference_at view.old from.picture from.component x y < 256 }
-    requires bytes { All IsByte window.old }
-    ensures value { (q : ℕ) → at window.new q
-        ≡ cond (nat_le to q && nat_lt q (to + from.width))
-        (V.reference_at view.old from.picture from.component (from.x +ℤ pos (q - to)) y) (at window.old q) }
-    ensures bytes { All IsByte window.new }
-    ensures same { V.reference_at view.new ≡ V.reference_at view.old }
-{
-    byte_line(view, from, y, &mut window[to..to + from.width]);
-}
-
-/// A line of them.
-fn byte_line<V: RefWindow>(view: &mut V, from: Window, y: i32, line: &mut [u16])
-    requires count { length line.old ≤ 71 }
-    requires place { from.x ≤ℤ pos 1073741824 }
-    requires small { (x y : ℤ) → V.reference_at view.old from.picture from.component x y < 256 }
-    ensures value { (k : ℕ) → k < length line.old
-        → at line.new k ≡ V.reference_at view.old from.picture from.component (from.x +ℤ pos k) y }
-    ensures bytes { All IsByte line.new }
-    ensures same { V.reference_at view.new ≡ V.reference_at view.old }
-{
-    view.row(from.picture, from.component, from.x, y, line);
+    view.window(from, window);
 }
 
 /// Samples at 14 bits.

@@ -2,3 +2,4 @@ pub mod Formats
 pub mod Pictures
 pub mod Building
 pub mod Standing
+pub mod Referring

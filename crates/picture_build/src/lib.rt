@@ -7,6 +7,7 @@ mod beside;
 mod builder;
 mod factors;
 mod format;
+mod held;
 mod lines;
 mod picture;
 mod references;

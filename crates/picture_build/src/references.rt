@@ -1,18 +1,19 @@
 //! The samples of the pictures that a picture refers to (8.5.3.3.3).
 
-ghost use Rattle.std.specs.Prelude.{◌≡◌, ◌+◌, ◌-◌, ◌^◌, ◌<◌, ◌≤◌, ℕ, ℤ, pos, ◌+ℤ◌, ◌≤ℤ◌, length, min, true};
-ghost use Rattle.std.specs.Prelude.{false, Some};
-ghost use Rattle.inter_pred.specs.Passes.{at};
+ghost use Rattle.std.specs.Prelude.{◌≡◌, ◌+◌, ◌-◌, ◌*◌, ◌^◌, ◌<◌, ◌≤◌, ℕ, ℤ, pos, ◌+ℤ◌, ◌≤ℤ◌, length, true, false};
+ghost use Rattle.std.specs.Prelude.{Some};
+ghost use Rattle.std.specs.List.{All};
+ghost use Rattle.inter_pred.specs.Passes.{at, IsByte};
 ghost use Rattle.inter_samples.specs.Inter.{AreSmall};
 ghost use Rattle.picture_buffer.specs.Planes.{plane_height, plane_width, samples_of};
 ghost use Rattle.picture_build.specs.Pictures.{buffer_of, decoded_of};
 ghost use Rattle.picture_build.specs.Formats.{HasDepths};
-ghost use Rattle.spec_inter_prediction.specs.Taps.{clamped};
 ghost use Rattle.spec_picture_build.specs.References.{greatest_sample, pictures_of, reference_sample};
 ghost use Rattle.spec_reconstruction.specs.declared.format.UnitFormat.{UnitFormat};
 
+use crate::held::{clamped_row, clear_window, component_window};
 use header_types::Sps;
-use inter_pred::{RefWindow, clamped, held_line};
+use inter_pred::{RefWindow, Window};
 use picture_buffer::{Bases, Picture, Planes};
 
 /// The pictures of the decoded picture buffer, by their places, for a picture that refers to them.
@@ -46,6 +47,13 @@ impl<'a> RefWindow for References<'a> {
         match self.bases.get(picture) {
             Some(held) => picture_row(held, self.sps, component as usize, x, y, out),
             None => clear(out),
+        }
+    }
+
+    fn window(&mut self, from: Window, out: &mut [u16; 5112]) {
+        match self.bases.get(from.picture) {
+            Some(held) => picture_window(held, self.sps, from, out),
+            None => clear_window(out),
         }
     }
 }
@@ -93,6 +101,28 @@ fn picture_row(picture: &Picture, sps: &Sps, c: usize, x: i32, y: i32, out: &mut
     }
 }
 
+/// The samples of a window, in lines of 72, for a picture of this sequence parameter set; 0 where it has none.
+fn picture_window(picture: &Picture, sps: &Sps, from: Window, out: &mut [u16; 5112])
+    requires size { (from.width ≤ 71) × (from.height ≤ 71) }
+    requires place { (from.x ≤ℤ pos 1073741824) × (from.y ≤ℤ pos 1073741824) }
+    ensures value { (i j : ℕ) → i < from.width → j < from.height
+        → at out.new (72 * j + i)
+        ≡ reference_sample sps.now.format (Some (decoded_of picture.now)) from.component (from.x +ℤ pos i)
+        (from.y +ℤ pos j) }
+    ensures bytes { ((x y : ℤ)
+        → reference_sample sps.now.format (Some (decoded_of picture.now)) from.component x y < 256)
+        → All IsByte out.old → All IsByte out.new }
+{
+    let _ = picture.format();
+    let planes = picture.planes();
+    if has_samples(planes, from.component as usize) {
+        let greatest = greatest_sample(sps, from.component as usize);
+        component_window(planes, greatest, from, out);
+    } else {
+        clear_window(out);
+    }
+}
+
 /// Whether component `c` has samples.
 #[tactic(auto, unfolding(picture_buffer::specs::Planes::samples_of, picture_buffer::specs::Planes::plane_at))]
 fn has_samples(planes: &Planes, c: usize) -> bool
@@ -100,23 +130,6 @@ fn has_samples(planes: &Planes, c: usize) -> bool
     ensures none { result ≡ false → (x y : ℕ) → samples_of planes.now c x y ≡ 0 }
 {
     c < 3 && planes.width(c) > 0 && planes.height(c) > 0
-}
-
-/// The samples of a line of component `c` from a column on, both clamped into the picture, and the samples held to a
-/// greatest one.
-fn clamped_row(planes: &Planes, c: usize, greatest: u16, x: i32, y: i32, out: &mut [u16])
-    requires component { c < 3 }
-    requires columns { (0 < plane_width planes.now c) × (plane_width planes.now c ≤ 65536) }
-    requires rows { (0 < plane_height planes.now c) × (plane_height planes.now c ≤ 65536) }
-    requires count { length out.old ≤ 71 }
-    requires place { x ≤ℤ pos 1073741824 }
-    ensures { (k : ℕ) → k < length out.old
-        → at out.new k
-        ≡ min (samples_of planes.now c (clamped (x +ℤ pos k) (plane_width planes.now c))
-        (clamped y (plane_height planes.now c))) greatest }
-{
-    let line = planes.row(c, clamped(y, planes.height(c)));
-    held_line(line, x, greatest, out);
 }
 
 /// Samples where there is no picture.

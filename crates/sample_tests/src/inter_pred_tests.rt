@@ -4,7 +4,7 @@ ghost use Rattle.std.specs.Prelude.{◌<◌};
 
 use ctu_records::Mv;
 use inter_pred::{
-    Prediction, PredictionBlock, RefWindow, Scratch, chroma, luma, weigh_one, weigh_two,
+    Prediction, PredictionBlock, RefWindow, Scratch, Window, chroma, luma, weigh_one, weigh_two,
 };
 use spec_inter_prediction::{Weight, Weighting, Weights};
 
@@ -19,6 +19,10 @@ impl RefWindow for Flat {
     ghost reference_at = { λ f picture component x y. f.sample };
 
     fn row(&mut self, _picture: u32, _component: u8, _x: i32, _y: i32, out: &mut [u16]) {
+        out.fill(self.sample);
+    }
+
+    fn window(&mut self, _from: Window, out: &mut [u16; 5112]) {
         out.fill(self.sample);
     }
 }

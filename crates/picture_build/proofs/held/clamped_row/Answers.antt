@@ -5,7 +5,7 @@ use mir.Syntax.{w32}
 use Rattle.picture_buffer.specs.Planes.{plane_width}
 use Rattle.spec_inter_prediction.specs.Taps.{clamped}
 use Rattle.inter_pred.proofs.Inside.{clamped_below}
-use Rattle.picture_build.proofs.references.clamped_row.Goals as goal
+use Rattle.picture_build.proofs.held.clamped_row.Goals as goal
 
 pub returns : goal.returns
 returns c k lt =
