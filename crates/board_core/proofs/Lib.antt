@@ -4,6 +4,9 @@ pub mod Endings
 pub mod NeedList
 pub mod Order
 pub mod Progress
+pub mod Reaching
+pub mod Soundness
 pub mod Steps
 pub mod Units
+pub mod Using
 pub mod Tables

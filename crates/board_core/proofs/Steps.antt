@@ -99,7 +99,8 @@ flag_cases plan s l m b sound line_l line_m =
           inr (differ, get_or-set_other s.parsed (ticket_of plan l) (ticket_of plan m) b false differ)
     ]
 
-count_cases : (plan : FlightRows) (s : CoreState) (l m : Line) (n : ℕ) → IsSound plan s → IsLine plan l → IsLine plan m
+pub count_cases : (plan : FlightRows) (s : CoreState) (l m : Line) (n : ℕ) → IsSound plan s → IsLine plan l
+    → IsLine plan m
     → ((m ≡ l) × (slice_index_or (slice_set s.counts (ticket_of plan l) n) (ticket_of plan m) 0 ≡ n))
     ⊎ ((ticket_of plan m ≡ ticket_of plan l → ⊥)
     × (slice_index_or (slice_set s.counts (ticket_of plan l) n) (ticket_of plan m) 0 ≡ count_of plan s m))
@@ -282,7 +283,7 @@ pub one_unit : (plan : FlightRows) (l : Line) → ¬ (l.phase ≡ B) → full_co
 one_unit plan l filter = one_of_phase l.phase (picture_at plan l.picture) filter
 
 -- that unit isn't bad
-good_filter : (plan : FlightRows) (l : Line) (x : ℕ) → IsFlight plan → IsLine plan l → ¬ (l.phase ≡ B)
+pub good_filter : (plan : FlightRows) (l : Line) (x : ℕ) → IsFlight plan → IsLine plan l → ¬ (l.phase ≡ B)
     → x < full_count plan l → ¬ IsBad plan (unit_of plan l x)
 good_filter plan l x flight line filter inside = λ bad.
     let (k, lt, is) = bad in
