@@ -5,3 +5,5 @@
 mod board_core_tests;
 #[cfg(test)]
 mod flight_plan_tests;
+#[cfg(test)]
+mod random_order_tests;
