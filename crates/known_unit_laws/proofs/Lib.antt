@@ -1,0 +1,4 @@
+pub mod Entries
+pub mod Lookup
+pub mod Beside
+pub mod Reading

@@ -1,0 +1,11 @@
+pub mod Widths
+pub mod Places
+pub mod Border
+pub mod Samples
+pub mod Steps
+pub mod References
+pub mod Lines
+pub mod Needed
+pub mod Motion
+pub mod Moved
+pub mod Whole

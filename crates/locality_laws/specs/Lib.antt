@@ -1,0 +1,4 @@
+pub mod Beside
+pub mod Motion
+pub mod References
+pub mod Needed

@@ -1,0 +1,13 @@
+pub mod Parts
+pub mod Columns
+pub mod Extents
+pub mod RowWords
+pub mod PictureWords
+pub mod Owners
+pub mod Bounds
+pub mod Fields
+pub mod Motions
+pub mod OffsetWords
+pub mod SampleLines
+pub mod Carries
+pub mod Contents

@@ -1,0 +1,11 @@
+use Rattle.std.proofs.Common.{◌≡◌, ℕ, ◌-◌, ◌≤◌, ◌&&◌, cond, nat_le, nat_lt, length, slice_index}
+use Rattle.sample_words.specs.Packing.{lane}
+use Rattle.sample_words.proofs.samples.unpack_four.Given as goal
+
+abbrev pub invariant-loop-i : goal.invariant-loop-i
+invariant-loop-i l = record {
+  count : length l.samples ≡ length l.fn.samples;
+  room : l.end ≤ length l.fn.samples;
+  told : (i : ℕ) → slice_index l.samples i
+      ≡ cond (nat_le l.first i && nat_lt i l.i) (lane 16 l.word (i - l.first)) (slice_index l.fn.samples i);
+}
