@@ -4,6 +4,7 @@
 mod failed;
 mod files;
 mod gate;
+mod hold_gate;
 mod memory_sink;
 mod memory_source;
 mod sink;
@@ -13,6 +14,7 @@ mod transfers;
 pub use failed::Failed;
 pub use files::{FileSink, FileSource};
 pub use gate::{Gate, OpenGate};
+pub use hold_gate::HoldGate;
 pub use memory_sink::MemSink;
 pub use memory_source::MemSource;
 pub use sink::Sink;

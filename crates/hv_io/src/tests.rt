@@ -119,3 +119,14 @@ fn a_full_writer_has_failed_and_an_open_gate_lets_pass(rt: HostRuntime) {
     assert!(rt; is_full_writer_failed());
     pass(&OpenGate);
 }
+
+#[test]
+fn a_unit_is_held_until_the_other_has_come(rt: HostRuntime) {
+    let alone = HoldGate::new(5, 9, 3);
+    alone.turn(5);
+    assert!(rt; !alone.released());
+    let both = HoldGate::new(5, 9, 3);
+    both.turn(9);
+    both.turn(5);
+    assert!(rt; both.released());
+}

@@ -1,13 +1,14 @@
 -- One step: the words become others, and one view another, with the same parts.
-use Rattle.std.proofs.Common.{◌≡◌, ◌≢◌, ◌⊎◌, ℕ, ◌+◌, ◌<◌, ◌≤◌, List, get_or, set, ap, ◌∙◌, arith, length-set}
+use Rattle.std.proofs.Common.{◌≡◌, ◌≢◌, ◌⊎◌, ℕ, ◌+◌, ◌<◌, ◌≤◌, List, set, ap, ◌∙◌, arith, length-set}
 use mathlib.Core.Option.{some}
 use lib.ListN.{get_elem?}
 use Rattle.atomic_table.specs.Table.{State}
 use Rattle.progress_words.specs.declared.view.View.{View}
 use Rattle.progress_words.specs.Meanings.{Meaning}
 use Rattle.progress_words.specs.Counts.{total}
+use Rattle.progress_words.specs.Core.{ticket_in}
 use Rattle.progress_words.specs.Views.{live_by, one_if, is_live, is_ended, is_opener, splits_of, joins_of}
-use Rattle.progress_words.specs.Rule.{Fits, IsShown, IsHeld, AreApart, Stands}
+use Rattle.progress_words.specs.Rule.{Fits, IsShown, IsHeld, IsOver, AreApart, Stands}
 use Rattle.progress_words.proofs.Counts.{total_set}
 use Rattle.progress_words.proofs.Held.{each_set}
 
@@ -21,11 +22,11 @@ pub record IsAs {F : Type 0} (v w : View F) : Type 0 where
 module _ {F S : Type 0} (meaning : F → Meaning) (key : F) where
   pub changed : (s : State S (View F)) → Stands meaning key s → (words : List ℕ) (id : ℕ) (v w : View F)
       → get_elem? s.views id ≡ some v → IsAs v w → IsShown (meaning key) words
-      → ((l : ℕ) → l < (meaning key).lines → l < get_or words (meaning key).lines 0
-      → IsHeld (set s.views id w) l ⊎ (get_or words l 0 ≡ (meaning key).width l))
+      → ((l : ℕ) → l < (meaning key).lines → (meaning key).ticket_of l < ticket_in (meaning key) words
+      → IsHeld (set s.views id w) l ⊎ IsOver (meaning key) words l)
       → Fits (meaning key) key words w → ((j : ℕ) (u : View F) → j ≢ id → get_elem? s.views j ≡ some u
       → Fits (meaning key) key words u) → AreApart (set s.views id w)
-      → get_or words (meaning key).lines 0 + is_ended v ≤ (meaning key).lines + total is_ended s.views + is_ended w
+      → ticket_in (meaning key) words + is_ended v ≤ (meaning key).lines + total is_ended s.views + is_ended w
       → Stands meaning key (record { words = words; homes = s.homes; views = set s.views id w })
   changed s r words id v w at as_ shown drawn mine others apart ticket =
       let live = total_set is_live s.views id v w at in let live_is : is_live w ≡ is_live v = ap live_by as_.facts in

@@ -1,23 +1,24 @@
--- A split and a join keep the rule; the rule at the beginning and at the end.
+-- A split and a join keep the rule, and it stands at the beginning.
 use Rattle.std.proofs.Common.{◌≡◌, ◌≢◌, ◌⊎◌, ℕ, zero, suc, ◌+◌, ◌<◌, ◌≤◌, ◌||◌, List, [], ◌∷◌, ◌++◌, length, get_or}
 use Rattle.std.proofs.Common.{set, max, map, Option, Some, None, Bool, true, false, refl, sym, ap, ◌∙◌, subst}
 use Rattle.std.proofs.Common.{⊎_elim, inl, inr, arith, length-set, length-append}
-use mathlib.Core.Logic.{dite}
 use mathlib.Core.Option.{some, some-injective, some-ne-none}
-use native.Mathlib.Decide.{ℕ_discrete}
 use lib.ListN.{get_elem?}
 use Rattle.atomic_table.specs.Table.{State, Splits, Joins, opening}
 use Rattle.atomic_table.proofs.Lists.{at_set, at_snoc, set_here}
 use Rattle.progress_words.specs.declared.view.View.{View}
-use Rattle.progress_words.specs.Meanings.{Meaning, IsData, IsLaid}
+use Rattle.progress_words.specs.Meanings.{Meaning, IsLaid, count_word, ticket_word, fault_word}
+use Rattle.progress_words.specs.Faults.{no_fault}
+use Rattle.progress_words.specs.Core.{count_in, fault_in}
 use Rattle.progress_words.specs.Counts.{total}
 use Rattle.progress_words.specs.Views.{opener, spent, kept_part, new_part, joined, live_by, ended_by, one_if}
 use Rattle.progress_words.specs.Views.{is_live, is_ended, is_opener, splits_of, joins_of, HasEnded}
-use Rattle.progress_words.specs.Rule.{Fits, IsHeld, AreApart, Stands}
-use Rattle.progress_words.proofs.Counts.{greater_at, total_set, total_snoc, total_at, total_two}
+use Rattle.progress_words.specs.Rule.{Fits, IsHeld, IsOver, AreApart, Stands}
+use Rattle.progress_words.proofs.Counts.{greater_at, total_set, total_snoc, total_two}
 use Rattle.progress_words.proofs.Held.{each_set, held_set, held_or, apart_set, apart_same}
+use Rattle.progress_words.proofs.Ends.{over_of}
 
-job_is_none : (l : ℕ) → None ≡ Some l → ⊥
+pub job_is_none : (l : ℕ) → None ≡ Some l → ⊥
 job_is_none l e = subst is_none e tt
   where
     is_none : Option ℕ → Type 0
@@ -36,11 +37,8 @@ either_one true true h = absurd (omega arith)
 either_one true false h = refl
 either_one false c h = omega arith
 
-zero_words : (ws : List ℕ) → ((i : ℕ) → get_or ws i 0 ≡ 0) → (i k : ℕ) → k < get_or ws i 0 → ⊥
-zero_words ws zeros i k below = let z = zeros i in absurd (omega arith)
-
 module _ {F : Type 0} where
-  some_is_none : (x : F) → Some x ≡ None → ⊥
+  pub some_is_none : (x : F) → Some x ≡ None → ⊥
   some_is_none x e = subst is_some e tt
     where
       is_some : Option F → Type 0
@@ -63,7 +61,7 @@ module _ {F : Type 0} where
       let b = total_alone f xs id v at (λ j u other at_j. others (suc j) u (λ e. other (omega arith)) at_j) in
       omega arith
 
-  none_left : (o : Option F) → live_by o ≡ 0 → o ≡ None
+  pub none_left : (o : Option F) → live_by o ≡ 0 → o ≡ None
   none_left None e = refl
   none_left (Some f) e = absurd (omega arith)
 
@@ -99,7 +97,7 @@ module _ {F : Type 0} where
 
 module _ {F S : Type 0} (meaning : F → Meaning) (key : F) where
   -- only the first view counts splits
-  splits_alone : (s : State S (View F)) → Stands meaning key s → (id : ℕ) (v : View F)
+  pub splits_alone : (s : State S (View F)) → Stands meaning key s → (id : ℕ) (v : View F)
       → get_elem? s.views id ≡ some v → v.opens ≡ true → total splits_of s.views ≡ v.splits
   splits_alone s r id v at opens = total_alone splits_of s.views id v at (λ j u other at_j.
       let two = total_two is_opener s.views id j v u (λ e. other (sym e)) at at_j in let one = r.one in
@@ -123,6 +121,7 @@ module _ {F S : Type 0} (meaning : F → Meaning) (key : F) where
       let w_fits : Fits m key s.words w = record {
         facts = fits.facts;
         seen = fits.seen;
+        least = fits.least;
         job = λ l has. let h = fits.job l has in record {
           line = h.line;
           drawn = h.drawn;
@@ -136,6 +135,7 @@ module _ {F S : Type 0} (meaning : F → Meaning) (key : F) where
       let u_fits : Fits m key s.words u = record {
         facts = fits.facts;
         seen = fits.seen;
+        least = fits.least;
         job = λ l has. absurd (job_is_none l has);
         none = λ e. absurd (Rattle.std.proofs.Common.true≢false
             (sym e));
@@ -181,14 +181,13 @@ module _ {F S : Type 0} (meaning : F → Meaning) (key : F) where
       let cut = total_set splits_of s.views id v w at in let cut' = total_set splits_of vs other u d at' in
       let glued = total_set joins_of s.views id v w at in let glued' = total_set joins_of vs other u d at' in
       let made = r.made in let left = r.left in let ticket = r.ticket in let few = r.few in
-      let full_v : (l : ℕ) → l < m.lines → v.job ≡ Some l → get_or s.words l 0 ≡ m.width l = λ l a has. let x =
-      ended_v l has in let y = fits.seen l a in let z = r.shown.counts l a in omega arith in
-      let full_u : (l : ℕ) → l < m.lines → u.job ≡ Some l → get_or s.words l 0 ≡ m.width l = λ l a has. let x =
-      ended_u l has in let y = fits'.seen l a in let z = r.shown.counts l a in omega arith in
+      let over_v : (l : ℕ) → v.job ≡ Some l → IsOver m s.words l = over_of m key s.words r.shown v fits ended_v in
+      let over_u : (l : ℕ) → u.job ≡ Some l → IsOver m s.words l = over_of m key s.words r.shown u fits' ended_u in
       let w_fits : Fits m key s.words w = record {
         facts = fits.facts;
         seen = λ l a. let x = greater_at v.seen u.seen l in let y = fits.seen l a in let z = fits'.seen l a in
             omega arith;
+        least = let x = fits.least in let y = fits'.least in omega arith;
         job = λ l has. absurd (job_is_none l has);
         none = λ has. either_none v.none u.none has fits.none fits'.none;
         spent = λ _. refl;
@@ -199,6 +198,7 @@ module _ {F S : Type 0} (meaning : F → Meaning) (key : F) where
       let d_fits : Fits m key s.words d = record {
         facts = λ f e. absurd (some_is_none f (sym e));
         seen = λ l a. omega arith;
+        least = r.shown.small;
         job = λ l has. absurd (job_is_none l has);
         none = λ e. absurd (Rattle.std.proofs.Common.true≢false (sym e));
         spent = λ _. refl;
@@ -209,8 +209,8 @@ module _ {F S : Type 0} (meaning : F → Meaning) (key : F) where
         shown = r.shown;
         drawn = λ l a b. ⊎_elim
             (λ held. ⊎_elim
-            (λ held'. ⊎_elim (λ held''. inl held'') (λ has. inr (full_u l a has)) (held_or vs other u d l at' held'))
-            (λ has. inr (full_v l a has))
+            (λ held'. ⊎_elim (λ held''. inl held'') (λ has. inr (over_u l has)) (held_or vs other u d l at' held'))
+            (λ has. inr (over_v l has))
             (held_or s.views id v w l at held))
             (λ full. inr full)
             (r.drawn l a b);
@@ -229,32 +229,40 @@ module _ {F S : Type 0} (meaning : F → Meaning) (key : F) where
       either_none true c e f g = f refl
       either_none false c e f g = g e
 
-  -- a table of zeros
+  -- a table of zeros in which the fault word is none
   pub opens : (words : List ℕ) (xs : List S) → IsLaid (meaning key) → length words ≡ (meaning key).total
-      → ((i : ℕ) → get_or words i 0 ≡ 0) → Stands meaning key (opening words xs (opener key))
+      → ((i : ℕ) → i ≢ fault_word (meaning key) → get_or words i 0 ≡ 0) → fault_in (meaning key) words ≡ no_fault
+      → Stands meaning key (opening words xs (opener key))
   unfolding total
-  opens words xs laid room zeros =
+  opens words xs laid room zeros none_ =
       let m : Meaning = meaning key in
+      let empty : (l : ℕ) → l < m.lines → count_in words l ≡ 0 = λ l a. zeros (count_word l) (λ e. omega arith) in
+      let nothing : (l k : ℕ) → l < m.lines → k < count_in words l → ⊥ = λ l k a below. let z = empty l a in
+      absurd (omega arith) in
+      let ticket : get_or words (ticket_word m) 0 ≡ 0 = zeros (ticket_word m) (λ e. omega arith) in
       record {
         laid = laid;
         shown = record {
           reached = record {
             events = [];
             ready = tt;
-            counts = λ l a. sym (zeros l);
-            drawn = let z = zeros m.lines in omega arith;
+            counts = λ l a. sym (empty l a);
+            drawn = omega arith;
+            least = sym none_;
           };
           room = room;
-          counts = λ l a. let z = zeros l in omega arith;
-          sound = λ l k a below. absurd (zero_words words zeros l k below);
-          met = λ l k a below. absurd (zero_words words zeros l k below);
-          words_are = λ w here below. absurd (zero_words words zeros (m.owner w).line (m.owner w).unit below);
-          idle = λ l a late. zeros l;
+          counts = λ l a. let z = empty l a in omega arith;
+          sound = λ l k a below. absurd (nothing l k a below);
+          met = λ l k a below. absurd (nothing l k a below);
+          words_are = λ w here below. absurd (nothing (m.owner w).line (m.owner w).unit (laid.inside w here).0 below);
+          idle = λ l a late. empty l a;
+          fault = inl none_;
+          small = omega arith;
         };
-        drawn = λ l a below. absurd (zero_words words zeros m.lines l below);
+        drawn = λ l a below. absurd (omega arith);
         fits = λ i v at. one_view i v at;
         apart = λ i j l v u at_i at_j has_i has_j. absurd (no_job i v l at_i has_i);
-        ticket = let z = zeros m.lines in omega arith;
+        ticket = omega arith;
         made = refl;
         left = refl;
         one = refl;
@@ -265,6 +273,7 @@ module _ {F S : Type 0} (meaning : F → Meaning) (key : F) where
       one_view zero v at = subst (λ (x : View F). Fits (meaning key) key words x) (some-injective _ v at) (record {
         facts = λ f e. sym (the_same f e);
         seen = λ l a. omega arith;
+        least = omega arith;
         job = λ l has. absurd (job_is_none l has);
         none = λ e. absurd (Rattle.std.proofs.Common.true≢false (sym e));
         spent = λ _. refl;
@@ -282,27 +291,3 @@ module _ {F S : Type 0} (meaning : F → Meaning) (key : F) where
       no_job : (i : ℕ) (v : View F) (l : ℕ) → get_elem? (opener key ∷ []) i ≡ some v → v.job ≡ Some l → ⊥
       no_job zero v l at has = job_is_none l (ap (λ (x : View F). x.job) (some-injective _ v at) ∙ has)
       no_job (suc i) v l at has = absurd (some-ne-none v (sym at))
-
-  -- the first view, once it has joined all that it split and a draw gave none: every line is full, and every word as
-  -- expected
-  pub closes : (s : State S (View F)) → Stands meaning key s → (id : ℕ) (v : View F)
-      → get_elem? s.views id ≡ some v → v.facts ≡ Some key → v.opens ≡ true → v.joins ≡ v.splits → v.none ≡ true
-      → HasEnded (meaning key) v
-      → (w : ℕ) → IsData (meaning key) w → get_or s.words w 0 ≡ (meaning key).expected w
-  closes s r id v at alive opens_ whole none_ ended w here =
-      let m : Meaning = meaning key in let o = r.laid.inside w here in let l : ℕ = (m.owner w).line in
-      let alone = splits_alone s r id v at opens_ in let left = r.left in
-      let mine = total_at joins_of s.views id v at in
-      let live_v : is_live v ≡ 1 = ap live_by alive in let all_drawn = (r.fits id v at).none none_ in
-      let full : get_or s.words l 0 ≡ m.width l = ⊎_elim
-      (λ (held : IsHeld s.views l). let i : ℕ = held.0 in let u : View F = held.1.0 in
-      dite (ℕ_discrete i id)
-      (λ e. let is : v ≡ u = some-injective v u (sym at ∙ (ap (get_elem? s.views) (sym e) ∙ held.1.1.0)) in
-      let x = ended l (ap (λ (y : View F). y.job) is ∙ held.1.1.1) in let y = (r.fits id v at).seen l o.0 in
-      let z = r.shown.counts l o.0 in omega arith)
-      (λ ne. let two = total_two is_live s.views id i v u (λ e. ne (sym e)) at held.1.1.0 in
-      let dead = none_left u.facts (omega arith) in
-      absurd (job_is_none l (sym ((r.fits i u held.1.1.0).spent dead) ∙ held.1.1.1))))
-      (λ full. full)
-      (r.drawn l o.0 (omega arith)) in
-      r.shown.words_are w here (omega arith)

@@ -6,14 +6,17 @@ use mathlib.Core.Option.{none}
 use native.Mathlib.Decide.{ℕ_discrete}
 use Rattle.atomic_table.specs.Table.{Me, step, keeps, Allows}
 use Rattle.progress_words.specs.declared.view.View.{View}
-use Rattle.progress_words.specs.Meanings.{Meaning, Spot, IsData, IsLaid}
-use Rattle.progress_words.specs.Views.{seen_of, writing, counting}
-use Rattle.progress_words.specs.Rule.{AreWritten, IsHolder, Fits, IsShown, Stands, IsNext, IsNextWord}
-use Rattle.progress_words.specs.Core.{AreMet, IsReached}
+use Rattle.progress_words.specs.Meanings.{Meaning, Spot, IsData, IsLaid, count_word, ticket_word, fault_word}
+use Rattle.progress_words.specs.Meanings.{first_data_word}
+use Rattle.progress_words.specs.Faults.{unit_in, IsFault}
+use Rattle.progress_words.specs.Views.{seen_of, writing, counting, AllSound}
+use Rattle.progress_words.specs.Rule.{AreWritten, IsHolder, Fits, IsShown, IsOver, Stands, IsNext, IsNextWord}
+use Rattle.progress_words.specs.Core.{count_in, ticket_in, fault_in, AreMet, IsReached}
 use Rattle.progress_words.proofs.Reached.{reached_same, reached_count}
 use Rattle.progress_words.specs.Steps.{wrote, counted}
 use Rattle.progress_words.proofs.Counts.{put_same, put_other}
-use Rattle.progress_words.proofs.Held.{same_job, held_set, apart_same}
+use Rattle.progress_words.proofs.Held.{at_inside, same_job, held_set, apart_same}
+use Rattle.progress_words.proofs.Loads.{line_is}
 use Rattle.progress_words.proofs.Changes.{changed}
 
 -- the words after a data word was set to what is expected of it
@@ -22,12 +25,30 @@ module _ (m : Meaning) (words : List ℕ) (w x : ℕ) (laid : IsLaid m) (shown :
   abbrev after : List ℕ
   after = set words w x
 
-  low : (l : ℕ) → l ≤ m.lines → get_or after l 0 ≡ get_or words l 0
-  low l le = let h = here.0 in get_or-set_other words w l x 0 (λ e. omega arith)
+  low : (y : ℕ) → y < first_data_word m → get_or after y 0 ≡ get_or words y 0
+  low y le = let h = here.0 in get_or-set_other words w y x 0 (λ e. omega arith)
 
-  met_after : (needs : List (ℕ × ℕ)) → AreMet m (λ l. get_or words l 0) needs → AreMet m (λ l. get_or after l 0) needs
-  met_after needs met k d inside = let p = met k d inside in let same = low (get_or needs k d).0 (omega arith) in
+  count_low : (l : ℕ) → l < m.lines → count_in after l ≡ count_in words l
+  count_low l inside = low (count_word l) (omega arith)
+
+  ticket_low : ticket_in m after ≡ ticket_in m words
+  ticket_low = low (ticket_word m) (omega arith)
+
+  fault_low : fault_in m after ≡ fault_in m words
+  fault_low = low (fault_word m) (omega arith)
+
+  met_after : (needs : List (ℕ × ℕ)) → AreMet m (count_in words) needs → AreMet m (count_in after) needs
+  met_after needs met k d inside = let p = met k d inside in let same = count_low (get_or needs k d).0 p.0 in
       (p.0, omega arith)
+
+  over_after : (l : ℕ) → l < m.lines → IsOver m words l → IsOver m after l
+  over_after l inside over =
+      ⊎_elim (λ full. inl (count_low l inside ∙ full))
+      (λ stopped. inr (subst (λ (c : ℕ × ℕ). unit_in c.0 ≤ m.number l c.1) (λ i. (
+        sym fault_low i,
+        sym (count_low l
+            inside) i,
+      )) stopped)) over
 
   expected_after : (y : ℕ) → get_or words y 0 ≡ m.expected y → get_or after y 0 ≡ m.expected y
   expected_after y old =
@@ -43,33 +64,36 @@ module _ (m : Meaning) (words : List ℕ) (w x : ℕ) (laid : IsLaid m) (shown :
   shown_after = record {
     reached = reached_same m words shown.reached after low;
     room = length-set words w x ∙ shown.room;
-    counts = λ l inside. let same = low l (omega arith) in let old = shown.counts l inside in omega arith;
-    sound = λ l k inside below. let same = low l (omega arith) in shown.sound l k inside (omega arith);
-    met = λ l k inside below. let same = low l (omega arith) in
+    counts = λ l inside. let same = count_low l inside in let old = shown.counts l inside in omega arith;
+    sound = λ l k inside below. let same = count_low l inside in shown.sound l k inside (omega arith);
+    met = λ l k inside below. let same = count_low l inside in
         met_after (m.needs l k) (shown.met l k inside (omega arith));
-    words_are = λ y data_ below. let o = laid.inside y data_ in let same = low (m.owner y).line (omega arith) in
+    words_are = λ y data_ below. let o = laid.inside y data_ in let same = count_low (m.owner y).line o.0 in
         expected_after y (shown.words_are y data_ (omega arith));
-    idle = λ l inside late. let same = low l (omega arith) in let same' = low m.lines (omega arith) in
+    idle = λ l inside late. let same = count_low l inside in let same' = ticket_low in
         same ∙ shown.idle l inside (omega arith);
+    fault = subst (λ (z : ℕ). IsFault m z) (sym fault_low) shown.fault;
+    small = let a = fault_low in let b = shown.small in omega arith;
   }
 
   written_after : (l n : ℕ) → l < m.lines → AreWritten m words l n → AreWritten m after l n
-  written_after l n inside old y data_ line unit index = let same = low l (omega arith) in
+  written_after l n inside old y data_ line unit index = let same = count_low l inside in
       expected_after y (old y data_ line (unit ∙ same) index)
 
   fits_after : {F : Type 0} (key : F) (v : View F) → Fits m key words v → Fits m key after v
   fits_after key v fits = record {
     facts = fits.facts;
-    seen = λ l inside. let same = low l (omega arith) in let old = fits.seen l inside in omega arith;
-    job = λ l has. let h = fits.job l has in let a = h.line in let b = h.drawn in let c = h.count in
-        let same = low l (omega arith) in let same' = low m.lines (omega arith) in
+    seen = λ l inside. let same = count_low l inside in let old = fits.seen l inside in omega arith;
+    least = let same = fault_low in let old = fits.least in omega arith;
+    job = λ l has. let h = fits.job l has in let b = h.drawn in let c = h.count in
+        let same = count_low l h.line in let same' = ticket_low in
         record {
           line = h.line;
           drawn = omega arith;
           count = omega arith;
           written = written_after l v.written h.line h.written;
         };
-    none = λ has. let same' = low m.lines (omega arith) in let old = fits.none has in omega arith;
+    none = λ has. let same' = ticket_low in let old = fits.none has in omega arith;
     spent = fits.spent;
     splits = fits.splits;
   }
@@ -77,7 +101,7 @@ module _ (m : Meaning) (words : List ℕ) (w x : ℕ) (laid : IsLaid m) (shown :
   one_more : {F : Type 0} (v : View F) → IsHolder m words v (m.owner w).line → IsNextWord m v w
       → AreWritten m after (m.owner w).line (v.written + 1)
   one_more v holder next y data_ line unit index =
-      let same = low (m.owner w).line (let a = holder.line in omega arith) in
+      let same = count_low (m.owner w).line holder.line in
       dite (ℕ_discrete (m.owner y).index v.written)
       (λ e.
       let here_ : m.owner y ≡ m.owner w = let spot : Spot ≡ Spot = refl in
@@ -98,7 +122,7 @@ module _ {F S : Type 0} (meaning : F → Meaning) (key : F) where
       let m : Meaning = meaning key in let v : View F = me.0 in let u : View F = writing v in let here = next.word in
       let fits = r.fits id v at in let holder = fits.job (m.owner w).line next.next.job in
       let kept = fits_after m s.words w x r.laid r.shown here is key v fits in
-      let tick = low m s.words w x r.laid r.shown here is m.lines (omega arith) in let before = r.ticket in (
+      let tick = ticket_low m s.words w x r.laid r.shown here is in let before = r.ticket in (
         u,
         keeps,
         tt,
@@ -108,12 +132,12 @@ module _ {F S : Type 0} (meaning : F → Meaning) (key : F) where
           splits = refl;
           joins = refl;
         }) (shown_after m s.words w x r.laid r.shown here is)
-            (λ l a b. let same = low m s.words w x r.laid r.shown here is l (omega arith) in
-            ⊎_elim (λ held. inl (held_set s.views id v u l at (λ has. has) held)) (λ full. inr (same
-            ∙ full)) (r.drawn l a (omega arith)))
+            (λ l a b. ⊎_elim (λ held. inl (held_set s.views id v u l at (λ has. has) held))
+            (λ over. inr (over_after m s.words w x r.laid r.shown here is l a over)) (r.drawn l a (omega arith)))
             (record {
               facts = kept.facts;
               seen = kept.seen;
+              least = kept.least;
               job = λ l has. let h = kept.job l has in
                   let same : (m.owner w).line ≡ l = same_job _ _ (sym next.next.job ∙ has) in
                   record {
@@ -141,88 +165,113 @@ module _ {F : Type 0} (m : Meaning) (key : F) (words : List ℕ) (l : ℕ) (v : 
   n = seen_of v l
 
   abbrev counts_after : List ℕ
-  counts_after = set words l (n + 1)
+  counts_after = set words (count_word l) (n + 1)
 
   holder : IsHolder m words v l
   holder = fits.job l next.job
 
-  here_count : get_or counts_after l 0 ≡ n + 1
-  here_count = let a = holder.line in let b = laid.ticket in let c = shown.room in
-      get_or-set_same words l (n + 1) 0 (omega arith)
+  here_count : count_in counts_after l ≡ n + 1
+  here_count = let a = holder.line in let b = laid.room in let c = shown.room in
+      get_or-set_same words (count_word l) (n + 1) 0 (omega arith)
 
-  other_count : (y : ℕ) → y ≢ l → get_or counts_after y 0 ≡ get_or words y 0
-  other_count y ne = get_or-set_other words l y (n + 1) 0 ne
+  other_word : (y : ℕ) → y ≢ count_word l → get_or counts_after y 0 ≡ get_or words y 0
+  other_word y ne = get_or-set_other words (count_word l) y (n + 1) 0 ne
 
-  ticket_same : get_or counts_after m.lines 0 ≡ get_or words m.lines 0
-  ticket_same = other_count m.lines (λ e. let a = holder.line in omega arith)
+  other_count : (y : ℕ) → y ≢ l → count_in counts_after y ≡ count_in words y
+  other_count y ne = other_word (count_word y) (λ e. ne (omega arith))
+
+  ticket_same : ticket_in m counts_after ≡ ticket_in m words
+  ticket_same = other_word (ticket_word m) (λ e. let a = holder.line in omega arith)
+
+  fault_same : fault_in m counts_after ≡ fault_in m words
+  fault_same = other_word (fault_word m) (λ e. let a = holder.line in omega arith)
 
   word_same : (w : ℕ) → IsData m w → get_or counts_after w 0 ≡ get_or words w 0
-  word_same w data_ = let d = data_.0 in other_count w (λ e. let a = holder.line in omega arith)
+  word_same w data_ = let d = data_.0 in other_word w (λ e. let a = holder.line in omega arith)
 
-  grows : (y : ℕ) → get_or words y 0 ≤ get_or counts_after y 0
-  grows y = dite (ℕ_discrete y l)
-      (λ e. subst (λ (z : ℕ). get_or words z 0 ≤ get_or counts_after z 0) (sym e) (let a = here_count in
-      let b = holder.count in omega arith))
-      (λ ne. let a = other_count y ne in omega arith)
+  -- the count of each line, where the line's own is told
+  by_line : (P : ℕ → ℕ → Type 0) → ((y : ℕ) → y ≢ l → P y (count_in words y)) → P l (n + 1) → (y : ℕ)
+      → P y (count_in counts_after y)
+  by_line P others own y = dite (ℕ_discrete y l)
+      (λ e. subst (λ (z : ℕ). P z (count_in counts_after z)) (sym e) (subst (λ (z : ℕ). P l z) (sym here_count) own))
+      (λ ne. subst (λ (z : ℕ). P y z) (sym (other_count y ne)) (others y ne))
 
-  met_grown : (needs : List (ℕ × ℕ)) (count : ℕ → ℕ) → ((y : ℕ) → y < m.lines → count y ≤ get_or words y 0)
-      → AreMet m count needs → AreMet m (λ y. get_or counts_after y 0) needs
+  grows : (y : ℕ) → count_in words y ≤ count_in counts_after y
+  grows = by_line (λ y c. count_in words y ≤ c) (λ y ne. omega arith) (let b = holder.count in omega arith)
+
+  met_grown : (needs : List (ℕ × ℕ)) (count : ℕ → ℕ) → ((y : ℕ) → y < m.lines → count y ≤ count_in words y)
+      → AreMet m count needs → AreMet m (count_in counts_after) needs
   met_grown needs count below met k d inside = let p = met k d inside in let a = below (get_or needs k d).0 p.0 in
       let b = grows (get_or needs k d).0 in (p.0, omega arith)
 
+  sound_below : (k : ℕ) → k < n + 1 → m.sound l k ≡ true
+  sound_below k below = let c = holder.count in
+      dite (ℕ_discrete k n) (λ e. subst (λ (z : ℕ). m.sound l z ≡ true) (sym e) next.sound)
+      (λ ne. shown.sound l k holder.line (omega arith))
+
+  met_below : (k : ℕ) → k < n + 1 → AreMet m (count_in counts_after) (m.needs l k)
+  met_below k below = let c = holder.count in
+      dite (ℕ_discrete k n)
+      (λ e. subst (λ (z : ℕ). AreMet m (count_in counts_after) (m.needs l z)) (sym e)
+      (met_grown (m.needs l n) (seen_of v) fits.seen next.met))
+      (λ ne. met_grown (m.needs l k) (count_in words) (λ y' _. omega arith) (shown.met l k holder.line (omega arith)))
+
+  expected_below : (w : ℕ) → IsData m w → (m.owner w).line ≡ l → (m.owner w).unit < n + 1
+      → get_or words w 0 ≡ m.expected w
+  expected_below w data_ e below =
+      let c = holder.count in let o = laid.inside w data_ in
+      dite (ℕ_discrete (m.owner w).unit n)
+      (λ e'. let small : (m.owner w).index < m.size l n = subst (λ (z : ℕ
+      × ℕ). (m.owner w).index < m.size z.0 z.1) (λ i. (e i, e' i)) o.2 in
+      holder.written w data_ e (e' ∙ sym c) (omega arith))
+      (λ ne. let c' : count_in words (m.owner w).line ≡ n = ap (λ (z : ℕ). count_in words z) e ∙ c in
+      shown.words_are w data_ (omega arith))
+
   counted_shown : IsShown m counts_after
   counted_shown = record {
-    reached = let a = laid.ticket in let b = shown.room in let c = holder.count in let d = next.left in
-        subst (λ (x : ℕ). IsReached m (set words l (x + 1))) holder.count
-        (reached_count m words shown.reached l holder.line (omega arith) holder.drawn (omega arith)
-        (subst (λ (x : ℕ). AreMet m (λ y. get_or words y 0) (m.needs l x)) (sym holder.count)
+    reached = let a = laid.room in let b = shown.room in let c = holder.count in let d = next.left in
+        subst (λ (x : ℕ). IsReached m (set words (count_word l) (x + 1))) holder.count
+        (reached_count m words shown.reached l holder.line (omega arith) (laid.ticketed l holder.line).0 holder.drawn
+        (omega arith)
+        (subst (λ (x : ℕ). m.sound l x ≡ true) (sym holder.count) next.sound)
+        (subst (λ (x : ℕ). AreMet m (count_in words) (m.needs l x)) (sym holder.count)
         (λ k e at. let p = next.met k e at in let s = fits.seen (get_or (m.needs l n) k e).0 p.0 in
         (p.0, omega arith))));
-    room = length-set words l (n + 1) ∙ shown.room;
-    counts = λ y inside. dite (ℕ_discrete y l)
-        (λ e. subst (λ (z : ℕ). get_or counts_after z 0 ≤ m.width z) (sym e) (let a = here_count in
-        let b = next.left in omega arith))
-        (λ ne. let a = other_count y ne in let b = shown.counts y inside in omega arith);
-    sound = λ y k inside below. dite (ℕ_discrete y l)
-        (λ e. let a = here_count in let c = holder.count in let below_ : k < n + 1 = subst (λ (z : ℕ). k < z) (ap
-        (λ (z : ℕ). get_or counts_after z 0) e ∙ a) below in
-        subst (λ (z : ℕ). m.sound z k ≡ true) (sym e)
-        (dite (ℕ_discrete k n) (λ e'. subst (λ (z : ℕ). m.sound l z ≡ true) (sym e') next.sound)
-        (λ ne. shown.sound l k holder.line (omega arith))))
-        (λ ne. let a = other_count y ne in shown.sound y k inside (omega arith));
-    met = λ y k inside below. dite (ℕ_discrete y l)
-        (λ e. let a = here_count in let c = holder.count in let below_ : k < n + 1 = subst (λ (z : ℕ). k < z) (ap
-        (λ (z : ℕ). get_or counts_after z 0) e ∙ a) below in
-        subst (λ (z : ℕ). AreMet m (λ y'. get_or counts_after y' 0) (m.needs z k)) (sym e)
-        (dite (ℕ_discrete k n)
-        (λ e'. subst (λ (z : ℕ). AreMet m (λ y'. get_or counts_after y' 0) (m.needs l z)) (sym e') (met_grown
-        (m.needs l n) (seen_of v) fits.seen next.met))
-        (λ ne. met_grown (m.needs l k) (λ y'. get_or words y' 0)
-        (λ y' _. omega arith) (shown.met l k holder.line (omega arith)))))
-        (λ ne. let a = other_count y ne in met_grown (m.needs y k) (λ y'. get_or words y' 0)
-        (λ y' _. omega arith) (shown.met y k inside (omega arith)));
-    words_are = λ w data_ below. word_same w data_ ∙ (
-        let o = laid.inside w data_ in
-        dite (ℕ_discrete (m.owner w).line l)
-        (λ e. let a = here_count in let c = holder.count in
-        let below_ : (m.owner w).unit < n + 1 = subst (λ (z : ℕ). (m.owner w).unit < z) (ap
-        (λ (z : ℕ). get_or counts_after z 0) e ∙ a) below in
-        dite (ℕ_discrete (m.owner w).unit n)
-        (λ e'. let small : (m.owner w).index < m.size l n = subst (λ (z : ℕ
-        × ℕ). (m.owner w).index < m.size z.0 z.1) (λ i. (e i, e' i)) o.2 in
-        holder.written w data_ e (e' ∙ sym c) (omega arith))
-        (λ ne. let c' : get_or words (m.owner w).line 0 ≡ n = ap (λ (z : ℕ). get_or words z 0) e ∙ c in
-        shown.words_are w data_ (omega arith)))
-        (λ ne. let a = other_count (m.owner w).line ne in shown.words_are w data_ (omega arith)));
+    room = length-set words (count_word l) (n + 1) ∙ shown.room;
+    counts = by_line (λ y c. y < m.lines → c ≤ m.width y) (λ y ne. shown.counts y)
+        (λ inside. let b = next.left in omega arith);
+    sound = λ y k inside below. by_line (λ z c. z < m.lines → k < c → m.sound z k ≡ true)
+        (λ z ne. shown.sound z k) (λ _. sound_below k) y inside below;
+    met = λ y k inside below. by_line (λ z c. z < m.lines → k < c → AreMet m (count_in counts_after) (m.needs z k))
+        (λ z ne in_ below_. met_grown (m.needs z k) (count_in words)
+        (λ y' _. omega arith) (shown.met z k in_ below_)) (λ _. met_below k) y inside below;
+    words_are = λ w data_ below. word_same w data_ ∙ by_line
+        (λ z c. (m.owner w).line ≡ z → (m.owner w).unit < c → get_or words w 0 ≡ m.expected w)
+        (λ z ne e below_. shown.words_are w data_ (subst (λ (y : ℕ). (m.owner w).unit < count_in words y) (sym e)
+        below_)) (λ e. expected_below w data_ e) (m.owner w).line refl below;
     idle = λ y inside late. let d = holder.drawn in let t = ticket_same in
-        let ne : y ≢ l = λ e. omega arith in let a = other_count y ne in a ∙ shown.idle y inside (omega arith);
+        let ne : y ≢ l = λ e. (let e' = ap m.ticket_of e in omega arith) in let a = other_count y ne in
+        a ∙ shown.idle y inside (omega arith);
+    fault = subst (λ (z : ℕ). IsFault m z) (sym fault_same) shown.fault;
+    small = let a = fault_same in let b = shown.small in omega arith;
   }
+
+  -- a line that is over, where another one's count went up
+  over_kept : (y : ℕ) → y ≢ l → IsOver m words y → IsOver m counts_after y
+  over_kept y ne over =
+      ⊎_elim (λ full. inl (other_count y ne ∙ full))
+      (λ stopped. inr (subst (λ (c : ℕ × ℕ). unit_in c.0 ≤ m.number y c.1) (λ i. (
+        sym fault_same i,
+        sym (other_count y
+            ne) i,
+      )) stopped)) over
 
   -- a view that doesn't hold the line
   others_fit : (u : View F) → u.job ≢ Some l → Fits m key words u → Fits m key counts_after u
   others_fit u free old = record {
     facts = old.facts;
     seen = λ y inside. let a = old.seen y inside in let b = grows y in omega arith;
+    least = let a = old.least in let b = fault_same in omega arith;
     job = λ y has. let h = old.job y has in let ne : y ≢ l = λ e. free (has ∙ ap (λ (z : ℕ). Some z) e) in
         let a = other_count y ne in let b = ticket_same in let c = h.drawn in let d = h.count in
         record {
@@ -239,11 +288,10 @@ module _ {F : Type 0} (m : Meaning) (key : F) (words : List ℕ) (l : ℕ) (v : 
   own_fits : Fits m key counts_after (counting v l (n + 1))
   own_fits = record {
     facts = fits.facts;
-    seen = λ y inside. dite (ℕ_discrete y l)
-        (λ e. subst (λ (z : ℕ). seen_of (counting v l (n + 1)) z ≤ get_or counts_after z 0) (sym e)
-        (let a = here_count in let b = put_same v.seen l (n + 1) in omega arith))
-        (λ ne. let a = other_count y ne in let b = put_other v.seen l (n + 1) y ne in let c = fits.seen y inside in
-        omega arith);
+    seen = by_line (λ y c. y < m.lines → seen_of (counting v l (n + 1)) y ≤ c)
+        (λ y ne inside. let b = put_other v.seen l (n + 1) y ne in let c = fits.seen y inside in omega arith)
+        (λ _. let b = put_same v.seen l (n + 1) in omega arith);
+    least = let a = fits.least in let b = fault_same in omega arith;
     job = λ y has. let is : l ≡ y = same_job l y (sym next.job ∙ has) in
         subst (λ (z : ℕ). IsHolder m counts_after (counting v l (n + 1)) z) is
         (let a = here_count in let b = put_same v.seen l (n + 1) in let t = ticket_same in let d = holder.drawn in
@@ -261,41 +309,47 @@ module _ {F : Type 0} (m : Meaning) (key : F) (words : List ℕ) (l : ℕ) (v : 
 module _ {F S : Type 0} (meaning : F → Meaning) (key : F) where
   pub stores_line : (slots id : ℕ) (me : Me S (View F)) (l : ℕ) → IsNext (meaning key) me.0 l
       → me.0.written ≡ (meaning key).size l (seen_of me.0 l)
-      → Allows (Stands meaning key) slots id me l (λ _. seen_of me.0 l + 1)
-      (λ _. counted meaning (step slots l (seen_of me.0 l + 1) 0 none) me (seen_of me.0 l + 1))
+      → Allows (Stands meaning key) slots id me (count_word l) (λ _. seen_of me.0 l + 1)
+      (λ _. counted meaning (step slots (count_word l) (seen_of me.0 l + 1) 0 none) me (seen_of me.0 l + 1))
   stores_line slots id me l next all s r long at small =
-      let m : Meaning = meaning key in let v : View F = me.0 in let w : View F = counting v l (seen_of v l + 1) in
-      let fits = r.fits id v at in
+      let m : Meaning = meaning key in let v : View F = me.0 in let n : ℕ = seen_of v l + 1 in
+      let w : View F = counting v l n in let fits = r.fits id v at in
+      let left : Me S (View F) = (w, me.1) in let told : ℕ → Me S (View F) = λ x. (counting v x n, me.1) in
       let tick = ticket_same m key s.words l v r.laid r.shown fits next all in let before = r.ticket in (
         w,
         keeps,
         tt,
-        changed meaning key s r (set s.words l (seen_of v l + 1)) id v w at (record {
+        changed meaning key s r (set s.words (count_word l) n) id v w at (record {
           facts = refl;
           opens = refl;
           splits = refl;
           joins = refl;
         }) (counted_shown m key s.words l v r.laid r.shown fits next all)
-            (λ y a b. ⊎_elim (λ held. inl (held_set s.views id v w y at (λ has. has) held))
-            (λ full. dite (ℕ_discrete y l)
-            (λ e. absurd (let c = (fits.job l next.job).count in let d = next.left in
-            let full' : get_or s.words l 0 ≡ m.width l = subst
-            (λ (z : ℕ). get_or s.words z 0 ≡ m.width z) e full in omega arith))
-            (λ ne. inr (other_count m key s.words l v r.laid r.shown fits next all y ne ∙ full)))
-            (r.drawn y a (omega arith)))
+            (λ y a b. dite (ℕ_discrete y l)
+            (λ e. inl (id, (w, (at_inside s.views id v w at, next.job ∙ ap (λ (z : ℕ). Some z) (sym e)))))
+            (λ ne. ⊎_elim (λ held. inl (held_set s.views id v w y at (λ has. has) held))
+            (λ over. inr (over_kept m key s.words l v r.laid r.shown fits next all y ne over))
+            (r.drawn y a (omega arith))))
             (own_fits m key s.words l v r.laid r.shown fits next all)
             (λ j u other at_j. others_fit m key s.words l v r.laid r.shown fits next all u
             (λ has. other (r.apart j id l u v at_j at has next.job)) (r.fits j u at_j))
             (apart_same s.views id v w at refl r.apart)
             (omega arith),
-        refl,
+        λ j also_. subst
+            (λ (x : ℕ). (left ≡ told x) × ((f : F) → v.facts ≡ Some f → AllSound (meaning f) x n))
+            (line_is l j (count_word l) refl also_) (
+              refl,
+              λ f is k below. subst (λ (x : F). (meaning x).sound l k ≡ true) (sym (fits.facts f is))
+                  (sound_below m key s.words l v r.laid r.shown fits next all k below),
+            ),
       )
 
-  -- the same, at a number that is the count
-  pub stores_line_at : (slots id : ℕ) (me : Me S (View F)) (l n : ℕ) → n ≡ seen_of me.0 l
+  -- the same, at a place and a number that are those
+  pub stores_line_at : (slots id : ℕ) (me : Me S (View F)) (l n word : ℕ) → n ≡ seen_of me.0 l → word ≡ count_word l
       → IsNext (meaning key) me.0 l → me.0.written ≡ (meaning key).size l (seen_of me.0 l)
-      → Allows (Stands meaning key) slots id me l (λ _. n + 1)
-      (λ _. counted meaning (step slots l (n + 1) 0 none) me (n + 1))
-  stores_line_at slots id me l n is next all = subst (λ (x : ℕ). Allows (Stands meaning key) slots id me l
-      (λ _. x + 1) (λ _. counted meaning (step slots l (x + 1) 0 none) me (x + 1))) (sym is)
+      → Allows (Stands meaning key) slots id me word (λ _. n + 1)
+      (λ _. counted meaning (step slots word (n + 1) 0 none) me (n + 1))
+  stores_line_at slots id me l n word is place next all =
+      subst (λ (x : ℕ × ℕ). Allows (Stands meaning key) slots id me x.0 (λ _. x.1 + 1)
+      (λ _. counted meaning (step slots x.0 (x.1 + 1) 0 none) me (x.1 + 1))) (λ i. (sym place i, sym is i))
       (stores_line slots id me l next all)

@@ -1,8 +1,10 @@
 -- What one pass knows, and how a view is cut in two and two are put together.
-use Rattle.std.specs.Prelude.{ℕ, ◌≡◌, ◌+◌, ◌<◌, ◌≤◌, ◌||◌, [], Bool, true, false, Option, Some, None, slice_index}
+use Rattle.std.specs.Prelude.{ℕ, ◌≡◌, ◌+◌, ◌<◌, ◌≤◌, ◌||◌, ◌⊎◌, [], Bool, true, false, Option, Some, None, min}
+use Rattle.std.specs.Prelude.{slice_index}
 use Rattle.progress_words.specs.declared.view.View.{View}
 use Rattle.progress_words.specs.Meanings.{Meaning}
 use Rattle.progress_words.specs.Counts.{put, greater, added}
+use Rattle.progress_words.specs.Faults.{no_fault, unit_in}
 
 -- how many units of the line this pass has seen counted, and how often it has loaded the line's word
 abbrev pub seen_of : {F : Type 0} → View F → ℕ → ℕ
@@ -17,6 +19,8 @@ opener f = record {
   facts = Some f;
   seen = [];
   loads = [];
+  least = no_fault;
+  fault_loads = 0;
   job = None;
   written = 0;
   none = false;
@@ -30,6 +34,8 @@ spent = record {
   facts = None;
   seen = [];
   loads = [];
+  least = no_fault;
+  fault_loads = 0;
   job = None;
   written = 0;
   none = false;
@@ -46,6 +52,8 @@ new_part v = record {
   facts = v.facts;
   seen = v.seen;
   loads = [];
+  least = v.least;
+  fault_loads = 0;
   job = None;
   written = 0;
   none = false;
@@ -60,6 +68,8 @@ joined v w =
       facts = v.facts;
       seen = greater v.seen w.seen;
       loads = added v.loads w.loads;
+      least = min v.least w.least;
+      fault_loads = v.fault_loads + w.fault_loads;
       job = None;
       written = 0;
       none = v.none || w.none;
@@ -85,6 +95,14 @@ holding v l = record v { job = Some l; written = 0 }
 
 abbrev pub finding_none : {F : Type 0} → View F → View F
 finding_none v = record v { none = true }
+
+-- the fault word was loaded, and n found
+abbrev pub checking : {F : Type 0} → View F → ℕ → View F
+checking v n = record v { least = n; fault_loads = v.fault_loads + 1 }
+
+-- the fault word is n at most
+abbrev pub stopping : {F : Type 0} → View F → ℕ → View F
+stopping v n = record v { least = n }
 
 -- 1 for a view that isn't spent, and for one that is spent or had a None
 abbrev pub live_by : {F : Type 0} → Option F → ℕ
@@ -119,9 +137,10 @@ joins_of v = v.joins
 abbrev pub AllSound : Meaning → ℕ → ℕ → Type 0
 AllSound m l n = (k : ℕ) → k < n → m.sound l k ≡ true
 
--- the job held, if any, has ended
+-- the job held, if any, has ended: its line is full, or a fault was seen that isn't above its next unit
 abbrev pub HasEnded : {F : Type 0} → Meaning → View F → Type 0
-HasEnded m v = (l : ℕ) → v.job ≡ Some l → m.width l ≤ seen_of v l
+HasEnded m v =
+    (l : ℕ) → v.job ≡ Some l → (m.width l ≤ seen_of v l) ⊎ (unit_in v.least ≤ m.number l (seen_of v l))
 
 -- the count of the line held
 abbrev pub count_by : {F : Type 0} → Option ℕ → View F → ℕ

@@ -6,14 +6,15 @@ use atomic_table::Table;
 use std::alloc::Global;
 use std::marker::Model;
 
-/// How many lines a flight has, and how many words: one a line, the ticket, and then the data words.
+/// How many lines a flight has, and how many words. The words that many threads write stand first, eight words apart:
+/// the counts of the lines, the ticket, the fault word. The data words stand behind them.
 #[derive(Clone, Copy)]
 pub struct Layout {
     pub lines: usize,
     pub words: usize,
 }
 
-/// Words that threads share: a count for each line, the ticket, and data words.
+/// Words that threads share: a count for each line, the ticket, the fault word, and data words.
 #[derive(Drop)]
 pub struct Board<F: Facts> {
     pub(crate) table: Table<(), View<F>, F, Progress, Global>,

@@ -1,37 +1,39 @@
-//! The calls of a board.
-ghost use Rattle.std.specs.Prelude.{ℕ, ◌≡◌, ◌<◌, ◌≤◌, ◌+◌, [], Some, None, IfOk, MatchOption, true, false, length};
-ghost use Rattle.std.specs.Prelude.{slice_index};
-ghost use Rattle.progress_words.specs.Meanings.{IsData, IsLaid};
-ghost use Rattle.progress_words.specs.Views.{seen_of, opener, looking, writing, counting, holding, finding_none};
+//! The calls of a board, each one step of its table.
+ghost use Rattle.std.specs.Prelude.{◌≡◌, ◌<◌, ◌≤◌, ◌+◌, [], MatchOption, true, false};
+ghost use Rattle.progress_words.specs.Meanings.{count_word, ticket_word, fault_word};
+ghost use Rattle.progress_words.specs.Faults.{packed, IsFault};
+ghost use Rattle.progress_words.specs.Views.{seen_of, looking, writing, counting, holding, finding_none, checking};
 ghost use Rattle.progress_words.specs.Views.{kept_part, new_part, joined, AllSound, HasEnded};
-ghost use Rattle.progress_words.specs.Rule.{IsNext, IsNextWord};
-ghost use Rattle.progress_words.specs.Core.{IsReached};
-ghost use Rattle.progress_words.specs.Passes.{view, IsPassOf, Knows, IsSeen, Waited};
+ghost use Rattle.progress_words.specs.Rule.{IsNext, IsNextWord, IsNextBad};
+ghost use Rattle.progress_words.specs.Passes.{view, IsPassOf, Knows, IsSeen, HasStopped};
 
-use crate::board::{Board, Layout};
+use crate::board::Board;
 use crate::facts::Facts;
 use crate::pass::Pass;
-use crate::steps::{Cut, FetchAdd, Glue, LoadData, LoadLine, StoreData, StoreLine};
-use crate::words::Words;
-use atomic_table::Table;
-use crossbeam_utils::Backoff;
-use std::alloc::{AllocError, Global};
-use std::sync::Wait;
+use crate::steps::{
+    Cut, FetchAdd, FetchMin, Glue, LoadData, LoadFault, LoadLine, StoreData, StoreLine,
+};
 
 impl<F: Facts> Board<F> {
-    /// A board with nothing drawn and nothing counted, and the pass that others are split from.
-    pub fn open(alloc: Global, layout: Layout, facts: &F) -> Result<(Board<F>, Pass<F>), AllocError>
-        requires laid { IsLaid (F.meaning facts.now) }
-        requires layout { (layout.lines ≡ (F.meaning facts.now).lines) × (layout.words ≡ (F.meaning facts.now).total) }
-        ensures { IfOk result (λ b. (b.0.flight ≡ facts.now) × IsPassOf b.0 b.1 × (view b.1 ≡ opener facts.now)) }
+    // The places of the words that many threads write.
+    fn count_word(&self, line: usize) -> usize
+        requires { line < (F.meaning self.now.flight).lines }
+        ensures { result ≡ count_word line }
     {
-        let zeros = vec![in alloc; 0u64; layout.words]?;
-        let (table, seat) = Table::of_words(alloc, zeros.as_slice(), facts)?;
-        let board = Board {
-            table,
-            lines: layout.lines,
-        };
-        Ok((board, Pass { seat, count: 0 }))
+        let _bounded = self.lines;
+        8 * line
+    }
+
+    fn ticket_word(&self) -> usize
+        ensures { result ≡ ticket_word (F.meaning self.now.flight) }
+    {
+        8 * self.lines
+    }
+
+    fn fault_word(&self) -> usize
+        ensures { result ≡ fault_word (F.meaning self.now.flight) }
+    {
+        8 * self.lines + 8
     }
 
     /// A pass for another thread, which has seen as much.
@@ -57,19 +59,22 @@ impl<F: Facts> Board<F> {
         pass.count = 0;
     }
 
-    /// The next line that no pass has drawn; none where all are drawn.
+    /// The ticket of the next line that no pass has drawn; none where all are drawn.
     pub fn draw(&self, pass: &mut Pass<F>) -> Option<usize>
         requires own { IsPassOf self.now pass.old }
         requires may { ((view pass.old).none ≡ false) × HasEnded (F.meaning self.now.flight) (view pass.old) }
         ensures { MatchOption result
             (Knows pass.old pass.new (finding_none (view pass.old)))
-            (λ l. Knows pass.old pass.new (holding (view pass.old) l) × (l < (F.meaning self.now.flight).lines)
-            × (seen_of (view pass.new) l ≡ 0)) }
+            (λ t. Knows pass.old pass.new (holding (view pass.old) ((F.meaning self.now.flight).line_at t))
+            × (t < (F.meaning self.now.flight).lines)
+            × ((F.meaning self.now.flight).line_at t < (F.meaning self.now.flight).lines)
+            × (seen_of (view pass.new) ((F.meaning self.now.flight).line_at t) ≡ 0)) }
     {
+        let place = self.ticket_word();
         let found = self
             .table
             .shared
-            .fetch_add::<FetchAdd>(&mut pass.seat, self.lines, 1);
+            .fetch_add::<FetchAdd>(&mut pass.seat, place, 1);
         if found < self.lines as u64 {
             pass.count = 0;
             Some(found as usize)
@@ -97,11 +102,43 @@ impl<F: Facts> Board<F> {
         ensures more { seen_of (view pass.old) line ≤ result }
         ensures sound { AllSound (F.meaning self.now.flight) line result }
     {
-        self.table.shared.load::<LoadLine>(&mut pass.seat, line)
+        let place = self.count_word(line);
+        self.table.shared.load::<LoadLine>(&mut pass.seat, place)
+    }
+
+    /// By one load, the least fault word: at most what this pass had seen, and none or that of a bad unit.
+    pub fn least(&self, pass: &mut Pass<F>) -> u64
+        requires own { IsPassOf self.now pass.old }
+        ensures seen { Knows pass.old pass.new (checking (view pass.old) result) }
+        ensures less { result ≤ (view pass.old).least }
+        ensures fault { IsFault (F.meaning self.now.flight) result }
+    {
+        self.load_fault(pass)
+    }
+
+    // The load that `least` makes.
+    fn load_fault(&self, pass: &mut Pass<F>) -> u64
+        requires own { IsPassOf self.now pass.old }
+        ensures seen { Knows pass.old pass.new (checking (view pass.old) result) }
+        ensures less { result ≤ (view pass.old).least }
+        ensures fault { IsFault (F.meaning self.now.flight) result }
+    {
+        let place = self.fault_word();
+        self.table.shared.load::<LoadFault>(&mut pass.seat, place)
     }
 
     /// The word, whose unit this pass has seen counted.
     pub fn read(&self, pass: &mut Pass<F>, word: usize) -> u64
+        requires own { IsPassOf self.now pass.old }
+        requires seen { IsSeen (F.meaning self.now.flight) (view pass.old) word }
+        ensures value { result ≡ (F.meaning self.now.flight).expected word }
+        ensures same { Knows pass.old pass.new (view pass.old) }
+    {
+        self.load_word(pass, word)
+    }
+
+    // The load that `read` makes.
+    fn load_word(&self, pass: &mut Pass<F>, word: usize) -> u64
         requires own { IsPassOf self.now pass.old }
         requires seen { IsSeen (F.meaning self.now.flight) (view pass.old) word }
         ensures value { result ≡ (F.meaning self.now.flight).expected word }
@@ -128,46 +165,38 @@ impl<F: Facts> Board<F> {
         requires next { IsNext (F.meaning self.now.flight) (view pass.old) line }
         requires written { (view pass.old).written ≡ (F.meaning self.now.flight).size line (seen_of
             (view pass.old) line) }
-        ensures { Knows pass.old pass.new (counting (view pass.old) line (seen_of (view pass.old) line + 1)) }
+        ensures seen { Knows pass.old pass.new (counting (view pass.old) line (seen_of (view pass.old) line + 1)) }
+        ensures sound { AllSound (F.meaning self.now.flight) line (seen_of (view pass.old) line + 1) }
     {
+        let place = self.count_word(line);
         let shared = &self.table.shared;
         let count = pass.count + 1;
-        shared.store::<StoreLine>(&mut pass.seat, line, count);
+        shared.store::<StoreLine>(&mut pass.seat, place, count);
         pass.count = count;
     }
 
-    /// Waits until at least n units of the line are counted.
-    pub fn wait_line<R: Wait>(&self, rt: &R, pass: &mut Pass<F>, line: usize, n: u64) -> u64
+    /// Lowers the fault word to that of the next unit of the line held, which breaks a rule, and the rule. The job has
+    /// then ended.
+    pub fn fault(&self, pass: &mut Pass<F>, unit: u64, rule: u64)
         requires own { IsPassOf self.now pass.old }
-        requires line { line < (F.meaning self.now.flight).lines }
-        ensures reached { (n ≤ result) × (seen_of (view pass.new) line ≡ result) }
-        ensures kept { IsPassOf self.now pass.new × Waited (view pass.old) line (view pass.new) }
-        ensures sound { AllSound (F.meaning self.now.flight) line result }
+        requires next { IsNextBad (F.meaning self.now.flight) (view pass.old) unit rule }
+        ensures own { IsPassOf self.now pass.new }
+        ensures stopped { HasStopped (view pass.old) (packed unit rule) (view pass.new) }
+        ensures fault { IsFault (F.meaning self.now.flight) (view pass.new).least }
+        ensures ended { HasEnded (F.meaning self.now.flight) (view pass.new) }
     {
-        let backoff = Backoff::new();
-        for _ in rt.forever() {
-            let found = self.seen(pass, line);
-            if found >= n {
-                return found;
-            }
-            backoff.snooze();
-        }
-        unreachable!()
+        let shared = &self.table.shared;
+        let place = self.fault_word();
+        let word = fault_of(unit, rule);
+        shared.fetch_min::<FetchMin>(&mut pass.seat, place, word);
     }
+}
 
-    /// The words, each as it is expected, once every pass was joined and a draw found none left.
-    pub fn close(self, pass: Pass<F>) -> Words
-        requires own { IsPassOf self pass }
-        requires whole { ((view pass).opens ≡ true) × ((view pass).joins ≡ (view pass).splits) }
-        requires done { ((view pass).none ≡ true) × HasEnded (F.meaning self.flight) (view pass) }
-        ensures count { length result ≡ (F.meaning self.flight).total }
-        ensures core { IsReached (F.meaning self.flight) result }
-        ensures words { (w : ℕ) → IsData (F.meaning self.flight) w
-            → slice_index result w ≡ (F.meaning self.flight).expected w }
-    {
-        let Board { table, lines: _ } = self;
-        let Pass { seat, count: _ } = pass;
-        let closed = table.close_with(seat);
-        Words { closed }
-    }
+// The fault word of a unit and the rule that it breaks.
+fn fault_of(unit: u64, rule: u64) -> u64
+    requires unit { unit < 576460752303423487 }
+    requires rule { rule < 32 }
+    ensures { result ≡ packed unit rule }
+{
+    32 * unit + rule
 }

@@ -9,6 +9,6 @@ split_seat-seat-requires g c =
     let M = g.F.Facts.meaning in let is = sym c.self.view_is in let key = c.self.inside.table.shared.key in
     let p = c.args.pass.now in
     let own = subst (λ (b : Place g.row.F.Denot). IsPassOf b p) is c.requires.own in
-    let laid = c.self.invariant.2 in let a = laid.ticket in let room = c.self.invariant.1 in
+    let laid = c.self.invariant.2 in let a = laid.room in let room = c.self.invariant.1 in
     let lines = c.self.invariant.0 in
     (own.0, omega arith, splits M key _ _ own.1 c.requires.opens.0 c.requires.opens.1)
