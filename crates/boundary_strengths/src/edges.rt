@@ -13,16 +13,18 @@ use crate::motions::PlaceMotions;
 use crate::sides::UnitSides;
 use picture_buffer::PlaceMotion;
 
-/// bS of the left side of a place.
+/// bS of the left side of a place of this motion.
 pub(crate) fn left_strength<V: PlaceMotions>(
     marks: &Marks,
     sides: &UnitSides,
     view: &V,
+    motion: &Option<PlaceMotion>,
     x: usize,
     y: usize,
 ) -> u8
     requires x { x < 16 }
     requires y { y < 16 }
+    requires motion { motion.now ≡ V.motion_at view.now (x + 1) (y + 1) }
     ensures { (pcm_disabled : Bool) (items : List Item) → AreMarked pcm_disabled items marks.now
         → result ≡ left_strength (beside_of sides.now (V.motion_at view.now)) items x y }
 {
@@ -37,9 +39,8 @@ pub(crate) fn left_strength<V: PlaceMotions>(
     ) {
         let before = coded_around(marks, sides, x, y + 1);
         let behind = coded_around(marks, sides, x + 1, y + 1);
-        let p = view.motion(x, y + 1);
-        let q = view.motion(x + 1, y + 1);
-        strength(is_coded(transform, before, behind), &p, &q)
+        let coded = is_coded(transform, before, behind);
+        strength_behind(coded, view, x, y + 1, motion)
     } else {
         0
     }
@@ -50,11 +51,13 @@ pub(crate) fn top_strength<V: PlaceMotions>(
     marks: &Marks,
     sides: &UnitSides,
     view: &V,
+    motion: &Option<PlaceMotion>,
     x: usize,
     y: usize,
 ) -> u8
     requires x { x < 16 }
     requires y { y < 16 }
+    requires motion { motion.now ≡ V.motion_at view.now (x + 1) (y + 1) }
     ensures { (pcm_disabled : Bool) (items : List Item) → AreMarked pcm_disabled items marks.now
         → result ≡ top_strength (beside_of sides.now (V.motion_at view.now)) items x y }
 {
@@ -69,9 +72,8 @@ pub(crate) fn top_strength<V: PlaceMotions>(
     ) {
         let before = coded_around(marks, sides, x + 1, y);
         let behind = coded_around(marks, sides, x + 1, y + 1);
-        let p = view.motion(x + 1, y);
-        let q = view.motion(x + 1, y + 1);
-        strength(is_coded(transform, before, behind), &p, &q)
+        let coded = is_coded(transform, before, behind);
+        strength_behind(coded, view, x + 1, y, motion)
     } else {
         0
     }
@@ -110,6 +112,24 @@ fn coded_around(marks: &Marks, sides: &UnitSides, column: usize, row: usize) -> 
         sides.coded(column, row)
     } else {
         marks.coded[16 * (row - 1) + (column - 1)]
+    }
+}
+
+/// bS of an edge behind a place, by the motion behind it. Without any there, that of the place isn't asked.
+fn strength_behind<V: PlaceMotions>(
+    coded: bool,
+    view: &V,
+    column: usize,
+    row: usize,
+    behind: &Option<PlaceMotion>,
+) -> u8
+    requires column { column ≤ 16 }
+    requires row { row ≤ 16 }
+    ensures { result ≡ strength coded (V.motion_at view.now column row) behind.now }
+{
+    match *behind {
+        None => 2,
+        Some(_) => strength(coded, &view.motion(column, row), behind),
     }
 }
 

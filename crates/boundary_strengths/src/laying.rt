@@ -8,8 +8,35 @@ ghost use Rattle.spec_boundary_strengths.specs.Edges.{stands_left, stands_top};
 
 use ctu_records::{Rectangle, Square};
 
-/// One value in so many cells from one on.
+/// One value in so many cells from one on. Most blocks have a width of a few.
 fn fill<T: Copy>(cells: &mut [T], first: usize, count: usize, value: T)
+    requires { first + count ≤ length cells.old }
+    ensures { (q : ℕ) (d : T) → slice_index_or cells.new q d
+        ≡ cond (nat_le first q && nat_lt q (first + count)) value (slice_index_or cells.old q d) }
+{
+    match count {
+        1 => fill_some::<T, 1>(cells, first, value),
+        2 => fill_some::<T, 2>(cells, first, value),
+        4 => fill_some::<T, 4>(cells, first, value),
+        8 => fill_some::<T, 8>(cells, first, value),
+        16 => fill_some::<T, 16>(cells, first, value),
+        _ => fill_many(cells, first, count, value),
+    }
+}
+
+/// One value in `N` cells, which is one store.
+fn fill_some<T: Copy, const N: usize>(cells: &mut [T], first: usize, value: T)
+    requires { first + N ≤ length cells.old }
+    ensures { (q : ℕ) (d : T) → slice_index_or cells.new q d
+        ≡ cond (nat_le first q && nat_lt q (first + N)) value (slice_index_or cells.old q d) }
+{
+    for k in 0..N {
+        cells[first + k] = value;
+    }
+}
+
+/// One value in any number of cells.
+fn fill_many<T: Copy>(cells: &mut [T], first: usize, count: usize, value: T)
     requires { first + count ≤ length cells.old }
     ensures { (q : ℕ) (d : T) → slice_index_or cells.new q d
         ≡ cond (nat_le first q && nat_lt q (first + count)) value (slice_index_or cells.old q d) }

@@ -145,9 +145,10 @@ fn with_strengths<V: PlaceMotions>(
           top_strength = top_strength (beside_of sides.now (V.motion_at view.now)) items x y;
         } }
 {
+    let motion = view.motion(x + 1, y + 1);
     UnitPlace {
-        left_strength: left_strength(marks, sides, view, x, y),
-        top_strength: top_strength(marks, sides, view, x, y),
+        left_strength: left_strength(marks, sides, view, &motion, x, y),
+        top_strength: top_strength(marks, sides, view, &motion, x, y),
         ..inner
     }
 }

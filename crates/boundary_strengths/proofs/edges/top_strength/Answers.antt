@@ -1,3 +1,4 @@
+use Rattle.std.proofs.Common.{refl}
 use Rattle.spec_boundary_strengths.specs.Strengths.{top_strength}
 use Rattle.boundary_strengths.proofs.EdgeSides.{strength_same, with_edge, without_edge}
 use Rattle.boundary_strengths.proofs.edges.top_strength.Goals as goal
@@ -11,8 +12,8 @@ returns-then-is_edge g c pcm_disabled items marked =
     let before = c.coded_around-before.ensures pcm_disabled items motion marked in
     let behind = c.coded_around-behind.ensures pcm_disabled items motion marked in
     with_edge _ _ _ _ _ _ _ _ c.if-is_edge.true c.is_edge.ensures transform prediction
-    (strength_same _ _ _ _ _ _ _ _ _ _ _ _ c.strength.ensures c.is_coded.ensures transform before behind
-    c.motion-p.ensures c.motion-q.ensures)
+    (strength_same _ _ _ _ _ _ _ _ _ _ _ _ c.strength_behind.ensures c.is_coded-coded.ensures transform before behind
+    refl c.requires.motion)
 
 pub returns-else-is_edge : goal.returns-else-is_edge
 unfolding top_strength

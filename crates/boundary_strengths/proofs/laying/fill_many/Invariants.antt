@@ -1,5 +1,5 @@
 use Rattle.std.proofs.Common.{◌≡◌, ℕ, cond, nat_le, nat_lt, ◌&&◌, slice_index_or}
-use Rattle.boundary_strengths.proofs.laying.fill.Given as goal
+use Rattle.boundary_strengths.proofs.laying.fill_many.Given as goal
 
 abbrev pub invariant-loop-k : goal.invariant-loop-k
 invariant-loop-k g l = (q : ℕ) (d : g.row.T.Denot)
