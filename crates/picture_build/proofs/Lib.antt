@@ -8,3 +8,5 @@ pub mod Referring
 pub mod Deriving
 pub mod Added
 pub mod Work
+pub mod Eights
+pub mod InnerRows

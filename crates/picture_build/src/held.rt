@@ -7,6 +7,7 @@ ghost use Rattle.inter_pred.specs.Passes.{at, IsByte};
 ghost use Rattle.picture_buffer.specs.Planes.{plane_height, plane_width};
 ghost use Rattle.picture_build.specs.Referring.{held_sample};
 
+use crate::inside::{first_inside, inner_lines};
 use inter_pred::{Window, clamped, held_line};
 use picture_buffer::Planes;
 
@@ -25,13 +26,41 @@ pub(crate) fn component_window(planes: &Planes, greatest: u16, from: Window, out
         → All IsByte out.old → All IsByte out.new }
 {
     match from.component {
-        0 => held_window(planes, 0, greatest, from, out),
-        1 => held_window(planes, 1, greatest, from, out),
-        _ => held_window(planes, 2, greatest, from, out),
+        0 => window_of(planes, 0, greatest, from, out),
+        1 => window_of(planes, 1, greatest, from, out),
+        _ => window_of(planes, 2, greatest, from, out),
     }
 }
 
-/// The same of component `c`.
+/// The same of component `c`. Most windows lie inside it, and have one of a few widths.
+#[inline(always)]
+fn window_of(planes: &Planes, c: usize, greatest: u16, from: Window, out: &mut [u16; 5112])
+    requires component { c < 3 }
+    requires columns { (0 < plane_width planes.now c) × (plane_width planes.now c ≤ 65536) }
+    requires rows { (0 < plane_height planes.now c) × (plane_height planes.now c ≤ 65536) }
+    requires size { (from.width ≤ 71) × (from.height ≤ 71) }
+    requires place { (from.x ≤ℤ pos 1073741824) × (from.y ≤ℤ pos 1073741824) }
+    ensures value { (i j : ℕ) → i < from.width → j < from.height
+        → at out.new (72 * j + i) ≡ held_sample planes.now c greatest (from.x +ℤ pos i) (from.y +ℤ pos j) }
+    ensures bytes { ((x y : ℤ) → held_sample planes.now c greatest x y < 256)
+        → All IsByte out.old → All IsByte out.new }
+{
+    match first_inside(planes, c, from) {
+        Some(first) => match from.width {
+            8 => inner_lines::<8>(planes, c, greatest, from, first, out),
+            16 => inner_lines::<16>(planes, c, greatest, from, first, out),
+            24 => inner_lines::<24>(planes, c, greatest, from, first, out),
+            32 => inner_lines::<32>(planes, c, greatest, from, first, out),
+            40 => inner_lines::<40>(planes, c, greatest, from, first, out),
+            64 => inner_lines::<64>(planes, c, greatest, from, first, out),
+            71 => inner_lines::<71>(planes, c, greatest, from, first, out),
+            _ => held_window(planes, c, greatest, from, out),
+        },
+        None => held_window(planes, c, greatest, from, out),
+    }
+}
+
+/// The same line by line, wherever the window lies.
 #[inline(always)]
 fn held_window(planes: &Planes, c: usize, greatest: u16, from: Window, out: &mut [u16; 5112])
     requires component { c < 3 }

@@ -8,6 +8,7 @@ mod builder;
 mod factors;
 mod format;
 mod held;
+mod inside;
 mod lines;
 mod picture;
 mod references;
