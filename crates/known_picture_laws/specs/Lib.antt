@@ -1,0 +1,5 @@
+pub mod Order
+pub mod Decoded
+pub mod Reading
+pub mod FilterData
+pub mod Steps

@@ -1,0 +1,11 @@
+-- Units of a picture in the order of their addresses.
+use Rattle.std.specs.Prelude.{◌≡◌, ◌<◌, ◌∷◌, ◌++◌, List, All}
+use Rattle.spec_picture_trees.specs.Picture.{TreeUnit}
+
+-- a unit is one of these: those with lower addresses stand before it, those with higher ones behind it
+pub record IsInOrder (units : List TreeUnit) (unit : TreeUnit) : Type 0 where
+  pub before : List TreeUnit
+  pub later : List TreeUnit
+  pub is : units ≡ before ++ unit ∷ later
+  pub earlier : All (λ (u : TreeUnit). u.ctu < unit.ctu) before
+  pub behind : All (λ (u : TreeUnit). unit.ctu < u.ctu) later

@@ -1,0 +1,5 @@
+pub mod Pictures
+pub mod References
+pub mod Phases
+pub mod Rows
+pub mod Words
