@@ -1,0 +1,14 @@
+pub mod Lists
+pub mod Pictures
+pub mod Bad
+pub mod Stops
+pub mod Having
+pub mod Sound
+pub mod SoundRows
+pub mod Names
+pub mod Range
+pub mod Halves
+pub mod Border
+pub mod Building
+pub mod Reaching
+pub mod Filtering
