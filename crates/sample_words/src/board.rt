@@ -132,7 +132,7 @@ impl Layout {
 
     /// The words of the samples of a block of so many luma samples across and down.
     #[tactic(auto, unfolding(crate::specs::Sizes::sample_words))]
-    fn sample_words(&self, width: u64, height: u64) -> u64
+    pub(crate) fn sample_words(&self, width: u64, height: u64) -> u64
         requires width { width ≤ 8192 }
         requires height { height ≤ 64 }
         ensures value { result ≡ sample_words self.now width height }
@@ -335,7 +335,7 @@ impl Layout {
     }
 
     /// How many lines of luma samples a line of the flight has.
-    fn line_height(&self, line: Line) -> u64
+    pub(crate) fn line_height(&self, line: Line) -> u64
         requires { IsLine self.now line }
         ensures value { result ≡ height_of self.now line.row }
         ensures few { result ≤ 64 }

@@ -10,6 +10,7 @@ mod offsets;
 mod samples;
 mod sizes;
 mod unit_content;
+mod unit_shape;
 mod unit_word;
 mod vectors;
 
@@ -23,5 +24,6 @@ pub use modes::{PlaceModes, pack_modes, unpack_modes};
 pub use offsets::{pack_offsets, unpack_offsets};
 pub use sizes::FlightSizes;
 pub use unit_content::UnitContent;
+pub use unit_shape::UnitShape;
 pub use unit_word::{UnitWord, WordOwner};
 pub use vectors::{pack_vectors, unpack_motion};
