@@ -1,3 +1,4 @@
+pub mod Drawn
 pub mod Hexadecimal
 pub mod Makings
 pub mod Numbers

@@ -2,6 +2,7 @@
 #![tactic(auto)]
 
 mod growing_sink;
+mod laws;
 mod line;
 mod line_text;
 mod program;

@@ -1,17 +1,22 @@
 //! One run of the program: its words, its source, its sinks and its exit status.
 
-ghost use Rattle.std.specs.Prelude.{◌≡◌, ◌⊎◌, ◌∷◌, [], ◌++◌, None, Some, codes};
+ghost use Rattle.std.specs.Prelude.{◌≡◌, ◌⊎◌, ◌∷◌, [], ◌++◌, Bool, true, None, Some, codes};
 ghost use Rattle.hv_base.specs.declared.outcome.Outcome.{Outcome};
 ghost use Rattle.hv_base.specs.Text.{status_of, outcome_line};
+ghost use Rattle.spec_decoder.specs.Decoder.{decoded};
 ghost use Rattle.decoder.specs.Headline.{Headline, IsComplete, change_of};
 ghost use Rattle.decoder.specs.Options.{IsInRange};
 ghost use Rattle.decoder.specs.declared.options.Options.{Options};
 ghost use Rattle.command_line.specs.declared.request.MakeOptions.{MakeOptions};
 ghost use Rattle.command_line.specs.declared.request.Request.TheVariants.{Decode, Make};
-ghost use Rattle.command_line.specs.Making.{Makes, MakesStream, stream_of};
+ghost use Rattle.spec_drawn_pictures.specs.Shown.{bytes_shown};
+ghost use Rattle.made_drawing_laws.specs.Decoded.{IsAsDrawn};
+ghost use Rattle.command_line.specs.Making.{Makes, MakesStream, decoded_of, stream_of};
+ghost use Rattle.command_line.specs.Summary.{summary_line, summary_of};
 ghost use Rattle.command_line.specs.Telling.{IsUntouched, Tells};
 ghost use Rattle.command_line.specs.Words.{usage_line, words_taken};
 
+use crate::laws::summaries_tell_drawn_pictures;
 use crate::line::{tell, tell_line};
 use crate::request::{MakeOptions, Request};
 use crate::summary::write_summary;
@@ -19,6 +24,7 @@ use crate::words::{USAGE, WordsError, parse_words};
 use decoder::{Options, decode};
 use hv_base::{Outcome, Status};
 use hv_io::{Gate, Sink, Source};
+use made_drawing_laws::made_streams_decode_as_drawn;
 use std::alloc::Global;
 use std::sync::Wait;
 use std::thread::Threads;
@@ -35,7 +41,7 @@ use stream_maker::make;
 ///
 /// `make` writes a stream to `out`, and reads nothing: that of `--seed N` (of 64 bits) with `--pictures K` (1 to 1000).
 /// Both are required. With `--summary` it writes in place of the stream one line `pictures <K> bytes <n> md5 <digits>`,
-/// of what `decode` writes of it.
+/// of what `decode` writes of it: the pictures that are drawn of the seed, which are defined apart from any stream.
 pub fn run<R: Threads + Wait + Sync, S: Source, O: Sink, E: Sink, G: Gate + Sync>(
     _rt: &R,
     alloc: Global,
@@ -73,7 +79,17 @@ pub fn run<R: Threads + Wait + Sync, S: Source, O: Sink, E: Sink, G: Gate + Sync
         × (o : Outcome) × (result.0 ≡ status_of o)
         × Makes (change_of O.contents O.faults out.old out.new) options o
         × Tells (change_of E.contents E.faults err.old err.new) (outcome_line o) }
+
+    // The stream that is asked for is decoded to the pictures that are drawn of its seed, whether stated hashes are
+    // compared or not. So the line that sums it up tells how many bytes these pictures are, and their MD5.
+    ensures drawn { (options : MakeOptions) (hash : Bool) → words_taken words.now ≡ Some (Make options)
+        → IsAsDrawn options.seed options.pictures (decoded hash true (stream_of options)) }
+    ensures summed { (options : MakeOptions) → words_taken words.now ≡ Some (Make options)
+        → summary_of (decoded_of options)
+        ≡ summary_line options.pictures (bytes_shown options.seed options.pictures) }
 {
+    made_streams_decode_as_drawn();
+    summaries_tell_drawn_pictures();
     match parse_words(alloc, words) {
         Ok(Request::Decode(options)) => run_decode(alloc, options, src, out, err),
         Ok(Request::Make(options)) => run_make(alloc, options, out, err),
