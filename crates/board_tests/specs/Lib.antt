@@ -1,0 +1,4 @@
+pub mod Sums
+pub mod Lawful
+pub mod Steps
+pub mod Passes

@@ -1,0 +1,19 @@
+-- A pass of a flight, and one before its work.
+use Rattle.std.specs.Prelude.{◌≡◌, None, false}
+use Rattle.progress_words.specs.declared.pass.Pass.{Pass}
+use Rattle.progress_words.specs.Meanings.{Meaning}
+use Rattle.progress_words.specs.Places.{Place}
+use Rattle.progress_words.specs.Passes.{view, IsPassOf}
+use Rattle.board_tests.specs.declared.flight.Sums.{Sums}
+use Rattle.board_tests.specs.declared.flight.Meant.{Meant}
+use Rattle.board_tests.specs.Sums.{meaning_of}
+
+-- what a flight means
+abbrev pub meaning_in : Sums → Meaning
+meaning_in f = meaning_of f.input.items f.marks.items f.rows f.width
+
+abbrev pub IsOf : Place Meant → Sums → Pass Meant → Type 0
+IsOf b f p = IsPassOf b p × (b.flight.sums.value ≡ f)
+
+abbrev pub IsFresh : Place Meant → Sums → Pass Meant → Type 0
+IsFresh b f p = IsOf b f p × ((view p).job ≡ None) × ((view p).none ≡ false)

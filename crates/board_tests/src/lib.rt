@@ -1,0 +1,13 @@
+//! Made-up flights over a board: rows of units that add up what they read, some of which break a rule, by several
+//! threads.
+#![tactic(auto)]
+
+mod flight;
+mod meant;
+mod worker;
+
+pub use flight::{Meant, Sums};
+pub use worker::{Worker, place_of, sums};
+
+#[cfg(test)]
+mod tests;
