@@ -3,7 +3,7 @@ use Rattle.std.proofs.Common.{◌≡◌, ℕ, suc, ◌+◌, ◌-◌, ◌*◌, �
 use Rattle.std.proofs.Common.{nat_lt}
 use Rattle.std.proofs.Common.{Some, slice_get, if◌then◌else◌, inl, inr, refl, sym, ap, subst, ◌∙◌, arith}
 use Rattle.std.proofs.Math.Nat.{mod-lt, mul-le-mul_left, mul-le-mul_right}
-use Rattle.std.proofs.lemmas.Bool.{and_parts, cases_lt, ltb-true}
+use Rattle.std.proofs.lemmas.Bool.{and_parts, cases_lt, eq-eqb, eqb-true, ltb-true}
 use Rattle.std.proofs.lemmas.Nat.{div-add-mod', mod-mul-add, pow-add, pow_pos}
 use Rattle.hv_base.specs.declared.line.Line.{Line}
 use Rattle.hv_base.specs.declared.line.Phase.TheVariants.{B, V, H, S}
@@ -18,9 +18,10 @@ use Rattle.spec_picture_trees.specs.Shapes.{picture_shape}
 use Rattle.picture_layout.proofs.Sizes.{covers, four, whole_height}
 use Rattle.spec_deblocking.specs.declared.place.Place.{Place}
 use Rattle.spec_loop_filters.specs.declared.format.FilterFormat.{FilterFormat}
-use Rattle.spec_loop_filters.specs.Filters.{height_of, luma_samples, size_of, width_of}
+use Rattle.spec_loop_filters.specs.Filters.{height_of, luma_samples, offset_plane, size_of, width_of}
 use Rattle.filter_locality_laws.specs.Rows.{IsFilterFormat, IsOfRow, IsPlaceOfRow}
 use Rattle.filter_locality_laws.proofs.Rows.{horizontal_row, offset_row, vertical_row}
+use Rattle.spec_picture_filters.specs.Data.{FilterData}
 use Rattle.spec_picture_filters.specs.Filtered.{filter_format, loop_filters}
 use Rattle.spec_picture_build.specs.Border.{Samples, has_sample, unit_side}
 use Rattle.spec_decoded_pictures.specs.Decoded.{DecodedUnits}
@@ -34,9 +35,10 @@ use Rattle.spec_flights.specs.Pictures.{PlannedFlight, folded_at}
 use Rattle.spec_flights.specs.Phases.{horizontal_samples, offset_samples, phase_samples, vertical_samples}
 use Rattle.spec_flights.specs.Rows.{flight_rows}
 use Rattle.flight_unit_laws.specs.Planned.{IsPlanned}
-use Rattle.flight_unit_laws.specs.Uses.{AgreeWhereUsed, SamplesAgreeWhereUsed, UsesTree}
+use Rattle.flight_unit_laws.specs.Uses.{AgreeWhereUsed, AreOfSameSlice, SamplesAgreeWhereUsed, UsesTree}
 use Rattle.flight_unit_laws.proofs.Border.{block_is, not_far}
 use Rattle.flight_unit_laws.proofs.Building.{place_column, sample_column}
+use Rattle.flight_unit_laws.proofs.Offsets.{mixed_by, mixed_is, mixed_offset, mixed_slices, slices_alone}
 use Rattle.flight_unit_laws.proofs.Pictures.{height_is, width_is}
 
 -- at most a block away
@@ -261,14 +263,29 @@ module _ (f : PlannedFlight) (planned : IsPlanned f) (k row : ℕ) (p : PictureP
   -- sample adaptive offset
   module _ (own : AgreeWhereUsed f (line_of S k row) 0 k p (folded_at f k) g) (v : Samples)
       (before : SamplesAgreeWhereUsed f (line_of S k row) H k p (phase_samples p (folded_at f k) H) v)
-      (units : (c column u : ℕ) → row ≤ u + 1 → u ≤ row + 1
-      → (folded_at f k).filters.units c column u ≡ g.filters.units c column u) where
-    pub offset_agrees : (c y z : ℕ) → y < width_of (filter_format p) c → z < height_of (filter_format p) c
+      (slices : (c column u : ℕ) → row ≤ u + 1 → u ≤ row + 1
+      → AreOfSameSlice ((folded_at f k).filters.units c column u) (g.filters.units c column u)) where
+    -- the units of the row itself, and those beside it with their own offsets
+    abbrev mixed : FilterData
+    mixed = record {
+      places = g.filters.places;
+      coded = g.filters.coded;
+      units = λ c column u.
+          mixed_by (u == row) ((folded_at f k).filters.units c column u) (g.filters.units c column u);
+    }
+
+    own_row : (c column u : ℕ) → (u == row) ≡ true
+        → (folded_at f k).filters.units c column u ≡ g.filters.units c column u
+    own_row c column u t =
+        own.units c column u (λ less low.
+        inr (own_unit (line_of S k row) column u refl refl (eqb-true u row t) less))
+
+    mixed_agrees : (c y z : ℕ) → y < width_of (filter_format p) c → z < height_of (filter_format p) c
         → IsOfRow (filter_format p) c row 0 z
-        → phase_samples p (folded_at f k) S c y z ≡ offset_samples p g.filters v c y z
+        → phase_samples p (folded_at f k) S c y z ≡ offset_samples p mixed v c y z
     unfolding phase_samples offset_samples
-    offset_agrees c y z inside low of_row =
-        offset_row (loop_filters p whole.filters) (loop_filters p g.filters)
+    mixed_agrees c y z inside low of_row =
+        offset_row (loop_filters p whole.filters) (loop_filters p mixed)
         (phase_samples p (folded_at f k) H c) (v c) c
         row y z (is_format p in_range) refl
         (λ i s here.
@@ -276,7 +293,9 @@ module _ (f : PlannedFlight) (planned : IsPlanned f) (k row : ℕ) (p : PictureP
         (own.places i s (λ there.
         inr (own_unit (line_of S k row) (i / unit_places (shape p in_range)) (s / unit_places (shape p in_range)) refl
         refl (place_rows p in_range row s here) (place_column p in_range i s there)))))
-        (λ column u up down. units c column u up down)
+        (λ column u up down.
+        mixed_is (u == row) ((folded_at f k).filters.units c column u) (g.filters.units c column u)
+        (own_row c column u) (slices c column u up down))
         (λ i j less under here.
         let beside = sample_rows_beside p in_range c row 1 j (omega arith) here in
         before c i j (λ there.
@@ -289,3 +308,28 @@ module _ (f : PlannedFlight) (planned : IsPlanned f) (k row : ℕ) (p : PictureP
           unit = omega arith;
         })))
         inside low of_row
+
+    -- the row of units of a line
+    row_of_size : (c z : ℕ) → IsOfRow (filter_format p) c row 0 z → z / size_of (filter_format p) c ≡ row
+    row_of_size c z of_row = ap (λ n. z / n) (size_is p in_range c) ∙ sample_rows p in_range c row z of_row
+
+    alone : (c y z : ℕ) → IsOfRow (filter_format p) c row 0 z
+        → offset_samples p mixed v c y z ≡ offset_samples p g.filters v c y z
+    unfolding offset_samples
+    alone c y z of_row =
+        slices_alone (offset_plane (loop_filters p mixed) c) (offset_plane (loop_filters p g.filters) c) (v c) y z refl
+        refl refl
+        (λ i j.
+        mixed_slices (j / size_of (filter_format p) c == row)
+        ((folded_at f k).filters.units c (i / size_of (filter_format p) c) (j / size_of (filter_format p) c))
+        (g.filters.units c (i / size_of (filter_format p) c) (j / size_of (filter_format p) c)))
+        refl
+        (mixed_offset (z / size_of (filter_format p) c == row)
+        ((folded_at f k).filters.units c (y / size_of (filter_format p) c) (z / size_of (filter_format p) c))
+        (g.filters.units c (y / size_of (filter_format p) c) (z / size_of (filter_format p) c))
+        (eq-eqb (z / size_of (filter_format p) c) row (row_of_size c z of_row)))
+
+    pub offset_agrees : (c y z : ℕ) → y < width_of (filter_format p) c → z < height_of (filter_format p) c
+        → IsOfRow (filter_format p) c row 0 z
+        → phase_samples p (folded_at f k) S c y z ≡ offset_samples p g.filters v c y z
+    offset_agrees c y z inside low of_row = mixed_agrees c y z inside low of_row ∙ alone c y z of_row

@@ -11,4 +11,5 @@ pub mod Halves
 pub mod Border
 pub mod Building
 pub mod Reaching
+pub mod Offsets
 pub mod Filtering

@@ -220,9 +220,12 @@ module _ (f : PlannedFlight) (k row x : ℕ) (p : PicturePlan) (has : slice_get 
       second_used t =
           let there : has_stored at.picture at.shape address ≡ true =
           second_of_two (begins_row at.picture address) (has_stored at.picture at.shape address) t in
-          let both = first_of_two _ _ there in
-          let wider : 2 ≤ at.picture.width = leb-true _ _ (first_of_two _ _ both) in
-          let le : at.picture.width ≤ address = leb-true _ _ (second_of_two _ _ both) in
+          let both : (nat_le 2 at.picture.width && nat_le at.picture.width address) ≡ true =
+          first_of_two (nat_le 2 at.picture.width && nat_le at.picture.width address) _ there in
+          let wider : 2 ≤ at.picture.width =
+          leb-true 2 at.picture.width (first_of_two (nat_le 2 at.picture.width) _ both) in
+          let le : at.picture.width ≤ address =
+          leb-true at.picture.width address (second_of_two (nat_le 2 at.picture.width) _ both) in
           let begins : (address % at.picture.width == 0) ≡ true =
           second_of_two at.picture.sync _ (first_of_two (begins_row at.picture address) _ t) in
           let zero_column : address % at.picture.width ≡ 0 = eqb-true (address % at.picture.width) 0 begins in

@@ -8,6 +8,7 @@ use Rattle.header_types.specs.SequenceParameterSets.{ctb_log2, height_in_ctbs, w
 use Rattle.plan_types.specs.declared.picture_plan.PicturePlan.{PicturePlan}
 use Rattle.spec_picture_trees.specs.Places.{has_place, unit_places}
 use Rattle.spec_picture_trees.specs.Shapes.{picture_shape}
+use Rattle.spec_sample_adaptive_offset.specs.declared.unit.OffsetUnit.{OffsetUnit}
 use Rattle.spec_picture_build.specs.Border.{Samples, has_sample, unit_side}
 use Rattle.spec_picture_build.specs.References.{DecodedPicture}
 use Rattle.spec_decoded_pictures.specs.Decoded.{DecodedUnits}
@@ -54,6 +55,11 @@ SamplesAgreeWhereUsed f l phase k p a b =
     → (has_sample (picture_shape p.sps p.pps) c y z ≡ true
     → UnitUses (flight_rows f) l 0 (line_of phase k (z / unit_side (picture_shape p.sps p.pps) c)) 0)
     → a c y z ≡ b c y z
+
+-- two coding tree units are of one slice, as far as sample adaptive offset can tell (8.7.3.2)
+pub record AreOfSameSlice (a b : OffsetUnit) : Type 0 where
+  pub slice : a.slice ≡ b.slice
+  pub across : a.across ≡ b.across
 
 -- two pictures that a name of the buffer before picture p stands for agree where they are used: one of the flight,
 -- whose pictures have the sizes of p, in its final rows and in the motion of its coding tree units

@@ -24,7 +24,7 @@ ghost use Rattle.spec_flights.specs.Rows.{flight_motion, flight_rows, is_sound};
 ghost use Rattle.known_picture_laws.specs.Steps.{AgreeOnUnit};
 ghost use Rattle.flight_unit_laws.specs.Planned.{IsPlanned};
 ghost use Rattle.flight_unit_laws.specs.Stops.{HaveSegments, IsDecodedAt, StopsDecoding};
-ghost use Rattle.flight_unit_laws.specs.Uses.{AgreeWhereUsed, BuffersAgree, SamplesAgreeWhereUsed};
+ghost use Rattle.flight_unit_laws.specs.Uses.{AgreeWhereUsed, AreOfSameSlice, BuffersAgree, SamplesAgreeWhereUsed};
 
 /// A unit of a flight is sound where it isn't bad, and what it needs and the earlier units of its line are sound.
 pub fn units_are_sound_where_needs_are()
@@ -85,7 +85,7 @@ pub fn filter_rows_are_made_from_what_they_use()
         → AgreeWhereUsed f (line_of S k row) 0 k p (folded_at f k) g → (v : Samples)
         → SamplesAgreeWhereUsed f (line_of S k row) H k p (phase_samples p (folded_at f k) H) v
         → ((c column u : ℕ) → row ≤ u + 1 → u ≤ row + 1
-        → (folded_at f k).filters.units c column u ≡ g.filters.units c column u)
+        → AreOfSameSlice ((folded_at f k).filters.units c column u) (g.filters.units c column u))
         → (c y z : ℕ) → y < width_of (filter_format p) c → z < height_of (filter_format p) c
         → IsOfRow (filter_format p) c row 0 z
         → phase_samples p (folded_at f k) S c y z ≡ offset_samples p g.filters v c y z }
