@@ -1,7 +1,6 @@
 -- Which units of a flight are bad.
-use Rattle.std.proofs.Common.{◌≡◌, ℕ, ◌+◌, ◌*◌, ◌<◌, ◌≤◌, Bool, true, false, List, All, Option, Some, None, Result}
-use Rattle.std.proofs.Common.{Ok, Err}
-use Rattle.std.proofs.Common.{is_some, length, get_or, map, take, slice_get, refl, sym, ap, subst, ◌∙◌, arith}
+use Rattle.std.proofs.Common.{◌≡◌, ℕ, ◌+◌, ◌<◌, Bool, true, List, All, Option, Some, None}
+use Rattle.std.proofs.Common.{is_some, length, get_or, map, slice_get, refl, sym, ap, subst, ◌∙◌, arith}
 use Rattle.std.specs.List.{Contains, filter, flat_map, range_with_len}
 use Rattle.std.proofs.lemmas.List.Elements.{All-filter, All-from_get_or, All-map, All-nil, filter_passes}
 use Rattle.std.proofs.lemmas.List.FromFn.{get_or-range_with_len, length-range_with_len}

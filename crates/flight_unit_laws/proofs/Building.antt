@@ -1,9 +1,7 @@
 -- A known unit is decoded from what agrees with the flight's pictures at the units that building it uses.
-use Rattle.std.proofs.Common.{◌≡◌, ◌≢◌, ℕ, zero, suc, ◌+◌, ◌-◌, ◌*◌, ◌/◌, ◌%◌, ◌^◌, ◌<◌, ◌≤◌, ◌⊎◌, ◌==◌, ◌&&◌, ◌||◌}
-use Rattle.std.proofs.Common.{Bool}
-use Rattle.std.proofs.Common.{true, false, List, [], ◌∷◌, ◌++◌, All, map, length, get_or, Option, Some, None, slice_get}
-use Rattle.std.proofs.Common.{nat_le, nat_lt, inl, inr, refl, sym, ap, subst, ◌∙◌, arith}
-use Rattle.std.specs.List.{Contains}
+use Rattle.std.proofs.Common.{◌≡◌, ℕ, ◌+◌, ◌*◌, ◌/◌, ◌%◌, ◌^◌, ◌<◌, ◌≤◌, ◌⊎◌}
+use Rattle.std.proofs.Common.{true, List, length, get_or, Option, Some, None, slice_get}
+use Rattle.std.proofs.Common.{nat_lt, inl, inr, refl, sym, ap, subst, ◌∙◌, arith}
 use Rattle.std.specs.Option.{option_and_then, option_map}
 use Rattle.std.proofs.Math.Nat.{mul-le-mul_left}
 use Rattle.std.proofs.lemmas.Bool.{and_parts, ltb-true}
@@ -12,46 +10,42 @@ use Rattle.std.proofs.lemmas.List.FromFn.{get_or-map-range_with_len}
 use Rattle.std.proofs.lemmas.Nat.{div-mul-add, mod-mul-add, pow_pos}
 use Rattle.std.proofs.lemmas.Option.{slice_get-map, slice_get_cases}
 use Rattle.hv_base.specs.declared.line.Line.{Line}
-use Rattle.hv_base.specs.declared.line.Phase.TheVariants.{B, S}
+use Rattle.hv_base.specs.declared.line.Phase.TheVariants.{B}
 use Rattle.header_types.specs.declared.reference_pictures.RefEntry.{RefEntry}
 use Rattle.header_types.specs.SequenceParameterSets.{IsSps, blocks_across, ctb_log2, height_in_ctbs, size_in_ctbs}
 use Rattle.header_types.specs.SequenceParameterSets.{width_in_ctbs}
 use Rattle.plan_types.specs.declared.picture_plan.PicturePlan.{PicturePlan}
 use Rattle.plan_types.specs.declared.segment_plan.SegmentPlan.{SegmentPlan}
-use Rattle.plan_types.specs.Segments.{address_of}
 use Rattle.spec_slice_data.specs.Residual.{samples_of_place}
 use Rattle.spec_slice_data.specs.Segment.{PictureShape, column_of, row_of}
-use Rattle.spec_picture_trees.specs.Picture.{TreeUnit}
 use Rattle.spec_picture_trees.specs.Places.{first_column, first_row, has_place, unit_places}
 use Rattle.spec_picture_trees.specs.Shapes.{picture_shape, slice_start}
 use Rattle.picture_layout.proofs.Sizes.{covers, whole_width}
 use Rattle.spec_known_units.specs.Known.{KnownUnit, units_known}
 use Rattle.spec_picture_motion.specs.Derived.{collocated_motions}
-use Rattle.spec_picture_motion.specs.Field.{Motions}
 use Rattle.spec_picture_motion.specs.Slices.{collocated_entry}
-use Rattle.spec_picture_build.specs.Border.{has_sample, unit_column, unit_line, unit_side, width_of as samples_wide}
+use Rattle.spec_picture_build.specs.Border.{has_sample, unit_side, width_of as samples_wide}
 use Rattle.spec_picture_build.specs.References.{DecodedPicture, motions_in, motions_of}
 use Rattle.spec_decoded_pictures.specs.Decoded.{DecodedUnits, decoded_by}
 use Rattle.spec_decoder.specs.Decoder.{BufferPicture, kept_as}
 use Rattle.locality_laws.specs.Beside.{SamplesAgreeBeside, is_at_border}
 use Rattle.locality_laws.specs.Motion.{MotionAgreesBeneath, MotionAgreesBeside}
-use Rattle.locality_laws.specs.Needed.{IsHalved}
 use Rattle.locality_laws.proofs.Motion.{some_places}
 use Rattle.locality_laws.proofs.Samples.{some_side}
 use Rattle.flight_plan.specs.Flight.{FlightRows, PictureRows, picture_at}
 use Rattle.flight_plan.specs.declared.row_range.Reference.{Reference}
 use Rattle.flight_plan.specs.declared.row_range.Reference.TheVariants.{Base, Flight}
 use Rattle.board_core.specs.Needs.{collocated_of, unit_in_picture}
-use Rattle.board_core.specs.Places.{IsLine, line_of, width_of}
-use Rattle.board_core.specs.Uses.{Collocated, Reading, UnitUses}
+use Rattle.board_core.specs.Places.{IsLine, line_of}
+use Rattle.board_core.specs.Uses.{Collocated, Reading}
 use Rattle.spec_flights.specs.Pictures.{PlannedFlight, buffer_before, folded_at, known_decoded, pictures_before}
-use Rattle.spec_flights.specs.References.{collocated_at, collocated_by, given_at, named, names_before, picture_named}
+use Rattle.spec_flights.specs.References.{collocated_at, collocated_by, named, names_before, picture_named}
 use Rattle.spec_flights.specs.References.{segment_of}
 use Rattle.spec_flights.specs.Rows.{flight_rows, rows_in}
 use Rattle.known_picture_laws.specs.FilterData.{is_directly_beside, is_place_beside}
 use Rattle.known_picture_laws.proofs.Segments.{has_segment}
 use Rattle.flight_unit_laws.specs.Planned.{IsPlanned}
-use Rattle.flight_unit_laws.specs.Uses.{AgreeWhereUsed, BuffersAgree, NamedAgree, PicturesAgree, UsesTree}
+use Rattle.flight_unit_laws.specs.Uses.{AgreeWhereUsed, BuffersAgree, NamedAgree, UsesTree}
 use Rattle.flight_unit_laws.proofs.Border.{beside_used, block_is, border_used, not_far}
 use Rattle.flight_unit_laws.proofs.Names.{all_named}
 use Rattle.flight_unit_laws.proofs.Pictures.{height_is, rows_are, width_is}

@@ -1,14 +1,13 @@
 -- A row of a loop filter is made from what agrees with the flight's pictures at the units that filtering it uses.
-use Rattle.std.proofs.Common.{◌≡◌, ℕ, suc, ◌+◌, ◌-◌, ◌*◌, ◌/◌, ◌%◌, ◌^◌, ◌<◌, ◌≤◌, ◌==◌, ◌&&◌, Bool, true, false}
+use Rattle.std.proofs.Common.{◌≡◌, ℕ, ◌+◌, ◌-◌, ◌*◌, ◌/◌, ◌%◌, ◌^◌, ◌<◌, ◌≤◌, ◌==◌, Bool, true, false}
 use Rattle.std.proofs.Common.{nat_lt}
-use Rattle.std.proofs.Common.{Some, slice_get, if◌then◌else◌, inl, inr, refl, sym, ap, subst, ◌∙◌, arith}
+use Rattle.std.proofs.Common.{Some, slice_get, if◌then◌else◌, inl, inr, refl, sym, ap, ◌∙◌, arith}
 use Rattle.std.proofs.Math.Nat.{mod-lt, mul-le-mul_left, mul-le-mul_right}
 use Rattle.std.proofs.lemmas.Bool.{and_parts, cases_lt, eq-eqb, eqb-true, ltb-true}
 use Rattle.std.proofs.lemmas.Nat.{div-add-mod', mod-mul-add, pow-add, pow_pos}
 use Rattle.hv_base.specs.declared.line.Line.{Line}
 use Rattle.hv_base.specs.declared.line.Phase.TheVariants.{B, V, H, S}
-use Rattle.header_types.specs.declared.sps.SpsFields.{SpsFields}
-use Rattle.header_types.specs.SequenceParameterSets.{IsSps, ctb_log2, ctb_size, height_in_ctbs, min_cb_log2}
+use Rattle.header_types.specs.SequenceParameterSets.{IsSps, ctb_log2, height_in_ctbs, min_cb_log2}
 use Rattle.header_types.specs.SequenceParameterSets.{width_in_ctbs}
 use Rattle.plan_types.specs.declared.picture_plan.PicturePlan.{PicturePlan}
 use Rattle.spec_slice_data.specs.Residual.{samples_of_place}
@@ -29,13 +28,13 @@ use Rattle.locality_laws.proofs.Motion.{some_places}
 use Rattle.locality_laws.proofs.Samples.{some_side}
 use Rattle.locality_laws.proofs.Widths.{eights_in}
 use Rattle.flight_plan.specs.Flight.{FlightRows, picture_at}
-use Rattle.board_core.specs.Places.{full_count, IsLine, line_of}
-use Rattle.board_core.specs.Uses.{IsOfRow as IsUnitOfRow, IsOfRowsBeside, UnitUses}
+use Rattle.board_core.specs.Places.{line_of}
+use Rattle.board_core.specs.Uses.{IsOfRow as IsUnitOfRow, IsOfRowsBeside}
 use Rattle.spec_flights.specs.Pictures.{PlannedFlight, folded_at}
 use Rattle.spec_flights.specs.Phases.{horizontal_samples, offset_samples, phase_samples, vertical_samples}
 use Rattle.spec_flights.specs.Rows.{flight_rows}
 use Rattle.flight_unit_laws.specs.Planned.{IsPlanned}
-use Rattle.flight_unit_laws.specs.Uses.{AgreeWhereUsed, AreOfSameSlice, SamplesAgreeWhereUsed, UsesTree}
+use Rattle.flight_unit_laws.specs.Uses.{AgreeWhereUsed, AreOfSameSlice, SamplesAgreeWhereUsed}
 use Rattle.flight_unit_laws.proofs.Border.{block_is, not_far}
 use Rattle.flight_unit_laws.proofs.Building.{place_column, sample_column}
 use Rattle.flight_unit_laws.proofs.Offsets.{mixed_by, mixed_is, mixed_offset, mixed_slices, slices_alone}

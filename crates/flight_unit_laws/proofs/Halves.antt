@@ -1,5 +1,5 @@
 -- The pictures of the buffer before each picture of a flight have sides of which chroma has half.
-use Rattle.std.proofs.Common.{◌≡◌, ℕ, zero, suc, ◌<◌, Bool, true, false, List, [], ◌∷◌, ◌++◌, All, Option, Some, None}
+use Rattle.std.proofs.Common.{◌≡◌, ℕ, zero, suc, Bool, true, false, List, [], ◌∷◌, ◌++◌, All, Option, Some, None}
 use Rattle.std.proofs.Common.{slice_get, if◌then◌else◌, refl, arith}
 use Rattle.std.proofs.lemmas.List.Elements.{All-append, All-cons, All-map, All-nil}
 use Rattle.plan_types.specs.declared.picture_plan.PicturePlan.{PicturePlan}

@@ -1,5 +1,5 @@
 -- Sample adaptive offset asks of the units beside a sample's own for their slices alone.
-use Rattle.std.proofs.Common.{◌≡◌, ℕ, ◌+◌, ◌-◌, ◌==◌, Bool, true, false, List, ℤ, if◌then◌else◌, refl, ap, ◌∙◌}
+use Rattle.std.proofs.Common.{◌≡◌, ℕ, ◌+◌, ◌-◌, Bool, true, false, List, ℤ, if◌then◌else◌, refl, ap, ◌∙◌}
 use Rattle.ctu_records.specs.declared.offset.ComponentOffset.{ComponentOffset}
 use Rattle.ctu_records.specs.declared.offset.ComponentOffset.TheVariants.{Off, Band, Edge}
 use Rattle.spec_sample_adaptive_offset.specs.declared.unit.OffsetUnit.{OffsetUnit}

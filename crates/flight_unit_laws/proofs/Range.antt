@@ -1,8 +1,8 @@
 -- A flight as its rows see it is in range, and tells what its vectors reach.
-use Rattle.std.proofs.Common.{◌≡◌, ℕ, zero, suc, ◌+◌, ◌-◌, ◌*◌, ◌/◌, ◌%◌, ◌^◌, ◌<◌, ◌≤◌, List, [], ◌∷◌, ◌++◌, All, map}
-use Rattle.std.proofs.Common.{length, get_or, take, Option, Some, None, slice_get, refl, sym, ap, subst, ◌∙◌, arith}
+use Rattle.std.proofs.Common.{◌≡◌, ℕ, ◌+◌, ◌-◌, ◌*◌, ◌/◌, ◌^◌, ◌<◌, ◌≤◌, List, [], ◌∷◌, All}
+use Rattle.std.proofs.Common.{length, get_or, Option, Some, None, slice_get, refl, sym, ap, subst, ◌∙◌, arith}
 use Rattle.std.proofs.Common.{inl, inr}
-use Rattle.std.specs.List.{Contains, flat_map, range_with_len}
+use Rattle.std.specs.List.{range_with_len}
 use Rattle.std.specs.Option.{option_and_then}
 use Rattle.std.proofs.lemmas.Bool.{cases_lt}
 use Rattle.std.proofs.lemmas.List.Elements.{All-append, All-cons, All-contains_itself, All-from_get_or, All-map}
@@ -12,7 +12,6 @@ use Rattle.std.proofs.lemmas.Nat.{div-add-mod', le-div, pow_pos}
 use Rattle.std.proofs.lemmas.Option.{get_or_from_slice_get, slice_get_cases, slice_get_within}
 use Rattle.std.proofs.Math.Nat.{div-mul-le_self, mod-lt, mul-le-mul_right, pow-le-pow_right}
 use Rattle.hv_base.specs.declared.line.Line.{Line}
-use Rattle.hv_base.specs.declared.line.Phase.TheVariants.{B}
 use Rattle.header_types.specs.declared.reference_pictures.RefEntry.{RefEntry}
 use Rattle.header_types.specs.declared.sps.PictureFormat.{PictureFormat}
 use Rattle.header_types.specs.declared.sps.SpsFields.{SpsFields}
@@ -36,7 +35,7 @@ use Rattle.spec_picture_motion.specs.Slices.{collocated_entry, slice_motion}
 use Rattle.spec_picture_build.specs.References.{DecodedPicture}
 use Rattle.flight_plan.specs.Flight.{IsEarlier, IsFlight, IsInRange, IsNoneOrEarlier, IsTreeUnit, PictureRows}
 use Rattle.flight_plan.specs.Flight.{ReadsEarlier}
-use Rattle.flight_plan.specs.Flight.{picture_at, no_picture}
+use Rattle.flight_plan.specs.Flight.{picture_at}
 use Rattle.flight_plan.specs.declared.row_range.Reference.{Reference}
 use Rattle.flight_plan.specs.declared.row_range.RowRange.{RowRange}
 use Rattle.board_core.specs.declared.predicted_blocks.LumaLines.{LumaLines}

@@ -1,14 +1,14 @@
 -- The rows that the prediction units of a coding tree unit need are among those that building it uses.
-use Rattle.std.proofs.Common.{◌≡◌, ℕ, zero, suc, ◌+◌, ◌-◌, ◌*◌, ◌/◌, ◌%◌, ◌^◌, ◌<◌, ◌≤◌, ◌==◌, ◌⊎◌, Bool, true, false}
-use Rattle.std.proofs.Common.{List, [], ◌∷◌, ◌++◌, All, length, get_or, Option, Some, None, slice_get, if◌then◌else◌}
-use Rattle.std.proofs.Common.{inl, inr, refl, sym, ap, subst, ◌∙◌, arith, ℤ, pos, ◌+ℤ◌, ◌-ℤ◌}
+use Rattle.std.proofs.Common.{◌≡◌, ℕ, ◌+◌, ◌*◌, ◌/◌, ◌^◌, ◌<◌, ◌≤◌, ◌==◌, Bool, true, false}
+use Rattle.std.proofs.Common.{List, All, get_or, Option, Some, None, slice_get, if◌then◌else◌}
+use Rattle.std.proofs.Common.{inl, inr, refl, sym, ap, subst, ◌∙◌, arith}
 use Rattle.std.specs.List.{Contains, flat_map}
 use Rattle.std.proofs.lemmas.Nat.{pow_pos}
 use Rattle.std.proofs.lemmas.Option.{get_or_from_slice_get, slice_get_within}
 use Rattle.hv_base.specs.declared.line.Line.{Line}
 use Rattle.hv_base.specs.declared.line.Phase.TheVariants.{B, S}
 use Rattle.header_types.specs.declared.sps.PictureFormat.{PictureFormat}
-use Rattle.header_types.specs.SequenceParameterSets.{IsSps, ctb_log2, height_in_ctbs, size_in_ctbs, width_in_ctbs}
+use Rattle.header_types.specs.SequenceParameterSets.{ctb_log2, height_in_ctbs, width_in_ctbs}
 use Rattle.plan_types.specs.declared.picture_plan.PicturePlan.{PicturePlan}
 use Rattle.plan_types.specs.declared.segment_plan.SegmentPlan.{SegmentPlan}
 use Rattle.plan_types.specs.Segments.{address_of}
@@ -44,18 +44,18 @@ use Rattle.board_core.specs.declared.predicted_blocks.PredictedBlock.{PredictedB
 use Rattle.board_core.specs.Needs.{unit_in_picture}
 use Rattle.board_core.specs.Places.{IsLine, line_of}
 use Rattle.board_core.specs.Reach.{range_of, reach_of, told_reach}
-use Rattle.board_core.specs.Uses.{Reached, UnitUses}
+use Rattle.board_core.specs.Uses.{Reached}
 use Rattle.board_core.proofs.Reaching.{map_contains}
 use Rattle.spec_flights.specs.Pictures.{PlannedFlight, folded_at, folded_in, known_folded, pictures_before}
 use Rattle.spec_flights.specs.References.{block_by, block_from, blocks_at, blocks_by, blocks_in, given_at, item_blocks}
 use Rattle.spec_flights.specs.References.{known_blocks, known_motion, names_before, segment_blocks}
-use Rattle.spec_flights.specs.Rows.{flight_rows, lines_in, luma_lines}
+use Rattle.spec_flights.specs.Rows.{flight_rows, luma_lines}
 use Rattle.known_picture_laws.specs.Steps.{AgreeOnUnit, ReadsAsPicture}
 use Rattle.known_picture_laws.proofs.Steps.{decoded_by_step}
 use Rattle.flight_unit_laws.specs.Planned.{IsPlanned}
-use Rattle.flight_unit_laws.specs.Uses.{AgreeWhereUsed, BuffersAgree, NamedAgree, PicturesAgree}
+use Rattle.flight_unit_laws.specs.Uses.{AgreeWhereUsed, BuffersAgree, NamedAgree}
 use Rattle.flight_unit_laws.proofs.Border.{not_far}
-use Rattle.flight_unit_laws.proofs.Building.{AtPlace, at_place, coded_beside, edges_beside, motion_beneath}
+use Rattle.flight_unit_laws.proofs.Building.{at_place, coded_beside, edges_beside, motion_beneath}
 use Rattle.flight_unit_laws.proofs.Building.{motions_beside, named_plan, samples_beside}
 use Rattle.flight_unit_laws.proofs.Lists.{in_left, in_pieces, in_right}
 use Rattle.flight_unit_laws.proofs.Pictures.{height_is, width_is}

@@ -1,21 +1,19 @@
 -- A unit of a flight that isn't bad, and whose needs and the earlier units of its line are sound, is sound.
-use Rattle.std.proofs.Common.{◌≡◌, ◌≢◌, ℕ, zero, suc, ◌+◌, ◌-◌, ◌*◌, ◌/◌, ◌%◌, ◌<◌, ◌≤◌, ◌==◌, ◌&&◌, ◌||◌, not, Bool}
-use Rattle.std.proofs.Common.{true, false, nat_eq, nat_le, nat_lt, min, List, [], ◌∷◌, ◌++◌, All, length, get_or, take}
-use Rattle.std.proofs.Common.{Option, Some, None, is_some, Result, Ok, Err, slice_get, if◌then◌else◌, inl, inr}
+use Rattle.std.proofs.Common.{◌≡◌, ◌≢◌, ℕ, zero, suc, ◌+◌, ◌-◌, ◌*◌, ◌%◌, ◌<◌, ◌≤◌, ◌==◌, ◌&&◌, ◌||◌, not, Bool}
+use Rattle.std.proofs.Common.{true, false, nat_eq, nat_le, nat_lt, min, List, [], ◌∷◌, ◌++◌, All}
+use Rattle.std.proofs.Common.{Some, None, is_some, Result, Ok, Err, slice_get, if◌then◌else◌, inl, inr}
 use Rattle.std.proofs.Common.{refl, sym, ap, subst, ◌∙◌, arith, lt-ltb}
-use Rattle.std.specs.List.{list_all, range_with_len}
+use Rattle.std.specs.List.{list_all}
 use Rattle.std.proofs.lemmas.Bool.{and_from, cases_lt, eq-eqb, eqb-true, leb-true, ltb-true, ne_eqb}
 use Rattle.std.proofs.lemmas.List.Elements.{All-head}
 use Rattle.std.proofs.lemmas.List.Folds.{list_all-append}
-use Rattle.std.proofs.lemmas.List.FromFn.{get_or-map-range_with_len, length-map-range_with_len}
 use Rattle.std.proofs.lemmas.Nat.{mod-mul-add}
 use Rattle.hv_base.specs.declared.breach.Breach.{Breach}
 use Rattle.hv_base.specs.declared.line.Line.{Line}
-use Rattle.hv_base.specs.declared.line.Phase.{Phase}
-use Rattle.hv_base.specs.declared.line.Phase.TheVariants.{B, V, H, S}
+use Rattle.hv_base.specs.declared.line.Phase.TheVariants.{B}
 use Rattle.header_types.specs.SequenceParameterSets.{height_in_ctbs, size_in_ctbs, width_in_ctbs}
 use Rattle.plan_types.specs.declared.picture_plan.PicturePlan.{PicturePlan}
-use Rattle.spec_slice_data.specs.Segment.{begins_row, has_above, has_left, has_stored, is_first, unit_step}
+use Rattle.spec_slice_data.specs.Segment.{begins_row, has_above, has_left, has_stored, unit_step}
 use Rattle.spec_picture_trees.specs.Picture.{SegmentAt}
 use Rattle.spec_picture_trees.specs.Shapes.{picture_shape}
 use Rattle.spec_known_units.specs.Known.{KnownUnit, behind_step, between_from, entries_before, goes_on, if_used}
@@ -24,24 +22,21 @@ use Rattle.spec_known_units.specs.Known.{picture_segments, read_in, read_uses, s
 use Rattle.spec_known_units.specs.Known.{units_known}
 use Rattle.known_unit_laws.proofs.Beside.{first_of_two, second_of_two}
 use Rattle.known_unit_laws.proofs.Entries.{known_step}
-use Rattle.flight_plan.specs.Flight.{FlightRows, picture_at, units_of}
-use Rattle.board_core.specs.Places.{full_count, IsLine, line_of, unit_of, width_of}
-use Rattle.board_core.specs.Needs.{above_needs, build_needs, collocated_of, phase_needs, reach_needs, row_needs}
-use Rattle.board_core.specs.Needs.{rows_needs}
+use Rattle.flight_plan.specs.Flight.{FlightRows, picture_at}
+use Rattle.board_core.specs.Places.{IsLine, line_of, unit_of, width_of}
+use Rattle.board_core.specs.Needs.{above_needs, collocated_of, reach_needs, row_needs}
 use Rattle.board_core.specs.Needs.{unit_needs}
-use Rattle.board_core.specs.SoundUnits.{AreNeedsSound, AreSoundTo, IsSoundness}
+use Rattle.board_core.specs.SoundUnits.{AreNeedsSound, AreSoundTo}
 use Rattle.board_core.specs.States.{IsBad}
-use Rattle.board_core.proofs.Counting.{left_part, right_part}
+use Rattle.board_core.proofs.Counting.{left_part}
 use Rattle.board_core.proofs.Order.{within_rows}
 use Rattle.spec_flights.specs.Pictures.{PlannedFlight}
-use Rattle.spec_flights.specs.Rows.{are_rows_known, broken_at, broken_by, flight_rows, is_row_known, is_sound}
+use Rattle.spec_flights.specs.Rows.{broken_at, broken_by, flight_rows, is_sound}
 use Rattle.spec_flights.specs.Rows.{is_sound_of}
 use Rattle.spec_flights.specs.Rows.{unit_number}
-use Rattle.flight_unit_laws.specs.Stops.{HaveSegments}
 use Rattle.flight_unit_laws.proofs.Bad.{bad_has}
 use Rattle.flight_unit_laws.proofs.Having.{unit_has_segment}
-use Rattle.flight_unit_laws.proofs.Lists.{all_range, each_range}
-use Rattle.flight_unit_laws.proofs.Pictures.{has_plan, height_is, sync_is, width_is}
+use Rattle.flight_unit_laws.proofs.Pictures.{height_is, sync_is, width_is}
 
 all_if : (test : ℕ → Bool) (used : Bool) (a : ℕ) → (used ≡ true → test a ≡ true) → list_all test (if_used used a) ≡ true
 all_if test true a h = and_from (test a) true (h refl) refl

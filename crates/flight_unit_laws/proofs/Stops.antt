@@ -1,6 +1,6 @@
 -- The least bad unit of a flight is where sequential decoding stops.
-use Rattle.std.proofs.Common.{◌≡◌, ◌≢◌, ℕ, ◌+◌, ◌*◌, ◌<◌, ◌≤◌, Bool, true, false, List, [], Option, Some, None, Result}
-use Rattle.std.proofs.Common.{Ok, Err, is_some, length, take, slice_get, get_or, refl, sym, ap, subst, ◌∙◌, arith}
+use Rattle.std.proofs.Common.{◌≡◌, ℕ, ◌*◌, ◌<◌, ◌≤◌, true, Option, Some, None, Result}
+use Rattle.std.proofs.Common.{Ok, Err, is_some, length, slice_get, refl, sym, ap, ◌∙◌, arith}
 use Rattle.std.proofs.Common.{inl, inr}
 use Rattle.std.proofs.lemmas.Bool.{cases_lt}
 use Rattle.std.proofs.lemmas.Option.{slice_get_within}
@@ -12,13 +12,13 @@ use Rattle.spec_known_units.specs.Known.{KnownUnit, known_of, unit_read, units_k
 use Rattle.known_unit_laws.proofs.Entries.{known_step}
 use Rattle.spec_picture_build.specs.References.{DecodedPicture}
 use Rattle.spec_decoded_pictures.specs.Decoded.{picture_decoded}
-use Rattle.flight_plan.specs.Flight.{no_picture, picture_at, picture_units, units_of}
+use Rattle.flight_plan.specs.Flight.{picture_at, picture_units}
 use Rattle.board_core.specs.Runs.{IsLeastBad}
 use Rattle.board_core.specs.States.{IsBad}
 use Rattle.board_core.proofs.Order.{before_more}
 use Rattle.spec_flights.specs.Pictures.{PlannedFlight, known_decoded, pictures_before}
 use Rattle.spec_flights.specs.Rows.{broken_at, broken_by, flight_rows, picture_rows, unit_number}
-use Rattle.known_picture_laws.specs.Decoded.{IsDecodedAsKnown, IsDecodedWhole, IsFirstBad}
+use Rattle.known_picture_laws.specs.Decoded.{IsDecodedAsKnown, IsFirstBad}
 use Rattle.known_picture_laws.proofs.Reading.{as_known}
 use Rattle.flight_unit_laws.specs.Stops.{HaveSegments, IsBadUnit, IsDecodedAt, StopsDecoding}
 use Rattle.flight_unit_laws.proofs.Bad.{bad_has, bad_is}

@@ -1,5 +1,5 @@
 -- Where the decoding of a flight stops.
-use Rattle.std.specs.Prelude.{◌≡◌, ◌≢◌, ◌<◌, ℕ, List, [], Some, Ok, Err, slice_get}
+use Rattle.std.specs.Prelude.{◌≡◌, ◌≢◌, ◌<◌, ℕ, [], Some, Ok, Err, slice_get}
 use Rattle.hv_base.specs.declared.breach.Breach.{Breach}
 use Rattle.header_types.specs.SequenceParameterSets.{size_in_ctbs}
 use Rattle.plan_types.specs.declared.picture_plan.PicturePlan.{PicturePlan}
