@@ -20,7 +20,7 @@ pub enum FaultKind {
     ParamSyntax,
     /// A field of a parameter set is out of range (7.4.3).
     ParamRange,
-    /// A parameter set needs another profile than Main (A.3.2).
+    /// A sequence parameter set needs another profile than Main or Main 10 (A.3.2, A.3.3).
     Profile,
     /// A slice names a parameter set that was never accepted (7.4.7.1).
     MissingSet,
