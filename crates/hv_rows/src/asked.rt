@@ -10,6 +10,7 @@ use std::alloc::{AllocError, Global};
 pub(crate) struct Asked {
     form: Form,
     hash: bool,
+    workers: u32,
     ahead: u32,
 }
 
@@ -22,6 +23,7 @@ impl Asked {
         let mut asked = Asked {
             form,
             hash: true,
+            workers: 4,
             ahead: 4,
         };
         let mut before = "";
@@ -37,10 +39,10 @@ impl Asked {
         if word == "--no-hash" {
             self.hash = false;
         }
-        if before == "--ahead" {
-            self.ahead = number_of(word)?;
+        if let Some(number) = value_of("--workers", before, word) {
+            self.workers = number_of(number)?;
         }
-        if let Some(number) = word.strip_prefix("--ahead=") {
+        if let Some(number) = value_of("--ahead", before, word) {
             self.ahead = number_of(number)?;
         }
         Ok(())
@@ -51,7 +53,7 @@ impl Asked {
         Session::new(
             alloc,
             Options {
-                workers: 4,
+                workers: self.workers.max(1).min(64),
                 ahead: self.ahead.max(1).min(16),
                 hash: self.hash,
                 form: self.form,
@@ -63,6 +65,14 @@ impl Asked {
     pub(crate) fn ahead(self) -> u32 {
         self.ahead
     }
+}
+
+/// What a word behind another gives to the option of a name: it stands behind the name, or behind the name and a sign.
+fn value_of<'a>(name: &str, before: &str, word: &'a str) -> Option<&'a str> {
+    if before == name {
+        return Some(word);
+    }
+    word.strip_prefix(name)?.strip_prefix("=")
 }
 
 /// What is written of each picture, by the first of the words; `None` where they don't decode.

@@ -150,11 +150,12 @@ pub(crate) fn number_of(text: &str) -> Result<u32, RowError> {
     }
 }
 
-/// The words of a command line; none for `-`.
-pub(crate) fn words_of(alloc: Global, text: &str) -> Result<Vec<String>, RowError> {
+/// The words of a command line, in which `each` stands for this word; none for `-`.
+pub(crate) fn words_of(alloc: Global, text: &str, each: &str) -> Result<Vec<String>, RowError> {
     let mut words = Vec::new(alloc);
     for word in text.split_whitespace() {
         if word != "-" {
+            let word = if word == "each" { each } else { word };
             words.push(String::from_str(alloc, word)?)?;
         }
     }

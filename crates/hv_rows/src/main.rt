@@ -4,6 +4,8 @@
 
 mod asked;
 mod byte_text;
+mod ends;
+mod made_stream;
 mod outcome_text;
 mod plan_row;
 mod pushes;

@@ -1,6 +1,8 @@
 //! What a row says of the bytes of the output.
 
 use crate::byte_text::{bytes_of, number_of};
+use crate::ends::is_front;
+use crate::made_stream::made_stream;
 use crate::row_error::RowError;
 use md5::{Digest, Md5};
 use std::alloc::Global;
@@ -16,7 +18,7 @@ pub(crate) enum RowOutput {
 }
 
 impl RowOutput {
-    /// The output of a column: `-` for none, `grey N`, `md5 DIGITS`, `lines A, B`, or its bytes.
+    /// The output of a column: `-` for none, `grey N`, `md5 DIGITS`, `lines A, B`, a stream of a seed, or its bytes.
     pub(crate) fn read(alloc: Global, text: &str) -> Result<RowOutput, RowError> {
         match text.split_once(' ') {
             Some((kind, rest)) => output_of_kind(alloc, kind, rest),
@@ -38,6 +40,15 @@ impl RowOutput {
             RowOutput::Md5(wanted) => is_md5(alloc, wanted.as_str(), bytes),
         }
     }
+
+    /// Whether these bytes are a front of it such as so many writes leave, each of at most a piece. No output but bytes
+    /// is told so.
+    pub(crate) fn is_left_by(&self, bytes: &[u8], calls: u32, piece: u32) -> bool {
+        match self {
+            RowOutput::Bytes(wanted) => is_front(wanted.as_slice(), bytes, calls, piece),
+            RowOutput::Grey(_) | RowOutput::Md5(_) => false,
+        }
+    }
 }
 
 /// The output that isn't written as its bytes.
@@ -46,6 +57,7 @@ fn output_of_kind(alloc: Global, kind: &str, rest: &str) -> Result<RowOutput, Ro
         "grey" => Ok(RowOutput::Grey(number_of(rest)?)),
         "md5" => Ok(RowOutput::Md5(String::from_str(alloc, rest)?)),
         "lines" => Ok(RowOutput::Bytes(bytes_of_lines(alloc, rest)?)),
+        "made" => Ok(RowOutput::Bytes(made_stream(alloc, rest)?)),
         _ => Err(RowError::Unreadable),
     }
 }

@@ -2,6 +2,8 @@
 
 use crate::asked::Asked;
 use crate::byte_text::{UnitNames, name_and_columns, number_of, words_of};
+use crate::ends::{Ends, ROOM, Turning, is_front};
+use crate::made_stream::stream_of_seed;
 use crate::outcome_text::outcome_text;
 use crate::pushes::{Pieces, PushedEnd, push_pieces};
 use crate::row_error::RowError;
@@ -13,23 +15,12 @@ use hv_io::{MemSink, MemSource, OpenGate};
 use std::alloc::Global;
 use std::sync::Wait;
 use std::thread::Threads;
-use stream_maker::make;
-
-/// How many bytes a sink takes where a row doesn't say it.
-const ROOM: usize = 1 << 20;
 
 /// The sizes of pieces with which a row without faulty ends is run.
 const PIECES: [u32; 3] = [1, 7, 65_536];
 
-/// The pieces in which the source and the sinks work, the bytes that the output takes, and the calls that fail.
-#[derive(Drop)]
-struct Ends {
-    piece: Option<u32>,
-    room: usize,
-    reads: Vec<u64>,
-    writes: Vec<u64>,
-    tells: Vec<u64>,
-}
+/// The numbers of workers for which `each` stands.
+const WORKERS: [&str; 3] = ["1", "2", "8"];
 
 /// What a row is run on.
 #[derive(Drop)]
@@ -75,7 +66,8 @@ pub(crate) fn run_rows<R: Threads + Wait + Sync>(
     let mut names = UnitNames::new(alloc);
     for line in table.lines() {
         if names.is_row(line)? {
-            run_row(rt, alloc, &names, line, tally)?;
+            tally.add_row();
+            run_by_workers(rt, alloc, &names, columns_of(line)?, tally)?;
         }
     }
     Ok(())
@@ -96,10 +88,32 @@ fn columns_of(line: &str) -> Result<Columns<'_>, RowError> {
     })
 }
 
-/// The row of its columns.
-fn row_of(alloc: Global, names: &UnitNames<'_>, columns: Columns<'_>) -> Result<RunRow, RowError> {
-    let input = input_of(alloc, names, columns)?;
-    let is_whole = input.ends.tells.is_empty();
+/// Runs the row of these columns with each number of workers, where its words have `each`.
+fn run_by_workers<R: Threads + Wait + Sync>(
+    rt: &R,
+    alloc: Global,
+    names: &UnitNames<'_>,
+    columns: Columns<'_>,
+    tally: &mut Tally,
+) -> Result<(), RowError> {
+    if !columns.words.contains("each") {
+        return run_row(rt, alloc, names, columns, "", tally);
+    }
+    for workers in WORKERS {
+        run_row(rt, alloc, names, columns, workers, tally)?;
+    }
+    Ok(())
+}
+
+/// The row of its columns, with so many workers.
+fn row_of(
+    alloc: Global,
+    names: &UnitNames<'_>,
+    columns: Columns<'_>,
+    workers: &str,
+) -> Result<RunRow, RowError> {
+    let input = input_of(alloc, names, columns, workers)?;
+    let is_whole = input.ends.is_told_whole();
     let end = end_of(alloc, columns, is_whole)?;
     Ok(RunRow { input, end })
 }
@@ -109,29 +123,19 @@ fn input_of(
     alloc: Global,
     names: &UnitNames<'_>,
     columns: Columns<'_>,
+    workers: &str,
 ) -> Result<RunInput, RowError> {
-    let words = words_of(alloc, columns.words)?;
+    let words = words_of(alloc, columns.words, workers)?;
     let bytes = bytes_of_stream(alloc, names, columns.stream)?;
-    let ends = ends_of(alloc, columns.ends)?;
+    let ends = Ends::read(alloc, columns.ends)?;
     Ok(RunInput { words, bytes, ends })
 }
 
-/// The bytes of a stream: of a made one behind `made`, else of its units.
+/// The bytes of a stream: of one that is made of a seed, or of its units.
 fn bytes_of_stream(alloc: Global, names: &UnitNames<'_>, text: &str) -> Result<Vec<u8>, RowError> {
-    match text.strip_prefix("made ") {
-        Some(seed_and_count) => made_stream(alloc, seed_and_count),
+    match stream_of_seed(alloc, text)? {
+        Some(bytes) => Ok(bytes),
         None => names.stream_of(alloc, text),
-    }
-}
-
-/// The stream of a seed with so many pictures.
-fn made_stream(alloc: Global, text: &str) -> Result<Vec<u8>, RowError> {
-    let (seed, count) = text.split_once(' ').unwrap_or((text, ""));
-    let seed = u64::from(number_of(seed)?);
-    let mut out = MemSink::new(alloc, ROOM, ROOM, &[])?;
-    match make(alloc, seed, number_of(count)?, &mut out) {
-        Outcome::Ok => Ok(Vec::from_slice(alloc, out.bytes())?),
-        _ => Err(RowError::Unreadable),
     }
 }
 
@@ -146,22 +150,38 @@ fn end_of(alloc: Global, columns: Columns<'_>, is_whole: bool) -> Result<RunEnd,
     })
 }
 
-/// Runs the row of a line in each size of pieces.
+/// Runs the row of these columns in each size of pieces.
 fn run_row<R: Threads + Wait + Sync>(
     rt: &R,
     alloc: Global,
     names: &UnitNames<'_>,
-    line: &str,
+    columns: Columns<'_>,
+    workers: &str,
     tally: &mut Tally,
 ) -> Result<(), RowError> {
-    let columns = columns_of(line)?;
-    let row = row_of(alloc, names, columns)?;
-    tally.add_row();
+    let mut row = row_of(alloc, names, columns, workers)?;
     for piece in pieces_of(row.input.ends.piece) {
         if piece != 0 {
-            tally.add_run(columns.name, difference(rt, alloc, &row, piece)?)?;
-            push_row(alloc, columns.name, &row, piece, tally)?;
+            run_turns(rt, alloc, columns.name, &mut row, piece, tally)?;
         }
+    }
+    Ok(())
+}
+
+/// Runs each turn of a row in these pieces.
+fn run_turns<R: Threads + Wait + Sync>(
+    rt: &R,
+    alloc: Global,
+    name: &str,
+    row: &mut RunRow,
+    piece: u32,
+    tally: &mut Tally,
+) -> Result<(), RowError> {
+    let (first, last) = row.input.ends.numbers();
+    for number in first..=last {
+        row.input.ends.turn_to(number)?;
+        tally.add_run(name, difference(rt, alloc, row, piece)?)?;
+        push_row(alloc, name, row, piece, tally)?;
     }
     Ok(())
 }
@@ -171,48 +191,6 @@ fn pieces_of(own: Option<u32>) -> [u32; 3] {
     match own.unwrap_or(0) {
         0 => PIECES,
         own => [own, 0, 0],
-    }
-}
-
-/// Faulty ends: `by=N` for pieces of N bytes; `room=N` for an output of N bytes; `read=N`, `write=N` and `tell=N` for a
-/// failing call of the source, of the output and of the error sink, from 0; `-` for none.
-fn ends_of(alloc: Global, text: &str) -> Result<Ends, RowError> {
-    let mut ends = Ends {
-        piece: None,
-        room: ROOM,
-        reads: Vec::new(alloc),
-        writes: Vec::new(alloc),
-        tells: Vec::new(alloc),
-    };
-    for word in text.split_whitespace() {
-        if word == "-" {
-            break;
-        }
-        ends.take(word)?;
-    }
-    Ok(ends)
-}
-
-impl Ends {
-    /// Takes a word that tells of the pieces, of the output or of a failing call.
-    fn take(&mut self, word: &str) -> Result<(), RowError> {
-        match word.split_once('=') {
-            Some((name, number)) => self.set(name, number_of(number)?),
-            None => Err(RowError::Unreadable),
-        }
-    }
-
-    /// Takes the number that stands behind a name.
-    fn set(&mut self, name: &str, number: u32) -> Result<(), RowError> {
-        match name {
-            "by" => self.piece = Some(number),
-            "room" => self.room = number as usize,
-            "read" => self.reads.push(u64::from(number))?,
-            "write" => self.writes.push(u64::from(number))?,
-            "tell" => self.tells.push(u64::from(number))?,
-            _ => return Err(RowError::Unreadable),
-        }
-        Ok(())
     }
 }
 
@@ -234,7 +212,8 @@ fn difference<R: Threads + Wait + Sync>(
 ) -> Result<Option<String>, RowError> {
     let RunInput { words, bytes, ends } = &row.input;
     let size = (piece as usize).max(1);
-    let mut src = MemSource::new(bytes.as_slice(), size, ends.reads.as_slice());
+    let stream = ends.given(bytes.as_slice());
+    let mut src = MemSource::new(stream, size, ends.reads.as_slice());
     let mut out = MemSink::new(alloc, ends.room, size, ends.writes.as_slice())?;
     let mut err = MemSink::new(alloc, ROOM, size, ends.tells.as_slice())?;
     let Status(status) = run(
@@ -246,7 +225,7 @@ fn difference<R: Threads + Wait + Sync>(
         &mut err,
         &OpenGate,
     );
-    difference_of(alloc, &row.end, piece, status, out.bytes(), err.bytes())
+    difference_of(alloc, row, piece, status, out.bytes(), err.bytes())
 }
 
 /// Pushes the stream of a row into a session, in these pieces. Not where the row doesn't decode, its words are faulty,
@@ -258,7 +237,7 @@ fn push_row(
     piece: u32,
     tally: &mut Tally,
 ) -> Result<(), RowError> {
-    if row.end.status == 1 || !row.input.ends.tells.is_empty() {
+    if row.end.status == 1 || !row.input.ends.is_told_whole() {
         return Ok(());
     }
     match Asked::read(row.input.words.as_slice())? {
@@ -277,7 +256,7 @@ fn pushed_difference(
     let RunInput { bytes, ends, .. } = &row.input;
     let size = (piece as usize).max(1);
     let pieces = Pieces {
-        bytes: bytes.as_slice(),
+        bytes: ends.given(bytes.as_slice()),
         size,
         fails: ends.reads.as_slice(),
     };
@@ -295,7 +274,7 @@ fn pushed_difference(
     }
     let Status(status) = outcome.status();
     let told = line_of(alloc, outcome)?;
-    difference_of(alloc, &row.end, piece, status, out.bytes(), told.as_bytes())
+    difference_of(alloc, row, piece, status, out.bytes(), told.as_bytes())
 }
 
 /// What is told of an outcome: its line, or nothing where all went well.
@@ -307,21 +286,38 @@ fn line_of(alloc: Global, outcome: Outcome) -> Result<String, RowError> {
 /// In what a run in these pieces, which ended so, differs from what its row says.
 fn difference_of(
     alloc: Global,
-    end: &RunEnd,
+    row: &RunRow,
     piece: u32,
     status: u8,
     output: &[u8],
     told: &[u8],
 ) -> Result<Option<String>, RowError> {
-    let is_output = end.output.is(alloc, output)?;
-    let is_status = u32::from(status) == end.status;
-    if is_status && is_output && told == end.told.as_bytes() {
+    let is_status = u32::from(status) == row.end.status;
+    if is_status && is_output(alloc, row, piece, output)? && is_told(row, piece, told) {
         return Ok(None);
     }
     let bytes = output.len();
     let told = String::from_utf8_lossy(alloc, told)?;
+    let number = row.input.ends.number();
     let text = format!(in alloc;
-        "pieces of {piece}: status {status}, {bytes} bytes, told {told:?}"
+        "pieces of {piece}, turn {number}: status {status}, {bytes} bytes, told {told:?}"
     )?;
     Ok(Some(text))
+}
+
+/// Whether the output is that of the row, or a front of it where a write fails in turn.
+fn is_output(alloc: Global, row: &RunRow, piece: u32, output: &[u8]) -> Result<bool, RowError> {
+    match row.input.ends.fails_at(Turning::Write) {
+        Some(calls) => Ok(row.end.output.is_left_by(output, calls, piece)),
+        None => row.end.output.is(alloc, output),
+    }
+}
+
+/// Whether what was told is the line of the row, or a front of it where a write to the error sink fails in turn.
+fn is_told(row: &RunRow, piece: u32, told: &[u8]) -> bool {
+    let line = row.end.told.as_bytes();
+    match row.input.ends.fails_at(Turning::Tell) {
+        Some(calls) => is_front(line, told, calls, piece),
+        None => told == line,
+    }
 }

@@ -98,7 +98,7 @@ fn difference(
 
 /// A session as the words of a row ask for.
 fn session_of(alloc: Global, text: &str) -> Result<Session, RowError> {
-    let words = words_of(alloc, text)?;
+    let words = words_of(alloc, text, "4")?;
     match Asked::read(words.as_slice())? {
         Some(asked) => Ok(asked.session(alloc)?),
         None => Err(RowError::Unreadable),
