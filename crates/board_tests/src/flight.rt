@@ -39,13 +39,14 @@ impl Sums {
         })
     }
 
-    /// The number of rows, and of units in a row.
+    /// The number of rows.
     pub fn rows(&self) -> usize
         ensures { result ≡ self.now.rows }
     {
         self.rows
     }
 
+    /// The number of units in a row.
     pub fn width(&self) -> usize
         ensures { result ≡ self.now.width }
     {
@@ -86,6 +87,7 @@ pub struct Meant {
 }
 
 impl Meant {
+    /// What stands for this flight.
     pub fn of(sums: &Sums) -> Meant
         ensures { result.sums.value ≡ sums.now }
     {
