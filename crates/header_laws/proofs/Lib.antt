@@ -1,4 +1,10 @@
 pub mod Values
+pub mod Weights
+pub mod InterFields
+pub mod Filters
+pub mod References
+pub mod Slices
+pub mod NamedSets
 pub mod Headers
 pub mod PictureSets
 pub mod SequenceSets

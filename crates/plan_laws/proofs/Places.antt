@@ -22,7 +22,8 @@ use Rattle.spec_slice_headers.specs.NamedSets.{Named, named_by}
 use Rattle.spec_slice_headers.specs.SegmentHeader.{slice_header_of, slice_segment_header}
 use Rattle.spec_slice_headers.specs.SegmentStart.{front, is_above, later_place, place}
 use Rattle.spec_picture_plan.specs.Steps.{context_of, first_flag}
-use Rattle.header_laws.proofs.Headers.{are_named, place_id, read_from}
+use Rattle.header_laws.proofs.NamedSets.{are_named}
+use Rattle.header_laws.proofs.Headers.{place_id, read_from}
 use Rattle.header_laws.proofs.Values.{wanted_is}
 
 abbrev R : FieldRules

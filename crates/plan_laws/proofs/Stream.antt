@@ -40,7 +40,8 @@ use Rattle.spec_picture_plan.specs.Planned.{Planned, planned_end, planned_from, 
 use Rattle.spec_picture_plan.proofs.HeaderFacts.{judged_reads}
 use Rattle.plan_laws.specs.Plans.{IsPlan}
 use Rattle.header_laws.specs.Ranges.{AreSets}
-use Rattle.header_laws.proofs.Headers.{header_in_range, named_is}
+use Rattle.header_laws.proofs.NamedSets.{named_is}
+use Rattle.header_laws.proofs.Headers.{header_in_range}
 use Rattle.header_laws.proofs.PictureSets.{picture_set_in_range}
 use Rattle.plan_laws.proofs.Places.{first_is, later_is}
 use Rattle.plan_laws.proofs.Plans.{IsOpen, are_there, continued_is, opened_is, plan_is, slices_in_range}
