@@ -15,6 +15,7 @@ mod predicted_blocks;
 mod search;
 
 pub use core_state::Core;
+pub use drawing_order::line_in;
 pub use event::Event;
 pub use event_needs::needs;
 pub use laws::{

@@ -19,6 +19,11 @@ use Rattle.board_tests.proofs.Layouts.{owner_is, place_inside}
 fed_more : (w n k : ℕ) → min (k + 2) w ≤ n → k < w → k < fed_by w n
 fed_more w n k enough inside = grind (arith, nat_tests)
 
+-- the sum of a unit, of equal parts
+pub sums_up : (x l a x' l' a' s : ℕ) → x ≡ x' → l ≡ l' → a ≡ a' → s ≡ ((x' + l') % 2 ^ 64 + a') % 2 ^ 64
+    → ((x + l) % 2 ^ 64 + a) % 2 ^ 64 ≡ s
+sums_up x l a x' l' a' s e0 e e' is = (λ i. ((e0 i + e i) % 2 ^ 64 + e' i) % 2 ^ 64) ∙ sym is
+
 module _ (xs marks : List ℕ) (rows w : ℕ) (some_width : 0 < w) where
   -- the word of a place
   pub expected_is : (l k j : ℕ) → k < w → j < 2

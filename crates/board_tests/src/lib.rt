@@ -3,10 +3,12 @@
 #![tactic(auto)]
 
 mod flight;
+mod hand;
 mod meant;
 mod worker;
 
 pub use flight::{Meant, Sums};
+pub use hand::{Hand, Stand, Turn};
 pub use worker::{Worker, place_of, sums};
 
 #[cfg(test)]

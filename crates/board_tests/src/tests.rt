@@ -2,8 +2,9 @@ ghost use Rattle.std.specs.Prelude.{◌≡◌, ◌<◌, ◌+◌, ◌*◌, length
 
 use super::*;
 use crate::flight::Sums;
+use crate::hand::{first_unit, steps, sums_by_hand, two_hands};
 use hv_io::OpenGate;
-use progress_words::Words;
+use progress_words::{BoardMemory, Words};
 use std::alloc::Global;
 use std::sync::Wait;
 use std::thread::Threads;
@@ -28,6 +29,21 @@ fn flight_of(alloc: Global, number: u64) -> Option<Sums> {
     let mut marks = Vec::new(alloc);
     for _ in 0..rows {
         marks.push(next(&mut seed) as usize % (3 * width)).ok()?;
+    }
+    Sums::new(input, marks, rows, width)
+}
+
+// A flight of so many rows and columns, of which the row `marked` breaks a rule at its unit 2.
+fn small_flight(alloc: Global, rows: usize, width: usize, marked: usize) -> Option<Sums> {
+    let mut input = Vec::new(alloc);
+    let mut marks = Vec::new(alloc);
+    for row in 0..rows {
+        let mark = if row == marked { 2 } else { width };
+        marks.push(mark).ok()?;
+        for column in 0..width {
+            let number = (row as u64).wrapping_mul(1000).wrapping_add(column as u64);
+            input.push(number).ok()?;
+        }
     }
     Sums::new(input, marks, rows, width)
 }
@@ -62,7 +78,7 @@ fn first_fault(flight: &Sums) -> u64 {
 }
 
 // Whether the words of a row's units before the fault are their values and the numbers after them.
-fn is_row(words: &Words, flight: &Sums, line: usize, row: &[u64], fault: u64) -> bool
+fn is_row(words: &Words<'_>, flight: &Sums, line: usize, row: &[u64], fault: u64) -> bool
     requires line { line < flight.now.rows }
     requires count { length words.now ≡ (8 * flight.now.rows + 16) + flight.now.rows * flight.now.width * 2 }
 {
@@ -79,7 +95,7 @@ fn is_row(words: &Words, flight: &Sums, line: usize, row: &[u64], fault: u64) ->
 }
 
 // Whether a closed board has the first fault and the words before it.
-fn is_closed(alloc: Global, words: &Words, flight: &Sums) -> bool
+fn is_closed(alloc: Global, words: &Words<'_>, flight: &Sums) -> bool
     requires { length words.now ≡ (8 * flight.now.rows + 16) + flight.now.rows * flight.now.width * 2 }
 {
     let fault = first_fault(flight);
@@ -100,7 +116,13 @@ fn is_closed(alloc: Global, words: &Words, flight: &Sums) -> bool
 }
 
 // Whether a flight that so many threads build is left as expected.
-fn is_built<R: Threads + Wait + Sync>(rt: &R, alloc: Global, number: u64, threads: usize) -> bool {
+fn is_built<R: Threads + Wait + Sync>(
+    rt: &R,
+    alloc: Global,
+    memory: &mut BoardMemory,
+    number: u64,
+    threads: usize,
+) -> bool {
     let Some(flight) = flight_of(alloc, number) else {
         return false;
     };
@@ -110,7 +132,7 @@ fn is_built<R: Threads + Wait + Sync>(rt: &R, alloc: Global, number: u64, thread
     if workers.len() > 64 {
         return false;
     }
-    match sums(rt, alloc, &OpenGate, &flight, workers.as_mut_slice()) {
+    match sums(rt, memory, &OpenGate, &flight, workers.as_mut_slice()) {
         Ok(words) => is_closed(alloc, &words, &flight),
         Err(_) => false,
     }
@@ -124,11 +146,66 @@ fn workers_of(alloc: Global, count: usize) -> Option<Vec<Worker>> {
     Some(workers)
 }
 
+// Whether a flight that two passes build, turned by hand in such an order, is left as expected.
+fn is_turned(alloc: Global, flight: Option<Sums>, order: u64) -> bool {
+    let mut memory = BoardMemory::new(alloc);
+    let Some(flight) = flight else {
+        return false;
+    };
+    match sums_by_hand(&mut memory, &flight, order, 1_000) {
+        Some(words) => is_closed(alloc, &words, &flight),
+        None => false,
+    }
+}
+
+// Whether a pass sees the first unit of a flight only once another pass has counted it, and reads its words then.
+fn is_seen_across(alloc: Global) -> bool {
+    let mut memory = BoardMemory::new(alloc);
+    let Some(flight) = small_flight(alloc, 3, 1, 9) else {
+        return false;
+    };
+    let Some((board, mut first, mut second)) = two_hands(&mut memory, &flight) else {
+        return false;
+    };
+    if flight.rows() == 0 {
+        return false;
+    }
+    let lent = board.lend();
+    // It draws the line, looks, adds up, and writes two words.
+    steps(&lent, &flight, &mut first, 5);
+    let before = first_unit(&lent, &flight, &mut second.pass, 0);
+    steps(&lent, &flight, &mut first, 1);
+    let after = first_unit(&lent, &flight, &mut second.pass, 0);
+    before.is_none() && after == Some((0, 1))
+}
+
+#[test]
+fn a_pass_reads_what_another_has_counted(rt: HostRuntime) {
+    assert!(rt; is_seen_across(rt.alloc()));
+}
+
+// By turns, and in runs of several steps.
+const ORDERS: [u64; 4] = [
+    0x5555_5555_5555_5555,
+    0x0f0f_0f0f_0f0f_0f0f,
+    0xe3a9_56c1_7d24_8b3f,
+    0,
+];
+
+#[test]
+fn two_passes_are_turned_by_hand(rt: HostRuntime) {
+    for order in ORDERS {
+        assert!(rt; is_turned(rt.alloc(), small_flight(rt.alloc(), 5, 6, 9), order));
+        assert!(rt; is_turned(rt.alloc(), small_flight(rt.alloc(), 5, 6, 1), order));
+    }
+}
+
 #[test]
 fn closed_boards_are_as_expected(rt: HostRuntime) {
+    let mut memory = BoardMemory::new(rt.alloc());
     for number in 0..3_334 {
-        assert!(rt; is_built(&rt, rt.alloc(), number, 2));
-        assert!(rt; is_built(&rt, rt.alloc(), number, 4));
-        assert!(rt; is_built(&rt, rt.alloc(), number, 8));
+        assert!(rt; is_built(&rt, rt.alloc(), &mut memory, number, 2));
+        assert!(rt; is_built(&rt, rt.alloc(), &mut memory, number, 4));
+        assert!(rt; is_built(&rt, rt.alloc(), &mut memory, number, 8));
     }
 }

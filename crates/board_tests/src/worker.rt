@@ -4,16 +4,16 @@ ghost use Rattle.std.specs.Prelude.{slice_index, length, IfOk, IfSome};
 ghost use Rattle.progress_words.specs.Faults.{unit_in, IsFirstFault};
 ghost use Rattle.progress_words.specs.Core.{fault_in};
 ghost use Rattle.progress_words.specs.Passes.{view, Knows};
-ghost use Rattle.progress_words.specs.Views.{HasEnded};
+ghost use Rattle.progress_words.specs.Views.{HasEnded, opener};
 ghost use Rattle.board_tests.specs.Sums.{value, place, left_of, above_of, fed_units};
 ghost use Rattle.board_tests.specs.Steps.{IsAt, IsSame, IsReady, IsDone, IsGathered};
-ghost use Rattle.board_tests.specs.Passes.{IsOf, IsFresh, meaning_in};
+ghost use Rattle.board_tests.specs.Passes.{IsOf, IsFresh, AreSums, meaning_in};
 ghost use Rattle.std.specs.Thread.{IsSync};
 
 use crate::flight::{Meant, Sums};
 use hv_io::Gate;
-use progress_words::{Board, Pass, Waited, Words};
-use std::alloc::{AllocError, Global};
+use progress_words::{Board, BoardMemory, OpenBoard, Pass, Waited, Words};
+use std::alloc::AllocError;
 use std::sync::Wait;
 use std::thread::{Threads, join};
 
@@ -29,7 +29,7 @@ pub fn place_of(flight: &Sums, line: usize, unit: usize, index: usize) -> usize
 }
 
 // The number of a unit.
-fn number_of(flight: &Sums, line: usize, unit: usize) -> u64
+pub(crate) fn number_of(flight: &Sums, line: usize, unit: usize) -> u64
     requires line { line < flight.now.rows }
     requires unit { unit < flight.now.width }
     ensures { result ≡ line * flight.now.width + unit }
@@ -41,7 +41,7 @@ fn number_of(flight: &Sums, line: usize, unit: usize) -> u64
 fn is_fed<R: Wait, G: Gate>(
     rt: &R,
     gate: &G,
-    board: &Board<Meant>,
+    board: &Board<'_, Meant>,
     flight: &Sums,
     pass: &mut Pass<Meant>,
     line: usize,
@@ -70,8 +70,8 @@ fn is_fed<R: Wait, G: Gate>(
 }
 
 // The value that the unit reads of the row above.
-fn above(
-    board: &Board<Meant>,
+pub(crate) fn above(
+    board: &Board<'_, Meant>,
     flight: &Sums,
     pass: &mut Pass<Meant>,
     line: usize,
@@ -94,7 +94,7 @@ fn above(
 
 // Writes the words of a unit, and counts it.
 fn finish(
-    board: &Board<Meant>,
+    board: &Board<'_, Meant>,
     flight: &Sums,
     pass: &mut Pass<Meant>,
     line: usize,
@@ -121,7 +121,7 @@ fn finish(
 
 // Builds a unit that has what it needs and breaks no rule, and gives its value.
 fn build(
-    board: &Board<Meant>,
+    board: &Board<'_, Meant>,
     flight: &Sums,
     pass: &mut Pass<Meant>,
     line: usize,
@@ -153,7 +153,7 @@ fn build(
 pub(crate) fn turn<R: Wait, G: Gate>(
     rt: &R,
     gate: &G,
-    board: &Board<Meant>,
+    board: &Board<'_, Meant>,
     flight: &Sums,
     pass: &mut Pass<Meant>,
     line: usize,
@@ -187,7 +187,7 @@ pub(crate) fn turn<R: Wait, G: Gate>(
 fn build_line<R: Wait, G: Gate>(
     rt: &R,
     gate: &G,
-    board: &Board<Meant>,
+    board: &Board<'_, Meant>,
     flight: &Sums,
     pass: &mut Pass<Meant>,
     line: usize,
@@ -212,7 +212,7 @@ fn build_line<R: Wait, G: Gate>(
 fn work<R: Wait, G: Gate>(
     rt: &R,
     gate: &G,
-    board: &Board<Meant>,
+    board: &Board<'_, Meant>,
     flight: &Sums,
     start: Pass<Meant>,
 ) -> Pass<Meant>
@@ -240,7 +240,7 @@ pub struct Worker {
 fn fan<R: Threads + Wait + Sync, G: Gate + Sync>(
     rt: &R,
     gate: &G,
-    board: &Board<Meant>,
+    board: &Board<'_, Meant>,
     flight: &Sums,
     start: Pass<Meant>,
     workers: &mut [Worker],
@@ -281,15 +281,25 @@ fn fan<R: Threads + Wait + Sync, G: Gate + Sync>(
     whole
 }
 
+// A board for the flight, and the pass that others are split from.
+pub(crate) fn open<'m>(
+    memory: &'m mut BoardMemory,
+    flight: &Sums,
+) -> Result<(OpenBoard<'m, Meant>, Pass<Meant>), AllocError>
+    ensures { IfOk result (λ b. IsOf b.0 flight.now b.1 × (view b.1 ≡ opener b.0.flight)) }
+{
+    memory.open(flight.layout(), &Meant::of(flight))
+}
+
 /// The words of the flight, built by a thread a worker: those of each unit before the first fault are its value and the
 /// number after it.
-pub fn sums<R: Threads + Wait + Sync, G: Gate + Sync>(
+pub fn sums<'m, R: Threads + Wait + Sync, G: Gate + Sync>(
     rt: &R,
-    alloc: Global,
+    memory: &'m mut BoardMemory,
     gate: &G,
     flight: &Sums,
     workers: &mut [Worker],
-) -> Result<Words, AllocError>
+) -> Result<Words<'m>, AllocError>
     requires { length workers.old ≤ 64 }
     ensures count { IfOk result (λ words.
         length words ≡ (8 * flight.now.rows + 16) + flight.now.rows * flight.now.width * 2) }
@@ -301,7 +311,7 @@ pub fn sums<R: Threads + Wait + Sync, G: Gate + Sync>(
         → slice_index words (place flight.now.rows flight.now.width l k j)
         ≡ (value flight.now.input.items flight.now.width l k + j) % 2 ^ 64) }
 {
-    let (board, pass) = Board::open(alloc, flight.layout(), &Meant::of(flight))?;
-    let whole = fan(rt, gate, &board, flight, pass, workers);
+    let (board, pass) = open(memory, flight)?;
+    let whole = fan(rt, gate, &board.lend(), flight, pass, workers);
     Ok(board.close(whole))
 }

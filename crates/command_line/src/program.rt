@@ -43,13 +43,13 @@ use stream_maker::make;
 /// Both are required. With `--summary` it writes in place of the stream one line `pictures <K> bytes <n> md5 <digits>`,
 /// of what `decode` writes of it: the pictures that are drawn of the seed, which are defined apart from any stream.
 pub fn run<R: Threads + Wait + Sync, S: Source, O: Sink, E: Sink, G: Gate + Sync>(
-    _rt: &R,
+    rt: &R,
     alloc: Global,
     words: &[String],
     src: &mut S,
     out: &mut O,
     err: &mut E,
-    _gate: &G,
+    gate: &G,
 ) -> Status
     // Status 1 comes only for a faulty command line, and else that is answered by want of memory alone.
     ensures usage { result.0 ≡ 1 → words_taken words.now ≡ None }
@@ -91,8 +91,8 @@ pub fn run<R: Threads + Wait + Sync, S: Source, O: Sink, E: Sink, G: Gate + Sync
     made_streams_decode_as_drawn();
     summaries_tell_drawn_pictures();
     match parse_words(alloc, words) {
-        Ok(Request::Decode(options)) => run_decode(alloc, options, src, out, err),
-        Ok(Request::Make(options)) => run_make(alloc, options, out, err),
+        Ok(Request::Decode(options)) => run_decode(rt, alloc, options, src, out, err, gate),
+        Ok(Request::Make(options)) => run_make(rt, alloc, options, out, err, gate),
         Err(WordsError::Usage) => {
             tell_line(err, USAGE);
             Status(1)
@@ -105,12 +105,14 @@ pub fn run<R: Threads + Wait + Sync, S: Source, O: Sink, E: Sink, G: Gate + Sync
 }
 
 /// Decodes, and tells how it ended.
-fn run_decode<S: Source, O: Sink, E: Sink>(
+fn run_decode<R: Threads + Wait + Sync, S: Source, O: Sink, E: Sink, G: Gate + Sync>(
+    rt: &R,
     alloc: Global,
     options: Options,
     src: &mut S,
     out: &mut O,
     err: &mut E,
+    gate: &G,
 ) -> Status
     requires { IsInRange options }
     ensures { (o : Outcome) × (result.0 ≡ status_of o)
@@ -120,33 +122,41 @@ fn run_decode<S: Source, O: Sink, E: Sink>(
         (change_of O.contents O.faults out.old out.new) o
         × Tells (change_of E.contents E.faults err.old err.new) (outcome_line o) }
 {
-    let outcome = decode(alloc, options, src, out);
+    let outcome = decode(rt, alloc, options, src, out, gate);
     tell(outcome, err);
     outcome.status()
 }
 
 /// Makes a stream or sums it up, and tells how that ended.
-fn run_make<O: Sink, E: Sink>(
+fn run_make<R: Threads + Wait + Sync, O: Sink, E: Sink, G: Gate + Sync>(
+    rt: &R,
     alloc: Global,
     options: MakeOptions,
     out: &mut O,
     err: &mut E,
+    gate: &G,
 ) -> Status
     ensures { (o : Outcome) × (result.0 ≡ status_of o)
         × Makes (change_of O.contents O.faults out.old out.new) options o
         × Tells (change_of E.contents E.faults err.old err.new) (outcome_line o) }
 {
-    let outcome = make_asked(alloc, options, out);
+    let outcome = make_asked(rt, alloc, options, out, gate);
     tell(outcome, err);
     outcome.status()
 }
 
 /// Writes a stream, or the line that sums it up.
-fn make_asked<O: Sink>(alloc: Global, options: MakeOptions, out: &mut O) -> Outcome
+fn make_asked<R: Threads + Wait + Sync, O: Sink, G: Gate + Sync>(
+    rt: &R,
+    alloc: Global,
+    options: MakeOptions,
+    out: &mut O,
+    gate: &G,
+) -> Outcome
     ensures { Makes (change_of O.contents O.faults out.old out.new) options result }
 {
     if options.summary {
-        write_summary(alloc, options, out)
+        write_summary(rt, alloc, options, out, gate)
     } else {
         write_stream(alloc, options, out)
     }

@@ -13,9 +13,11 @@ use crate::slice_source::SliceSource;
 use crate::summary_line::{SummaryLine, summary_line};
 use decoder::{Form, Options, decode};
 use hv_base::Outcome;
-use hv_io::{Failed, Sink, write_all};
+use hv_io::{Failed, Gate, Sink, write_all};
 use made_decoding_laws::made_streams_are_decoded;
 use std::alloc::{AllocError, Global};
+use std::sync::Wait;
+use std::thread::Threads;
 use stream_maker::make;
 
 /// How the stream is decoded: what is written of it doesn't depend on its hashes.
@@ -27,10 +29,16 @@ const DECODING: Options = Options {
 };
 
 /// Writes the line that sums a stream up: `Ok`, `Memory` or `WriteFault`.
-pub(crate) fn write_summary<O: Sink>(alloc: Global, options: MakeOptions, out: &mut O) -> Outcome
+pub(crate) fn write_summary<R: Threads + Wait + Sync, O: Sink, G: Gate + Sync>(
+    rt: &R,
+    alloc: Global,
+    options: MakeOptions,
+    out: &mut O,
+    gate: &G,
+) -> Outcome
     ensures { MakesLine (change_of O.contents O.faults out.old out.new) (summary_of (decoded_of options)) result }
 {
-    let Ok(line) = summary_of(alloc, options) else {
+    let Ok(line) = summary_of(rt, alloc, options, gate) else {
         return Outcome::Memory;
     };
     match write_all(out, line.as_slice()) {
@@ -40,12 +48,17 @@ pub(crate) fn write_summary<O: Sink>(alloc: Global, options: MakeOptions, out: &
 }
 
 /// The line that sums a stream up.
-fn summary_of(alloc: Global, options: MakeOptions) -> Result<SummaryLine, AllocError>
+fn summary_of<R: Threads + Wait + Sync, G: Gate + Sync>(
+    rt: &R,
+    alloc: Global,
+    options: MakeOptions,
+    gate: &G,
+) -> Result<SummaryLine, AllocError>
     ensures { IfOk result (λ line. line.items ≡ summary_of (decoded_of options)) }
 {
     made_streams_are_decoded();
     let stream = made(alloc, options)?;
-    let bytes = decoded(alloc, options, stream.as_slice())?;
+    let bytes = decoded(rt, alloc, options, stream.as_slice(), gate)?;
     Ok(summary_line(options.pictures, bytes.as_slice()))
 }
 
@@ -62,14 +75,20 @@ fn made(alloc: Global, options: MakeOptions) -> Result<Vec<u8>, AllocError>
 }
 
 /// The samples of the pictures that a stream is decoded to.
-fn decoded(alloc: Global, options: MakeOptions, stream: &[u8]) -> Result<Vec<u8>, AllocError>
+fn decoded<R: Threads + Wait + Sync, G: Gate + Sync>(
+    rt: &R,
+    alloc: Global,
+    options: MakeOptions,
+    stream: &[u8],
+    gate: &G,
+) -> Result<Vec<u8>, AllocError>
     requires { stream.now ≡ stream_of options }
     ensures { IfOk result (λ bytes. bytes.items ≡ bytes_of form.I420 (decoded_of options)) }
 {
     made_streams_are_decoded();
     let mut src = SliceSource::new(stream);
     let mut out = GrowingSink::new(alloc);
-    match decode(alloc, DECODING, &mut src, &mut out) {
+    match decode(rt, alloc, DECODING, &mut src, &mut out, gate) {
         Outcome::Ok => Ok(out.into_bytes()),
         Outcome::Memory | Outcome::WriteFault => Err(AllocError),
         Outcome::Fault(_) | Outcome::Limit(_) | Outcome::ReadFault => unreachable!(),

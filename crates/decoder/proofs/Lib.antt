@@ -4,6 +4,7 @@ pub mod Decodings
 pub mod Entering
 pub mod Hashing
 pub mod HeadlineLaws
+pub mod Leaving
 pub mod Plannings
 pub mod Sessions
 pub mod Takings

@@ -493,6 +493,11 @@ module _ {X : Type 0} (bytes : X → Option (List ℕ)) (faults : X → ℕ) whe
         (sym (drop-next pictures i x x lt is))
         (q (decoded_from hash end (drop (i + 1) pictures ++ later))))
 
+    -- want of memory before any is written
+    pub ends-unwritten : (a : X) (pictures : List PicturePlan) (old : HeldBuffer)
+        → Ends form hash (by a a) pictures old outcome.Memory
+    ends-unwritten a pictures old = λ end later. no_memory a (owed-of end (pictures ++ later) old)
+
     pub passes-end : (a b : X) (pictures : List PicturePlan) (old new : HeldBuffer) (i : ℕ) → length pictures ≤ i
         → Passes form hash (by a b) pictures old (drop i pictures) new
         → Passes form hash (by a b) pictures old [] new

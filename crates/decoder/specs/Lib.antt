@@ -3,6 +3,7 @@ pub mod Headline
 pub mod Buffers
 pub mod Digests
 pub mod Pictures
+pub mod Flights
 pub mod Writing
 pub mod Owed
 pub mod Taking

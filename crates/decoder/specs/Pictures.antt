@@ -3,20 +3,12 @@ use Rattle.std.specs.Prelude.{◌≡◌, ◌⊎◌, List, [], ◌∷◌, ◌++�
 use Rattle.hv_base.specs.declared.outcome.Outcome.{Outcome}
 use Rattle.hv_base.specs.declared.outcome.Outcome.TheVariants as outcome
 use Rattle.hv_base.specs.declared.refusal.Stop.{Stop}
-use Rattle.hv_base.specs.Stops.{stopped_at}
-use Rattle.picture_trees.specs.declared.trees.ReadError.{ReadError}
-use Rattle.picture_trees.specs.declared.trees.ReadError.TheVariants as error
 use Rattle.picture_buffer.specs.Pictures.{HeldPicture}
 use Rattle.picture_build.specs.Pictures.{decoded_of}
 use Rattle.plan_types.specs.declared.picture_plan.PicturePlan.{PicturePlan}
 use Rattle.spec_decoder.specs.Decoder.{BufferPicture, kept_as}
 use Rattle.decoder.specs.Buffers.{HeldBuffer, buffer_of}
 use Rattle.decoder.specs.Headline.{outcome_of}
-
--- how decoding ends where the data of a picture aren't read to their end
-abbrev pub IsTold : ReadError → Outcome → Type 0
-IsTold error.Memory o = o ≡ outcome.Memory
-IsTold (error.Broken breach nal ctu) o = o ≡ outcome_of (Some (stopped_at nal (Some ctu) breach))
 
 -- how decoding ends where a picture can't be decoded: with what is broken or met in it, or, of any, with want of memory
 abbrev pub IsRefused : Result BufferPicture Stop → Outcome → Type 0

@@ -1,25 +1,30 @@
 //! The decoded picture buffer (C.5.2).
 
-ghost use Rattle.std.specs.Prelude.{◌≡◌, ◌<◌, ◌++◌, ◌∷◌, [], OnOk, length, option_map, slice_get, if◌then◌else◌};
+ghost use Rattle.std.specs.Prelude.{◌≡◌, ◌<◌, ◌++◌, ◌∷◌, [], IfOk, OnOk, length, option_map, slice_get};
+ghost use Rattle.std.specs.Prelude.{List, if◌then◌else◌};
 ghost use Rattle.std.specs.List.{remove};
-ghost use Rattle.spec_decoder.specs.Decoder.{decoded_picture, is_among, kept_from, next_out, out_at};
+ghost use Rattle.plan_types.specs.declared.picture_plan.PicturePlan.{PicturePlan};
+ghost use Rattle.row_jobs.specs.Decoding.{Decodes};
+ghost use Rattle.spec_decoder.specs.Decoder.{decoded_picture, is_among, kept_from, next_out, out_at, pictures_in};
 ghost use Rattle.decoder.specs.Buffers.{buffer_of, tagged};
+ghost use Rattle.decoder.specs.Flights.{IsLeft};
 ghost use Rattle.decoder.specs.Headline.{change_of};
 ghost use Rattle.decoder.specs.Pictures.{Enters};
 ghost use Rattle.decoder.specs.Writing.{GoOut};
 
-use crate::picture::decode_picture;
+use crate::picture::next_picture;
 use crate::pieces::write_piece;
 use crate::tag::Tag;
-use header_types::PictureFormat;
 use hv_base::Outcome;
-use hv_io::Sink;
-use loop_filters::FilterScratch;
-use picture_buffer::{Bases, Picture};
+use hv_io::{Gate, Sink};
+use picture_buffer::{Bases, Picture, SharedPicture};
 use plan_types::PicturePlan;
+use row_jobs::{FlightResult, Spares, run_flight};
 use spec_decoder::Form;
 use std::alloc::{AllocError, Global};
 use std::marker::Model;
+use std::sync::Wait;
+use std::thread::Threads;
 
 /// The pictures of the decoded picture buffer, in decoding order, and how many pictures went out of it. A picture is
 /// named by its place.
@@ -31,10 +36,8 @@ pub(crate) struct Buffer {
     pictures: Bases,
     /// The number of the next picture that goes out, up to 2^64 - 1.
     number: u64,
-    /// Pictures that left it, in whose memory later ones of their size are kept.
-    spares: Bases,
-    /// Memory in which they are filtered.
-    scratch: FilterScratch,
+    /// Memory for later pictures: that of those which left it, and that in which they are filtered.
+    spares: Spares,
 }
 
 impl Model for Buffer {
@@ -59,21 +62,51 @@ impl Buffer {
             tags: Vec::new(alloc),
             pictures: Bases::new(alloc),
             number: 0,
-            spares: Bases::new(alloc),
-            scratch: FilterScratch::new(alloc),
+            spares: Spares::new(alloc),
         }
     }
 
-    /// Decodes a picture by those that are there; it then stands behind the last. Its planes are compared with their
-    /// stated hashes, where `hash` is true.
-    pub(crate) fn decode(&mut self, hash: bool, picture: &PicturePlan) -> Result<(), Outcome>
-        ensures enters { Enters self.old self.new (decoded_picture hash (buffer_of self.old) picture.now) result }
+    /// Decodes the pictures of a flight by those that are there.
+    pub(crate) fn run_flight<R: Threads + Wait + Sync, G: Gate + Sync>(
+        &mut self,
+        rt: &R,
+        workers: u32,
+        pictures: &[PicturePlan],
+        gate: &G,
+    ) -> Result<FlightResult, AllocError>
+        ensures decoded { IfOk result
+            (λ r. Decodes (pictures_in (buffer_of self.old)) pictures.now r.pictures r.fault) }
+        ensures same { self.new ≡ self.old }
+    {
+        run_flight(
+            rt,
+            self.alloc,
+            pictures,
+            &self.pictures,
+            workers,
+            gate,
+            &mut self.spares,
+        )
+    }
+
+    /// The next picture of a flight that was decoded stands behind the last. Its planes are compared with their stated
+    /// hashes, where `hash` is true.
+    pub(crate) fn enter(
+        &mut self,
+        hash: bool,
+        picture: &PicturePlan,
+        flight: &mut FlightResult,
+    ) -> Result<(), Outcome>
+        ensures enters { (later : List PicturePlan)
+            → Decodes (pictures_in (buffer_of self.old)) (picture.now ∷ later) flight.old.pictures flight.old.fault
+            → Enters self.old self.new (decoded_picture hash (buffer_of self.old) picture.now) result }
+        ensures left { (later : List PicturePlan)
+            → Decodes (pictures_in (buffer_of self.old)) (picture.now ∷ later) flight.old.pictures flight.old.fault
+            → OnOk result (IsLeft picture.now later self.new flight.new) }
         ensures number { self.new.number ≡ self.old.number }
     {
-        let spare = take_spare(self.alloc, &mut self.spares, &picture.sps.fields().format);
-        let scratch = &mut self.scratch;
-        let decoded = decode_picture(self.alloc, hash, picture, &self.pictures, spare, scratch)?;
-        match self.push(Tag::of(picture), decoded) {
+        let shared = next_picture(hash, picture, flight)?;
+        match self.push(Tag::of(picture), shared) {
             Ok(()) => Ok(()),
             Err(_) => Err(Outcome::Memory),
         }
@@ -87,15 +120,16 @@ impl Buffer {
     }
 
     /// A picture behind the last. `Err` is want of memory.
-    fn push(&mut self, tag: Tag, picture: Picture) -> Result<(), AllocError>
+    fn push(&mut self, tag: Tag, picture: SharedPicture) -> Result<(), AllocError>
         ensures tags { OnOk result (self.new.tags ≡ self.old.tags ++ tag ∷ []) }
         ensures pictures { OnOk result (self.new.pictures ≡ self.old.pictures ++ picture ∷ []) }
+        ensures even { length self.old.tags ≡ length self.old.pictures }
         ensures number { self.new.number ≡ self.old.number }
     {
         if self.tags.push(tag).is_err() {
             return Err(AllocError);
         }
-        let pushed = self.pictures.push(picture);
+        let pushed = self.pictures.push_shared(picture);
         if pushed.is_err() {
             let _ = self.tags.pop();
         }
@@ -162,8 +196,7 @@ impl Buffer {
         }
     }
 
-    /// Takes the picture at a place out, unless the place is one of these. It is spare then, or dropped for want of
-    /// memory.
+    /// Takes the picture at a place out, unless the place is one of these. It is spare then.
     fn judge_place(&mut self, place: usize, places: &[u32])
         requires { place < length self.old.pictures }
         ensures tags { self.new.tags
@@ -175,29 +208,9 @@ impl Buffer {
     {
         if !is_among(places, place) {
             let _ = self.tags.remove(place);
-            let _pushed = self.spares.push(self.pictures.remove(place));
+            self.spares.give(self.pictures.remove(place));
         }
     }
-}
-
-/// Takes the last spare out. Where it isn't of the size of this format all are let go of.
-fn take_spare(alloc: Global, spares: &mut Bases, format: &PictureFormat) -> Option<Picture> {
-    let count = spares.len();
-    if count == 0 {
-        return None;
-    }
-    let spare = spares.remove(count - 1);
-    if has_size(&spare, format) {
-        return Some(spare);
-    }
-    *spares = Bases::new(alloc);
-    None
-}
-
-/// Whether a picture has the luma sides of a format.
-fn has_size(picture: &Picture, format: &PictureFormat) -> bool {
-    picture.format().pic_width_in_luma_samples == format.pic_width_in_luma_samples
-        && picture.format().pic_height_in_luma_samples == format.pic_height_in_luma_samples
 }
 
 /// Whether a place is one of these.

@@ -8,8 +8,10 @@ ghost use Rattle.decoder.specs.Session.{Stands};
 use crate::options::Options;
 use crate::session::Session;
 use hv_base::Outcome;
-use hv_io::{Failed, Sink, Source};
+use hv_io::{Failed, Gate, Sink, Source};
 use std::alloc::{AllocError, Global};
+use std::sync::Wait;
+use std::thread::Threads;
 
 /// How many bytes a read asks for.
 const PIECE: usize = 65_536;
@@ -23,11 +25,13 @@ const PIECE: usize = 65_536;
 ///
 /// Where a read failed, what came before it is decoded: the pictures that are over are written. A broken rule or a
 /// limit in it is the answer, and else the read fault. Behind a broken rule or a limit nothing more is read.
-pub fn decode<S: Source, O: Sink>(
+pub fn decode<R: Threads + Wait + Sync, S: Source, O: Sink, G: Gate + Sync>(
+    rt: &R,
     alloc: Global,
     options: Options,
     src: &mut S,
     out: &mut O,
+    gate: &G,
 ) -> Outcome
     requires { IsInRange options }
     ensures headline { Headline options.form options.hash (change_of S.left S.faults src.old src.new)
@@ -39,18 +43,20 @@ pub fn decode<S: Source, O: Sink>(
         return Outcome::Memory;
     };
     match zeros(alloc, PIECE) {
-        Ok(mut piece) => decode_pieces(&mut session, src, &mut piece, out),
+        Ok(mut piece) => decode_pieces(rt, &mut session, src, &mut piece, out, gate),
         Err(_) => Outcome::Memory,
     }
 }
 
 /// Reads the source through this buffer, piece by piece, into a session that was given nothing. It stops after 2^64 - 1
 /// reads, as for want of memory.
-fn decode_pieces<S: Source, O: Sink>(
+fn decode_pieces<R: Threads + Wait + Sync, S: Source, O: Sink, G: Gate + Sync>(
+    rt: &R,
     session: &mut Session,
     src: &mut S,
     piece: &mut [u8],
     out: &mut O,
+    gate: &G,
 ) -> Outcome
     requires room { 0 < length piece.old }
     requires stands { Stands session.old [] [] }
@@ -63,13 +69,13 @@ fn decode_pieces<S: Source, O: Sink>(
 {
     for _ in 0..u64::MAX {
         match src.read(piece) {
-            Ok(0) => return session.end(out),
+            Ok(0) => return session.end(rt, out, gate),
             Ok(count) => {
-                if let Some(outcome) = session.push(&piece[..count], out) {
+                if let Some(outcome) = session.push(rt, &piece[..count], out, gate) {
                     return outcome;
                 }
             }
-            Err(Failed) => return session.stop(out).unwrap_or(Outcome::ReadFault),
+            Err(Failed) => return session.stop(rt, out, gate).unwrap_or(Outcome::ReadFault),
         }
     }
     Outcome::Memory

@@ -1,41 +1,37 @@
-//! Decodes a picture.
+//! A picture of a flight.
 
-ghost use Rattle.std.specs.Prelude.{◌≡◌};
-ghost use Rattle.picture_build.specs.Pictures.{buffer_of, decoded_of};
+ghost use Rattle.std.specs.Prelude.{◌≡◌, ◌++◌, ◌∷◌, [], List, Option, None, OnErr};
+ghost use Rattle.plan_types.specs.declared.picture_plan.PicturePlan.{PicturePlan};
+ghost use Rattle.picture_build.specs.Pictures.{decoded_of};
+ghost use Rattle.spec_picture_build.specs.References.{DecodedPicture};
+ghost use Rattle.row_jobs.specs.Decoding.{Decodes};
 ghost use Rattle.spec_decoded_pictures.specs.Decoded.{picture_decoded};
 ghost use Rattle.spec_decoder.specs.Decoder.{compared, decoded_data};
-ghost use Rattle.decoder.specs.Pictures.{DecodesAs, IsTold};
+ghost use Rattle.decoder.specs.Flights.{TakesNext};
 
 use crate::hashes::first_mismatch;
 use crate::writing::outcome_of;
 use hv_base::{Fault, Outcome};
-use loop_filters::FilterScratch;
-use picture_buffer::{Bases, Picture};
-use picture_build::build_picture;
-use picture_trees::ReadError;
+use picture_buffer::{Picture, SharedPicture};
 use plan_types::PicturePlan;
-use std::alloc::Global;
+use row_jobs::FlightResult;
 
-/// Decodes a picture by those of the buffer, its loop filters with it, or answers what is broken or met in it first, or
-/// that there is no memory for it. Its planes are then compared with their stated hashes, where `hash` is true. A spare
-/// picture of its size lends it the memory; it is filtered in `scratch`.
-pub(crate) fn decode_picture(
-    alloc: Global,
+/// Takes the next picture of a flight that was decoded, or answers what stopped the flight in it. Its planes are
+/// compared with their stated hashes, where `hash` is true.
+pub(crate) fn next_picture(
     hash: bool,
     picture: &PicturePlan,
-    bases: &Bases,
-    spare: Option<Picture>,
-    scratch: &mut FilterScratch,
-) -> Result<Picture, Outcome>
-    ensures { DecodesAs picture.now result
-        (decoded_data hash picture.now (picture_decoded (buffer_of bases.now) picture.now)) }
+    flight: &mut FlightResult,
+) -> Result<SharedPicture, Outcome>
+    ensures { (buffer : List DecodedPicture) (later : List PicturePlan)
+        → Decodes buffer (picture.now ∷ later) flight.old.pictures flight.old.fault
+        → TakesNext hash buffer picture.now later flight.new result }
 {
-    let decoded = match build_picture(alloc, picture, bases, spare, scratch) {
-        Ok(decoded) => decoded,
-        Err(error) => return Err(told(error)),
+    let Some(shared) = flight.next() else {
+        return Err(outcome_of(flight.fault));
     };
-    match compare(hash, picture, &decoded) {
-        None => Ok(decoded),
+    match compare(hash, picture, shared.picture()) {
+        None => Ok(shared),
         Some(fault) => Err(Outcome::Fault(fault)),
     }
 }
@@ -48,14 +44,4 @@ fn compare(hash: bool, plan: &PicturePlan, picture: &Picture) -> Option<Fault>
         return None;
     }
     first_mismatch(picture, plan.hashes.as_slice())
-}
-
-/// How decoding ends where the data of a picture weren't read to their end.
-fn told(error: ReadError) -> Outcome
-    ensures { IsTold error result }
-{
-    match error {
-        ReadError::Memory => Outcome::Memory,
-        ReadError::Broken { breach, nal, ctu } => outcome_of(Some(breach.at(nal, Some(ctu)))),
-    }
 }

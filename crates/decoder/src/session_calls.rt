@@ -12,9 +12,11 @@ use crate::options::Options;
 use crate::session::Session;
 use crate::stream::Decoder;
 use hv_base::Outcome;
-use hv_io::Sink;
+use hv_io::{Gate, Sink};
 use nal_stream::Framer;
 use std::alloc::{AllocError, Global};
+use std::sync::Wait;
+use std::thread::Threads;
 
 impl Session {
     /// A session that was given nothing. `AllocError` is want of memory.
@@ -36,7 +38,13 @@ impl Session {
     /// else how decoding ended: with the first broken rule or limit, behind all that is owed before it, with a write
     /// fault, or with want of memory behind whole pictures or lines. Once it has ended each call answers the same and
     /// writes nothing.
-    pub fn push<O: Sink>(&mut self, piece: &[u8], out: &mut O) -> Option<Outcome>
+    pub fn push<R: Threads + Wait + Sync, O: Sink, G: Gate + Sync>(
+        &mut self,
+        rt: &R,
+        piece: &[u8],
+        out: &mut O,
+        gate: &G,
+    ) -> Option<Outcome>
         ensures pushed { (bytes gained : List ℕ) → Stands self.old bytes gained
             → Pushed self.new (change_of O.contents O.faults out.old out.new) (bytes ++ piece.now) gained result }
         ensures counted { (bytes gained : List ℕ) → Stands self.old bytes gained → self.old.outcome ≡ None
@@ -48,7 +56,7 @@ impl Session {
         if let Some(outcome) = self.outcome {
             return Some(outcome);
         }
-        match self.take_piece(piece, out) {
+        match self.take_piece(rt, piece, out, gate) {
             Ok(()) => None,
             Err(outcome) => {
                 self.outcome = Some(outcome);
@@ -58,7 +66,13 @@ impl Session {
     }
 
     /// Takes a piece where decoding hasn't ended.
-    fn take_piece<O: Sink>(&mut self, piece: &[u8], out: &mut O) -> Result<(), Outcome>
+    fn take_piece<R: Threads + Wait + Sync, O: Sink, G: Gate + Sync>(
+        &mut self,
+        rt: &R,
+        piece: &[u8],
+        out: &mut O,
+        gate: &G,
+    ) -> Result<(), Outcome>
         requires { self.old.outcome ≡ None }
         ensures taken { (bytes gained : List ℕ) → Stands self.old bytes gained → self.old.outcome ≡ None
             → TakesUnits self.old.options (change_of O.contents O.faults out.old out.new) self.new.framer
@@ -69,21 +83,32 @@ impl Session {
         if self.framer.feed(piece).is_err() {
             return Err(Outcome::Memory);
         }
-        self.decoder.take_units(self.options, &mut self.framer, out)
+        self.decoder
+            .take_units(rt, self.options, &mut self.framer, out, gate)
     }
 
     /// The stream ends here: writes the pictures that are left, and answers how decoding ended.
-    pub fn finish<O: Sink>(self, out: &mut O) -> Outcome
+    pub fn finish<R: Threads + Wait + Sync, O: Sink, G: Gate + Sync>(
+        self,
+        rt: &R,
+        out: &mut O,
+        gate: &G,
+    ) -> Outcome
         ensures ended { (bytes gained : List ℕ) → Stands self bytes gained → self.outcome ≡ None
             → Ended (change_of O.contents O.faults out.old out.new) (all_owed self.options true bytes) gained result }
         ensures again { IfSome self.outcome (λ o. (result ≡ o) × (out.new ≡ out.old)) }
     {
         let mut session = self;
-        session.end(out)
+        session.end(rt, out, gate)
     }
 
     /// The same of a session that stays.
-    pub(crate) fn end<O: Sink>(&mut self, out: &mut O) -> Outcome
+    pub(crate) fn end<R: Threads + Wait + Sync, O: Sink, G: Gate + Sync>(
+        &mut self,
+        rt: &R,
+        out: &mut O,
+        gate: &G,
+    ) -> Outcome
         ensures ended { (bytes gained : List ℕ) → Stands self.old bytes gained → self.old.outcome ≡ None
             → Ended (change_of O.contents O.faults out.old out.new) (all_owed self.old.options true bytes) gained
             result }
@@ -93,9 +118,12 @@ impl Session {
             return outcome;
         }
         self.framer.finish();
-        match self.decoder.take_units(self.options, &mut self.framer, out) {
+        match self
+            .decoder
+            .take_units(rt, self.options, &mut self.framer, out, gate)
+        {
             Ok(()) => {
-                let outcome = self.decoder.write_end(self.options, out);
+                let outcome = self.decoder.write_end(rt, self.options, out, gate);
                 self.outcome = Some(outcome);
                 outcome
             }
@@ -108,7 +136,12 @@ impl Session {
 
     /// No more of the stream comes, though it hasn't ended, as where a read failed: writes the pictures that are over,
     /// and answers how decoding ended, `None` where nothing stopped it.
-    pub fn halt<O: Sink>(self, out: &mut O) -> Option<Outcome>
+    pub fn halt<R: Threads + Wait + Sync, O: Sink, G: Gate + Sync>(
+        self,
+        rt: &R,
+        out: &mut O,
+        gate: &G,
+    ) -> Option<Outcome>
         ensures ended { (bytes gained : List ℕ) → Stands self bytes gained → self.outcome ≡ None
             → Ended (change_of O.contents O.faults out.old out.new) (all_owed self.options false bytes) gained
             (halted_as result) }
@@ -116,11 +149,16 @@ impl Session {
         ensures stop { self.outcome ≡ None → IsNoSuccess result }
     {
         let mut session = self;
-        session.stop(out)
+        session.stop(rt, out, gate)
     }
 
     /// The same of a session that stays.
-    pub(crate) fn stop<O: Sink>(&mut self, out: &mut O) -> Option<Outcome>
+    pub(crate) fn stop<R: Threads + Wait + Sync, O: Sink, G: Gate + Sync>(
+        &mut self,
+        rt: &R,
+        out: &mut O,
+        gate: &G,
+    ) -> Option<Outcome>
         ensures ended { (bytes gained : List ℕ) → Stands self.old bytes gained → self.old.outcome ≡ None
             → Ended (change_of O.contents O.faults out.old out.new) (all_owed self.old.options false bytes) gained
             (halted_as result) }
@@ -130,7 +168,7 @@ impl Session {
         if let Some(outcome) = self.outcome {
             return Some(outcome);
         }
-        match self.decoder.write_halted(self.options, out) {
+        match self.decoder.write_halted(rt, self.options, out, gate) {
             Outcome::Ok => None,
             outcome => Some(outcome),
         }

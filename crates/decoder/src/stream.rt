@@ -14,10 +14,12 @@ use crate::buffer::Buffer;
 use crate::options::Options;
 use crate::writing::{decode_flights, write_last};
 use hv_base::Outcome;
-use hv_io::Sink;
+use hv_io::{Gate, Sink};
 use nal_stream::{Framer, Next};
 use picture_plan::Planner;
 use std::alloc::{AllocError, Global};
+use std::sync::Wait;
+use std::thread::Threads;
 
 /// What was taken of a stream.
 #[derive(Clone, Copy)]
@@ -62,11 +64,13 @@ impl Decoder {
     }
 
     /// Takes all whole units that a framer holds, and writes the pictures that go out then.
-    pub(crate) fn take_units<O: Sink>(
+    pub(crate) fn take_units<R: Threads + Wait + Sync, O: Sink, G: Gate + Sync>(
         &mut self,
+        rt: &R,
         options: Options,
         framer: &mut Framer,
         out: &mut O,
+        gate: &G,
     ) -> Result<(), Outcome>
         ensures taken { (ended : Bool) (bytes : List ℕ) (given later : List Told) (gained : List ℕ)
             → StillTells framer.old ended bytes given later → HasTaken options self.old given gained
@@ -75,7 +79,7 @@ impl Decoder {
         ensures finished { framer.new.finished ≡ framer.old.finished }
     {
         'units: loop {
-            match self.take_unit(options, framer, out)? {
+            match self.take_unit(rt, options, framer, out, gate)? {
                 Taken::Unit => {}
                 Taken::Last => return Ok(()),
             }
@@ -83,11 +87,13 @@ impl Decoder {
     }
 
     /// Takes a unit and writes the pictures that go out then.
-    fn take_unit<O: Sink>(
+    fn take_unit<R: Threads + Wait + Sync, O: Sink, G: Gate + Sync>(
         &mut self,
+        rt: &R,
         options: Options,
         framer: &mut Framer,
         out: &mut O,
+        gate: &G,
     ) -> Result<Taken, Outcome>
         ensures taken { (ended : Bool) (bytes : List ℕ) (given later : List Told) (gained : List ℕ)
             → StillTells framer.old ended bytes given later → HasTaken options self.old given gained
@@ -103,18 +109,20 @@ impl Decoder {
             Next::More => Ok(Taken::Last),
             Next::End => Ok(Taken::Last),
             unit => {
-                self.plan_unit(options, unit, out)?;
+                self.plan_unit(rt, options, unit, out, gate)?;
                 Ok(Taken::Unit)
             }
         }
     }
 
     /// Plans a unit and writes the pictures that go out then.
-    fn plan_unit<O: Sink>(
+    fn plan_unit<R: Threads + Wait + Sync, O: Sink, G: Gate + Sync>(
         &mut self,
+        rt: &R,
         options: Options,
         next: Next,
         out: &mut O,
+        gate: &G,
     ) -> Result<(), Outcome>
         ensures { PlansUnit options (change_of O.contents O.faults out.old out.new) self.old (told_by next) self.new
             result }
@@ -123,27 +131,46 @@ impl Decoder {
             return Err(Outcome::Memory);
         };
         match planned.stop {
-            None => decode_flights(options, planned.flights, &mut self.buffer, out),
-            Some(_) => Err(write_last(options, planned, &mut self.buffer, out)),
+            None => decode_flights(rt, options, planned.flights, &mut self.buffer, out, gate),
+            Some(_) => Err(write_last(rt, options, planned, &mut self.buffer, out, gate)),
         }
     }
 
     /// Writes the pictures that are left where the input ended, and answers how decoding ends.
-    pub(crate) fn write_end<O: Sink>(&mut self, options: Options, out: &mut O) -> Outcome
+    pub(crate) fn write_end<R: Threads + Wait + Sync, O: Sink, G: Gate + Sync>(
+        &mut self,
+        rt: &R,
+        options: Options,
+        out: &mut O,
+        gate: &G,
+    ) -> Outcome
         ensures { IsAnswered (still_owed options.form options.hash true self.old.planner self.old.buffer [])
             (change_of O.contents O.faults out.old out.new) result }
     {
         match self.planner.finish() {
-            Ok(planned) => write_last(options, planned, &mut self.buffer, out),
+            Ok(planned) => write_last(rt, options, planned, &mut self.buffer, out, gate),
             Err(_) => Outcome::Memory,
         }
     }
 
     /// Writes the pictures that are over where no more of the input comes, and answers how decoding ends.
-    pub(crate) fn write_halted<O: Sink>(&mut self, options: Options, out: &mut O) -> Outcome
+    pub(crate) fn write_halted<R: Threads + Wait + Sync, O: Sink, G: Gate + Sync>(
+        &mut self,
+        rt: &R,
+        options: Options,
+        out: &mut O,
+        gate: &G,
+    ) -> Outcome
         ensures { IsAnswered (still_owed options.form options.hash false self.old.planner self.old.buffer [])
             (change_of O.contents O.faults out.old out.new) result }
     {
-        write_last(options, self.planner.halt(), &mut self.buffer, out)
+        write_last(
+            rt,
+            options,
+            self.planner.halt(),
+            &mut self.buffer,
+            out,
+            gate,
+        )
     }
 }

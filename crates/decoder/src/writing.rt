@@ -1,9 +1,11 @@
-//! Decodes pictures one after the other, and writes them in output order, each as soon as it goes out of the decoded
-//! picture buffer.
+//! Decodes the pictures of flights, and writes them in output order, each as soon as its flight has run and it goes out
+//! of the decoded picture buffer.
 
-ghost use Rattle.std.specs.Prelude.{◌≡◌};
+ghost use Rattle.std.specs.Prelude.{◌≡◌, ◌∷◌, List, OnOk};
+ghost use Rattle.plan_types.specs.declared.picture_plan.PicturePlan.{PicturePlan};
 ghost use Rattle.picture_plan.specs.Flights.{pictures_of};
-ghost use Rattle.spec_decoder.specs.Decoder.{decoded_from, finished};
+ghost use Rattle.row_jobs.specs.Decoding.{Decodes};
+ghost use Rattle.spec_decoder.specs.Decoder.{decoded_from, finished, pictures_in};
 ghost use Rattle.decoder.specs.Buffers.{buffer_of};
 ghost use Rattle.decoder.specs.Headline.{change_of, outcome_of};
 ghost use Rattle.decoder.specs.Writing.{IsAnswered, TakesPicture, WritesFirst, owed_from};
@@ -11,24 +13,29 @@ ghost use Rattle.decoder.specs.Writing.{IsAnswered, TakesPicture, WritesFirst, o
 use crate::buffer::Buffer;
 use crate::options::Options;
 use hv_base::{Outcome, Stop};
-use hv_io::Sink;
+use hv_io::{Gate, Sink};
 use picture_plan::{Flights, Planned};
 use plan_types::PicturePlan;
+use row_jobs::FlightResult;
 use spec_decoder::Form;
+use std::sync::Wait;
+use std::thread::Threads;
 
 /// Decodes the pictures of the last flights, writes what then goes out, and answers how decoding ends.
-pub(crate) fn write_last<O: Sink>(
+pub(crate) fn write_last<R: Threads + Wait + Sync, O: Sink, G: Gate + Sync>(
+    rt: &R,
     options: Options,
     planned: Planned,
     buffer: &mut Buffer,
     out: &mut O,
+    gate: &G,
 ) -> Outcome
     ensures { IsAnswered (owed_from options.form buffer.old.number
         (decoded_from options.hash (finished planned.last planned.stop) (pictures_of planned.flights)
         (buffer_of buffer.old)))
         (change_of O.contents O.faults out.old out.new) result }
 {
-    match decode_flights(options, planned.flights, buffer, out) {
+    match decode_flights(rt, options, planned.flights, buffer, out, gate) {
         Ok(()) => write_end(
             options.form,
             planned.last.as_slice(),
@@ -69,50 +76,65 @@ pub(crate) fn outcome_of(stop: Option<Stop>) -> Outcome
 }
 
 /// Decodes the pictures of flights, and writes what goes out.
-pub(crate) fn decode_flights<O: Sink>(
+pub(crate) fn decode_flights<R: Threads + Wait + Sync, O: Sink, G: Gate + Sync>(
+    rt: &R,
     options: Options,
     flights: Flights,
     buffer: &mut Buffer,
     out: &mut O,
+    gate: &G,
 ) -> Result<(), Outcome>
     ensures { WritesFirst options.form options.hash (change_of O.contents O.faults out.old out.new)
         (pictures_of flights) buffer.old buffer.new result }
 {
     let mut left = flights;
     while let Some(flight) = left.next() {
-        decode_pictures(options, flight.as_slice(), buffer, out)?;
+        decode_pictures(rt, options, flight.as_slice(), buffer, out, gate)?;
     }
     Ok(())
 }
 
-/// Decodes these pictures, up to the first in which something is broken or met.
-fn decode_pictures<O: Sink>(
+/// Decodes the pictures of a flight, and then writes what goes out, up to the first in which something is broken or
+/// met.
+fn decode_pictures<R: Threads + Wait + Sync, O: Sink, G: Gate + Sync>(
+    rt: &R,
     options: Options,
     pictures: &[PicturePlan],
     buffer: &mut Buffer,
     out: &mut O,
+    gate: &G,
 ) -> Result<(), Outcome>
     ensures { WritesFirst options.form options.hash (change_of O.contents O.faults out.old out.new) pictures.now
         buffer.old buffer.new result }
 {
+    let Ok(mut flight) = buffer.run_flight(rt, options.workers, pictures, gate) else {
+        return Err(Outcome::Memory);
+    };
     for picture in pictures {
-        take_picture(options, picture, buffer, out)?;
+        take_picture(options, picture, &mut flight, buffer, out)?;
     }
     Ok(())
 }
 
-/// Decodes a picture, and writes what goes out before it and behind it (C.5.2).
+/// Takes the next picture of a flight that was decoded, and writes what goes out before it and behind it (C.5.2).
 fn take_picture<O: Sink>(
     options: Options,
     picture: &PicturePlan,
+    flight: &mut FlightResult,
     buffer: &mut Buffer,
     out: &mut O,
 ) -> Result<(), Outcome>
-    ensures { TakesPicture options.form options.hash (change_of O.contents O.faults out.old out.new) picture.now
+    ensures takes { (later : List PicturePlan)
+        → Decodes (pictures_in (buffer_of buffer.old)) (picture.now ∷ later) flight.old.pictures flight.old.fault
+        → TakesPicture options.form options.hash (change_of O.contents O.faults out.old out.new) picture.now
         buffer.old buffer.new result }
+    ensures left { (later : List PicturePlan)
+        → Decodes (pictures_in (buffer_of buffer.old)) (picture.now ∷ later) flight.old.pictures flight.old.fault
+        → OnOk result
+        (Decodes (pictures_in (buffer_of buffer.new)) later flight.new.pictures flight.new.fault) }
 {
     buffer.write(options.form, picture.outputs.before.as_slice(), out)?;
-    buffer.decode(options.hash, picture)?;
+    buffer.enter(options.hash, picture, flight)?;
     buffer.write(options.form, picture.outputs.behind.as_slice(), out)?;
     buffer.keep(picture.outputs.kept.as_slice());
     Ok(())

@@ -3,8 +3,10 @@
 use decoder::{Form, Options, decode};
 use drawn_pictures::{draw_pictures, shown_at};
 use hv_base::Outcome;
-use hv_io::{MemSink, MemSource};
+use hv_io::{MemSink, MemSource, OpenGate};
 use std::alloc::{AllocError, Global};
+use std::sync::Wait;
+use std::thread::Threads;
 use stream_maker::make;
 
 /// How many bytes a picture is: a plane of 128x96 samples, and two of 64x48.
@@ -21,14 +23,19 @@ const DECODING: Options = Options {
 };
 
 /// What the stream of a seed with so many pictures is decoded to. `None` where it isn't made or isn't decoded.
-fn decoded(alloc: Global, seed: u64, pictures: u32) -> Result<Option<Vec<u8>>, AllocError> {
+fn decoded<R: Threads + Wait + Sync>(
+    rt: &R,
+    alloc: Global,
+    seed: u64,
+    pictures: u32,
+) -> Result<Option<Vec<u8>>, AllocError> {
     let mut stream = MemSink::new(alloc, ROOM, 4096, &[])?;
     if make(alloc, seed, pictures, &mut stream) != Outcome::Ok {
         return Ok(None);
     }
     let mut src = MemSource::new(stream.bytes(), 4096, &[]);
     let mut out = MemSink::new(alloc, ROOM, 4096, &[])?;
-    match decode(alloc, DECODING, &mut src, &mut out) {
+    match decode(rt, alloc, DECODING, &mut src, &mut out, &OpenGate) {
         Outcome::Ok => Ok(Some(Vec::from_slice(alloc, out.bytes())?)),
         _ => Ok(None),
     }
@@ -50,18 +57,23 @@ fn are_shown(bytes: &[u8], drawn: &[u8], pictures: u32) -> bool {
 }
 
 /// Whether the stream of a seed with so many pictures is decoded to the pictures drawn.
-fn is_as_drawn(alloc: Global, seed: u64, pictures: u32) -> Result<bool, AllocError> {
+fn is_as_drawn<R: Threads + Wait + Sync>(
+    rt: &R,
+    alloc: Global,
+    seed: u64,
+    pictures: u32,
+) -> Result<bool, AllocError> {
     let drawn = draw_pictures(alloc, seed, pictures)?;
-    match decoded(alloc, seed, pictures)? {
+    match decoded(rt, alloc, seed, pictures)? {
         Some(bytes) => Ok(are_shown(bytes.as_slice(), drawn.as_slice(), pictures)),
         None => Ok(false),
     }
 }
 
 /// Whether the streams of seeds from 0 on, of one to nine pictures, are decoded so.
-fn are_as_drawn(alloc: Global, seeds: u32) -> bool {
+fn are_as_drawn<R: Threads + Wait + Sync>(rt: &R, alloc: Global, seeds: u32) -> bool {
     for seed in 0..seeds {
-        if is_as_drawn(alloc, u64::from(seed), seed % 9 + 1) != Ok(true) {
+        if is_as_drawn(rt, alloc, u64::from(seed), seed % 9 + 1) != Ok(true) {
             return false;
         }
     }
@@ -70,5 +82,5 @@ fn are_as_drawn(alloc: Global, seeds: u32) -> bool {
 
 #[test]
 fn streams_are_decoded_to_the_pictures_drawn(rt: HostRuntime) {
-    assert!(rt; are_as_drawn(rt.alloc(), 50));
+    assert!(rt; are_as_drawn(&rt, rt.alloc(), 50));
 }

@@ -6,12 +6,13 @@ ghost use Rattle.sample_words.specs.Values.{IsModes, sample_bits};
 
 use crate::flight_words::FlightWords;
 use crate::picture_places::PicturePlaces;
-use crate::unit_words::{UnitPart, UnitWords};
+use crate::unit_extent::{UnitPart, UnitWords};
 use hv_base::{Line, Phase};
 use picture_buffer::{MotionField, Picture, PlaceMotion, PlaceVector, Planes};
 use sample_words::{Layout, PlaceModes, UnitContent, pack_modes, pack_offsets, pack_vectors};
 use spec_motion::{Motion, Vector};
 use std::alloc::{AllocError, Global};
+use unit_words::pack_line;
 
 impl FlightWords {
     /// Writes a picture's words, in all phases its samples as they stand.
@@ -76,10 +77,13 @@ impl FlightWords {
     ) -> Result<(), AllocError> {
         let layout = self.layout;
         let held = held_samples(self.alloc, &layout, samples)?;
-        for word in 0..words.line_words(words.part(c).width) {
-            let packed = layout.pack_samples(&held, word as usize);
-            let place = words.word(UnitContent::Samples(c, line, word));
-            self.put(place, packed);
+        let count = words.line_words(words.part(c).width);
+        let mut line_words = vec![in self.alloc; 0; count as usize]?;
+        pack_line(&layout, &held, &mut line_words);
+        for k in 0..count {
+            if let Some(word) = line_words.get(k as usize) {
+                self.put(words.word(UnitContent::Samples(c, line, k)), *word);
+            }
         }
         Ok(())
     }

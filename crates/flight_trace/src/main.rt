@@ -25,8 +25,8 @@ mod reach_lines;
 mod reach_reader;
 mod stream;
 mod trace_error;
+mod unit_extent;
 mod unit_vectors;
-mod unit_words;
 mod word_trace;
 
 use crate::flight_trace::{FlightLines, FlightTrace};

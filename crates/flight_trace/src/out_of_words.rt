@@ -5,7 +5,7 @@ ghost use Rattle.picture_buffer.specs.Planes.{HasSides};
 
 use crate::flight_words::FlightWords;
 use crate::picture_places::PicturePlaces;
-use crate::unit_words::UnitWords;
+use crate::unit_extent::UnitWords;
 use ctu_records::Sao;
 use hv_base::{Line, Phase};
 use picture_buffer::{MotionField, Picture, Planes};
@@ -15,6 +15,7 @@ use plan_types::PicturePlan;
 use sample_words::{UnitContent, unpack_modes, unpack_motion, unpack_offsets};
 use spec_motion::SliceMotion;
 use std::alloc::AllocError;
+use unit_words::unpack_line;
 
 /// A picture that was put together from words.
 #[derive(Drop)]
@@ -104,10 +105,17 @@ impl FlightWords {
     /// A line of the samples of a component of a unit.
     fn samples_line(&self, words: &UnitWords, c: u8, line: u32) -> Result<Vec<u16>, AllocError> {
         let width = words.part(c).width;
+        let count = words.line_words(width);
+        let mut line_words = vec![in self.alloc; 0; count as usize]?;
+        for k in 0..count {
+            if let Some(word) = line_words.get_mut(k as usize) {
+                *word = self.get(words.word(UnitContent::Samples(c, line, k)));
+            }
+        }
         let mut samples = vec![in self.alloc; 0; width as usize]?;
-        for k in 0..words.line_words(width) {
-            let word = self.get(words.word(UnitContent::Samples(c, line, k)));
-            self.layout.unpack_samples(word, &mut samples, k as usize);
+        let room = (self.layout.samples_a_word() as usize).saturating_mul(line_words.len());
+        if samples.len() <= room {
+            unpack_line(&self.layout, &line_words, &mut samples);
         }
         Ok(samples)
     }

@@ -27,7 +27,8 @@ fn main(rt: HostRuntime) -> Result<(), RowError> {
     let runs = fs::read_to_string(&rt, "runs.txt")?;
     run_rows(&rt, rt.alloc(), runs.as_str(), &mut tally)?;
     add_plans(&rt, &mut tally)?;
-    add_sessions(&rt, &mut tally)?;
+    let sessions = fs::read_to_string(&rt, "sessions.txt")?;
+    session_rows(&rt, rt.alloc(), sessions.as_str(), &mut tally)?;
     print_tally(&rt, &tally)
 }
 
@@ -35,12 +36,6 @@ fn main(rt: HostRuntime) -> Result<(), RowError> {
 fn add_plans(rt: &HostRuntime, tally: &mut Tally) -> Result<(), RowError> {
     let plans = fs::read_to_string(rt, "plans.txt")?;
     plan_rows(rt.alloc(), plans.as_str(), tally)
-}
-
-/// Pushes the streams of the rows of `sessions.txt`.
-fn add_sessions(rt: &HostRuntime, tally: &mut Tally) -> Result<(), RowError> {
-    let sessions = fs::read_to_string(rt, "sessions.txt")?;
-    session_rows(rt.alloc(), sessions.as_str(), tally)
 }
 
 /// Prints in what runs differed, and the sum.

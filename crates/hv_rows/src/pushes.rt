@@ -5,7 +5,9 @@ ghost use Rattle.std.specs.Prelude.{◌<◌};
 use crate::asked::Asked;
 use decoder::Session;
 use hv_base::Outcome;
-use hv_io::MemSink;
+use hv_io::{MemSink, OpenGate};
+use std::sync::Wait;
+use std::thread::Threads;
 
 /// A stream, the size of its pieces, and the reads that fail, from 0: each gives a piece, and the last of all its end.
 #[derive(Clone, Copy)]
@@ -25,7 +27,8 @@ pub(crate) struct PushedEnd {
 /// Pushes each piece; halts where a read fails, and finishes behind the last piece. Where decoding ended before, the
 /// calls behind have to answer the same and to write nothing. Where it goes on, at most so many plans as the words say
 /// are to be held, and 16 pictures.
-pub(crate) fn push_pieces(
+pub(crate) fn push_pieces<R: Threads + Wait + Sync>(
+    rt: &R,
     session: Session,
     asked: Asked,
     pieces: Pieces<'_>,
@@ -40,16 +43,18 @@ pub(crate) fn push_pieces(
         if pieces.fails.contains(&number) {
             break;
         }
-        if let Some(outcome) = session.push(piece, out) {
-            return ended(session, piece, outcome, out);
+        if let Some(outcome) = session.push(rt, piece, out, &OpenGate) {
+            return ended(rt, session, piece, outcome, out);
         }
         is_sound &= holds_few(&session, asked);
         number = number.saturating_add(1);
     }
     let outcome = if pieces.fails.contains(&number) {
-        session.halt(out).unwrap_or(Outcome::ReadFault)
+        session
+            .halt(rt, out, &OpenGate)
+            .unwrap_or(Outcome::ReadFault)
     } else {
-        session.finish(out)
+        session.finish(rt, out, &OpenGate)
     };
     PushedEnd { outcome, is_sound }
 }
@@ -61,11 +66,17 @@ fn holds_few(session: &Session, asked: Asked) -> bool {
 }
 
 /// Behind an outcome: whether a further push and the end answer the same and write nothing.
-fn ended(session: Session, piece: &[u8], outcome: Outcome, out: &mut MemSink<'_>) -> PushedEnd {
+fn ended<R: Threads + Wait + Sync>(
+    rt: &R,
+    session: Session,
+    piece: &[u8],
+    outcome: Outcome,
+    out: &mut MemSink<'_>,
+) -> PushedEnd {
     let mut session = session;
     let written = out.bytes().len();
-    let is_again = session.push(piece, out) == Some(outcome);
-    let is_end = session.finish(out) == outcome;
+    let is_again = session.push(rt, piece, out, &OpenGate) == Some(outcome);
+    let is_end = session.finish(rt, out, &OpenGate) == outcome;
     PushedEnd {
         outcome,
         is_sound: is_again && is_end && out.bytes().len() == written,

@@ -181,7 +181,7 @@ fn run_turns<R: Threads + Wait + Sync>(
     for number in first..=last {
         row.input.ends.turn_to(number)?;
         tally.add_run(name, difference(rt, alloc, row, piece)?)?;
-        push_row(alloc, name, row, piece, tally)?;
+        push_row(rt, alloc, name, row, piece, tally)?;
     }
     Ok(())
 }
@@ -230,7 +230,8 @@ fn difference<R: Threads + Wait + Sync>(
 
 /// Pushes the stream of a row into a session, in these pieces. Not where the row doesn't decode, its words are faulty,
 /// or its error sink fails, which a session doesn't know.
-fn push_row(
+fn push_row<R: Threads + Wait + Sync>(
+    rt: &R,
     alloc: Global,
     name: &str,
     row: &RunRow,
@@ -241,13 +242,14 @@ fn push_row(
         return Ok(());
     }
     match Asked::read(row.input.words.as_slice())? {
-        Some(asked) => tally.add_run(name, pushed_difference(alloc, row, asked, piece)?),
+        Some(asked) => tally.add_run(name, pushed_difference(rt, alloc, row, asked, piece)?),
         None => Ok(()),
     }
 }
 
 /// In what a session that gets the stream in these pieces differs from what the row says.
-fn pushed_difference(
+fn pushed_difference<R: Threads + Wait + Sync>(
+    rt: &R,
     alloc: Global,
     row: &RunRow,
     asked: Asked,
@@ -262,6 +264,7 @@ fn pushed_difference(
     };
     let mut out = MemSink::new(alloc, ends.room, size, ends.writes.as_slice())?;
     let PushedEnd { outcome, is_sound } = push_pieces(
+        rt,
         asked.session(alloc)?,
         asked,
         pieces,

@@ -11,8 +11,10 @@ use crate::row_output::RowOutput;
 use crate::tally::Tally;
 use decoder::Session;
 use hv_base::Outcome;
-use hv_io::MemSink;
+use hv_io::{MemSink, OpenGate};
 use std::alloc::Global;
+use std::sync::Wait;
+use std::thread::Threads;
 
 /// How many bytes the sink takes.
 const ROOM: usize = 1 << 20;
@@ -44,18 +46,24 @@ struct Trace {
 }
 
 /// Pushes the stream of each row of the table.
-pub(crate) fn session_rows(alloc: Global, table: &str, tally: &mut Tally) -> Result<(), RowError> {
+pub(crate) fn session_rows<R: Threads + Wait + Sync>(
+    rt: &R,
+    alloc: Global,
+    table: &str,
+    tally: &mut Tally,
+) -> Result<(), RowError> {
     let mut names = UnitNames::new(alloc);
     for line in table.lines() {
         if names.is_row(line)? {
-            session_row(alloc, &names, line, tally)?;
+            session_row(rt, alloc, &names, line, tally)?;
         }
     }
     Ok(())
 }
 
 /// Pushes the stream of the row of a line.
-fn session_row(
+fn session_row<R: Threads + Wait + Sync>(
+    rt: &R,
     alloc: Global,
     names: &UnitNames<'_>,
     line: &str,
@@ -65,7 +73,7 @@ fn session_row(
     let columns = columns_of(rest);
     let bytes = names.stream_of(alloc, columns.stream)?;
     tally.add_row();
-    tally.add_run(name, difference(alloc, columns, bytes.as_slice())?)
+    tally.add_run(name, difference(rt, alloc, columns, bytes.as_slice())?)
 }
 
 /// The columns behind the name.
@@ -81,7 +89,8 @@ fn columns_of(text: &str) -> Columns<'_> {
 }
 
 /// In what a session that gets these bytes differs from what the row says.
-fn difference(
+fn difference<R: Threads + Wait + Sync>(
+    rt: &R,
     alloc: Global,
     columns: Columns<'_>,
     bytes: &[u8],
@@ -89,7 +98,7 @@ fn difference(
     let session = session_of(alloc, columns.words)?;
     let output = RowOutput::read(alloc, columns.output)?;
     let mut out = MemSink::new(alloc, ROOM, ROOM, &[])?;
-    let text = changes_of(alloc, session, columns.last, bytes, &mut out)?;
+    let text = changes_of(rt, alloc, session, columns.last, bytes, &mut out)?;
     if text.as_str() == columns.changes && output.is(alloc, out.bytes())? {
         return Ok(None);
     }
@@ -107,7 +116,8 @@ fn session_of(alloc: Global, text: &str) -> Result<Session, RowError> {
 
 /// Pushes bytes one by one and then makes the last call, `finish`, or `halt`, behind all bytes or behind `halt N`: what
 /// changed behind which byte, and what the last call answered.
-fn changes_of(
+fn changes_of<R: Threads + Wait + Sync>(
+    rt: &R,
     alloc: Global,
     session: Session,
     last: &str,
@@ -118,7 +128,7 @@ fn changes_of(
     let mut trace = Trace::new(alloc);
     let count = pushed_count(last, bytes.len())?;
     for at in 0..count {
-        let answer = session.push(&bytes[at..at + 1], out);
+        let answer = session.push(rt, &bytes[at..at + 1], out, &OpenGate);
         let (plans, pictures) = session.kept();
         let written = out.bytes().len();
         trace.see(
@@ -132,7 +142,7 @@ fn changes_of(
             },
         )?;
     }
-    let answer = last_answer(session, last, out);
+    let answer = last_answer(rt, session, last, out);
     trace.ended(alloc, last, out.bytes().len(), answer)
 }
 
@@ -147,11 +157,16 @@ fn pushed_count(last: &str, count: usize) -> Result<usize, RowError>
 }
 
 /// What the last call answers.
-fn last_answer(session: Session, last: &str, out: &mut MemSink<'_>) -> Option<Outcome> {
+fn last_answer<R: Threads + Wait + Sync>(
+    rt: &R,
+    session: Session,
+    last: &str,
+    out: &mut MemSink<'_>,
+) -> Option<Outcome> {
     if last == "finish" {
-        return Some(session.finish(out));
+        return Some(session.finish(rt, out, &OpenGate));
     }
-    session.halt(out)
+    session.halt(rt, out, &OpenGate)
 }
 
 impl Trace {

@@ -9,9 +9,11 @@ mod picture;
 mod place_motion;
 mod plane;
 mod planes;
+mod shared_picture;
 
 pub use bases::Bases;
 pub use motion_field::MotionField;
 pub use picture::Picture;
 pub use place_motion::{PlaceMotion, PlaceVector};
 pub use planes::Planes;
+pub use shared_picture::SharedPicture;

@@ -76,14 +76,14 @@ pub added_is : (buffer : List DecodedPicture) (p : PicturePlan) (s : SegmentPlan
 unfolding unit_added
 added_is buffer p s unit built samples motions es em = same_picture _ _ _ _ es em
 
-some_samples : (c : ℕ) → 1 ≤ samples_of_place c
+pub some_samples : (c : ℕ) → 1 ≤ samples_of_place c
 some_samples c = either (c == 0)
   where
     either : (t : Bool) → 1 ≤ (if t then 4 else 2)
     either true = omega arith
     either false = omega arith
 
-some_side : (size : ℕ) → 1 ≤ 2 ^ size
+pub some_side : (size : ℕ) → 1 ≤ 2 ^ size
 some_side zero = omega arith
 some_side (suc size) =
     let one = some_side size in let e : 2 ^ suc size ≡ 2 * 2 ^ size = grind arith in omega (arith, one, e)

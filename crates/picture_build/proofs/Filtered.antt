@@ -41,7 +41,7 @@ plane_outside : (plane : PlaneSamples) (x y : ℕ) → (nat_lt x plane.width && 
 unfolding plane_at
 plane_outside plane x y e = ap (λ (t : Bool). if t then slice_index plane.samples (plane.width * y + x) else 0) e
 
-outside : (planes : PictureSamples) (c x y : ℕ)
+pub outside : (planes : PictureSamples) (c x y : ℕ)
     → (nat_lt c 3 && (nat_lt x (plane_width planes c) && nat_lt y (plane_height planes c))) ≡ false
     → samples_of planes c x y ≡ 0
 unfolding samples_of
@@ -57,7 +57,7 @@ none_past : (t u v : Bool) → t ≡ false → (t && u) ≡ (t && v)
 none_past t u v e = rw e refl
 
 -- whether a picture has a sample, by its planes
-has_by_planes : (planes : PictureSamples) (picture : PictureShape) (c x y : ℕ)
+pub has_by_planes : (planes : PictureSamples) (picture : PictureShape) (c x y : ℕ)
     → HasSides planes (4 * picture.across) (4 * picture.down)
     → has_sample picture c x y ≡ (nat_lt c 3 && (nat_lt x (plane_width planes c) && nat_lt y (plane_height planes c)))
 unfolding has_sample
@@ -111,7 +111,7 @@ samples_are p gathered picture old new ep before after told = fun_ext (λ c. fun
         filtered_at p gathered picture old new c x y before after told (has_sample picture c x y) refl
         ∙ ap (λ (q : PictureShape). if has_sample q c x y then filtered p gathered (samples_of old) c x y else 0) ep
 
-same_sides : (planes : PictureSamples) (w h v g : ℕ) → w ≡ v → h ≡ g → HasSides planes w h → HasSides planes v g
+pub same_sides : (planes : PictureSamples) (w h v g : ℕ) → w ≡ v → h ≡ g → HasSides planes w h → HasSides planes v g
 same_sides planes w h v g ew eh sides = subst (λ k. HasSides planes k g) ew (subst (λ k. HasSides planes w k) eh sides)
 
 same_decoded : (f g : PictureFormat) (s t : Samples) (m n : Motions) → f ≡ g → s ≡ t → m ≡ n

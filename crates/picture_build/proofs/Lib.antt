@@ -10,3 +10,4 @@ pub mod Added
 pub mod Work
 pub mod Eights
 pub mod InnerRows
+pub mod LaidUnits

@@ -3,3 +3,4 @@ pub mod Pictures
 pub mod Building
 pub mod Standing
 pub mod Referring
+pub mod Fresh

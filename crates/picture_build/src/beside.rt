@@ -1,12 +1,12 @@
 //! What stands beside the coding tree units of a picture that is built.
 
-ghost use Rattle.std.specs.Prelude.{◌≡◌, ◌*◌};
-ghost use Rattle.picture_buffer.specs.Planes.{HasSides};
+ghost use Rattle.std.specs.Prelude.{◌≡◌, ◌≤◌};
 ghost use Rattle.picture_build.specs.Pictures.{buffer_of};
 ghost use Rattle.spec_picture_build.specs.References.{motions_of as motions_at};
 
+use crate::fresh::FreshPlanes;
 use header_types::RefEntry;
-use picture_buffer::{Bases, MotionField, PlaceMotion, Planes};
+use picture_buffer::{Bases, MotionField, PlaceMotion};
 use picture_filters::PictureFilters;
 use picture_layout::CodingTreeUnit;
 use picture_motion::{MotionBeneath, MotionBeside};
@@ -26,7 +26,7 @@ pub(crate) struct PictureBeside<'a> {
 #[derive(Clone, Copy)]
 pub(crate) struct Built<'a> {
     /// Its samples before the loop filters.
-    pub(crate) planes: &'a Planes,
+    pub(crate) planes: &'a FreshPlanes,
     /// Its motion.
     pub(crate) field: &'a MotionField,
     /// What its loop filters need.
@@ -36,22 +36,22 @@ pub(crate) struct Built<'a> {
 }
 
 impl<'a> Model for PictureBeside<'a> {
-    ghost use Rattle.std.specs.Prelude.{◌*◌};
-    ghost use Rattle.picture_buffer.specs.Planes.{HasSides};
+    ghost use Rattle.std.specs.Prelude.{◌≡◌, ◌≤◌};
     ghost use Rattle.picture_build.specs.Standing.{Standing};
 
     ghost Value = { Standing };
 
     ghost view = { λ v. record {
       unit = v.unit;
-      planes = v.built.planes.now;
+      planes = v.built.planes.now.planes;
       motion = v.built.field.now;
       filters = v.built.filters.now;
       bases = v.built.bases.now;
       entry = v.entry;
     } };
 
-    ghost invariant = { λ v. HasSides v.built.planes.now (4 * v.unit.layout.across) (4 * v.unit.layout.down) };
+    ghost invariant = { λ v. (v.built.planes.now.picture ≡ v.unit.layout)
+        × (v.unit.address ≤ v.built.planes.now.laid) };
 }
 
 impl<'a> PictureBeside<'a> {
@@ -61,10 +61,11 @@ impl<'a> PictureBeside<'a> {
         built: Built<'a>,
         entry: Option<RefEntry>,
     ) -> PictureBeside<'a>
-        requires { HasSides built.planes.now (4 * unit.layout.across) (4 * unit.layout.down) }
+        requires picture { built.planes.now.picture ≡ unit.layout }
+        requires order { unit.address ≤ built.planes.now.laid }
         ensures { result ≡ record {
           unit = unit;
-          planes = built.entry.planes.now;
+          planes = built.entry.planes.now.planes;
           motion = built.entry.field.now;
           filters = built.entry.filters.now;
           bases = built.entry.bases.now;
@@ -113,6 +114,7 @@ impl<'a> Beside for PictureBeside<'a> {
     }
 
     fn above(&self, part: Part, first: usize, end: usize) -> &[u16] {
+        let _side = self.unit.layout.side();
         let row = self.built.planes.row(part.c, (part.y - 1) as u32);
         &row[first..end]
     }

@@ -16,13 +16,13 @@ ghost use Rattle.spec_reconstruction.specs.Sound.{AreSound};
 
 use crate::beside::Built;
 use crate::format::{common_format, set_slice};
-use crate::lines::lay_unit;
-use crate::spare::empty_parts;
+use crate::fresh::FreshPlanes;
+use crate::spare::spare_parts;
 use crate::unit::build_beside;
 use ctu_build::Scratch;
 use ctu_records::Records;
 use loop_filters::FilterScratch;
-use picture_buffer::{Bases, MotionField, Picture, Planes};
+use picture_buffer::{Bases, MotionField, Picture};
 use picture_filters::PictureFilters;
 use picture_layout::{CodingTreeUnit, Layout, slice_address};
 use picture_motion::lay_unit as lay_motion;
@@ -51,7 +51,7 @@ pub(crate) struct PictureBuilder<'a, B: Buffer> {
     layout: Layout,
     /// What the samples of the next unit depend on, once the offsets of its slice are set.
     format: UnitFormat,
-    planes: Planes,
+    planes: FreshPlanes,
     field: MotionField,
     filters: PictureFilters<'a>,
     scratch: Scratch,
@@ -62,7 +62,6 @@ pub(crate) struct PictureBuilder<'a, B: Buffer> {
 impl<'a, B: Buffer> Model for PictureBuilder<'a, B> {
     ghost use Rattle.std.specs.Prelude.{◌≡◌, ◌*◌};
     ghost use Rattle.picture_buffer.specs.Motion.{HasPlaces};
-    ghost use Rattle.picture_buffer.specs.Planes.{HasSides};
     ghost use Rattle.picture_build.specs.Building.{Building};
     ghost use Rattle.picture_build.specs.Formats.{IsCommon};
     ghost use Rattle.spec_picture_trees.specs.Shapes.{picture_shape};
@@ -70,10 +69,15 @@ impl<'a, B: Buffer> Model for PictureBuilder<'a, B> {
 
     ghost Value = { Building };
 
-    ghost view = { λ b. record { plan = b.plan.now; planes = b.planes; motion = b.field; filters = b.filters } };
+    ghost view = { λ b. record {
+      plan = b.plan.now;
+      planes = b.planes.planes;
+      motion = b.field;
+      filters = b.filters;
+    } };
 
     ghost invariant = { λ b. (b.layout ≡ picture_shape b.plan.now.sps b.plan.now.pps)
-        × HasSides b.planes (4 * b.layout.across) (4 * b.layout.down)
+        × (b.planes.picture ≡ b.layout)
         × (4 * b.layout.across ≡ b.plan.now.sps.format.pic_width_in_luma_samples)
         × (4 * b.layout.down ≡ b.plan.now.sps.format.pic_height_in_luma_samples)
         × IsFormat b.format
@@ -96,14 +100,16 @@ impl<'a, B: Buffer> PictureBuilder<'a, B> {
         ensures built { IfOk result (λ b. IsBuilt (buffer_of B.pictures) b plan.now []) }
         ensures sps { IsSps plan.now.sps }
     {
-        let (planes, field) = empty_parts(alloc, &plan.sps.fields().format, spare)?;
+        let (planes, field) = spare_parts(alloc, &plan.sps.fields().format, spare)?;
+        let layout = Layout::new(plan);
+        let fresh = FreshPlanes::new(planes, layout);
         Ok(PictureBuilder {
             buffer: PhantomData,
             plan,
             bases,
-            layout: Layout::new(plan),
+            layout,
             format: common_format(alloc, plan)?,
-            planes,
+            planes: fresh,
             field,
             filters: PictureFilters::new(alloc, plan, scratch)?,
             scratch: Scratch::new(),
@@ -116,7 +122,7 @@ impl<'a, B: Buffer> PictureBuilder<'a, B> {
         requires { (c x y : ℕ) → samples_of self.planes c x y ≤ greatest_sample self.plan.sps.format c }
         ensures { decoded_of result.0 ≡ decoded_by self.entry.plan (units_by self.entry) }
     {
-        let mut planes = self.planes;
+        let mut planes = self.planes.into_planes();
         let mut filters = self.filters;
         filters.filter(&mut planes);
         let format = self.plan.sps.fields().format;
@@ -164,6 +170,7 @@ impl<'a, B: Buffer> PictureBuilder<'a, B> {
         };
         let slice = &segment.header.fields().slice;
         set_slice(&mut self.format, &self.plan.pps, slice);
+        self.planes.reach(u64::from(address));
         let source = UnitSource {
             plan: self.plan,
             segment,
@@ -183,7 +190,7 @@ impl<'a, B: Buffer> PictureBuilder<'a, B> {
             &mut self.scratch,
             &mut self.unit,
         );
-        lay_unit(&unit, &self.unit.samples, &mut self.planes);
+        self.planes.lay_unit(&unit, &self.unit.samples);
         let (pointing, motion) = (&self.unit.slice, &self.unit.motion);
         lay_motion(&unit, pointing, motion, &mut self.field);
         self.filters.lay(segment, address, &self.unit.filters);

@@ -7,6 +7,7 @@ mod beside;
 mod builder;
 mod factors;
 mod format;
+mod fresh;
 mod held;
 mod inside;
 mod lines;

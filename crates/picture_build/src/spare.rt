@@ -3,15 +3,15 @@
 ghost use Rattle.std.specs.Prelude.{◌≡◌, ℕ, ◌*◌, ◌/◌, IfOk, IfSome, None, true};
 ghost use Rattle.header_types.specs.SequenceParameterSets.{IsPictureFormat};
 ghost use Rattle.picture_buffer.specs.Motion.{HasPlaces, motions_of};
-ghost use Rattle.picture_buffer.specs.Planes.{HasSides, samples_of};
+ghost use Rattle.picture_buffer.specs.Planes.{HasSides};
 
 use header_types::PictureFormat;
 use picture_buffer::{MotionField, Picture, Planes};
 use std::alloc::{AllocError, Global};
 
-/// Planes of zeros and a field without motion of a picture of this format: those of a spare picture of its size, else
-/// new ones.
-pub(crate) fn empty_parts(
+/// Planes of a picture of this format, and a field without motion: those of a spare picture of its size, else new ones.
+/// What stands in the planes tells nothing.
+pub(crate) fn spare_parts(
     alloc: Global,
     format: &PictureFormat,
     spare: Option<Picture>,
@@ -19,13 +19,12 @@ pub(crate) fn empty_parts(
     requires { IsPictureFormat format.now }
     ensures sides { IfOk result
         (λ parts. HasSides parts.0 format.now.pic_width_in_luma_samples format.now.pic_height_in_luma_samples) }
-    ensures samples { IfOk result (λ parts. (c x y : ℕ) → samples_of parts.0 c x y ≡ 0) }
     ensures places { IfOk result (λ parts. HasPlaces parts.1 (format.now.pic_width_in_luma_samples / 4)
         (format.now.pic_height_in_luma_samples / 4)) }
     ensures motions { IfOk result (λ parts. (x y : ℕ) → motions_of parts.1 x y ≡ None) }
 {
     match parts_of_size(spare, format) {
-        Some((planes, field)) => Ok(emptied(planes, field)),
+        Some((planes, field)) => Ok((planes, emptied(field))),
         None => new_parts(alloc, format),
     }
 }
@@ -57,16 +56,13 @@ fn has_places(field: &MotionField, format: &PictureFormat) -> bool
         && field.down() == format.pic_height_in_luma_samples / 4
 }
 
-/// The parts, with nothing in them. It takes no memory.
-fn emptied(mut planes: Planes, mut field: MotionField) -> (Planes, MotionField)
-    ensures sides { (width height : ℕ) → HasSides planes width height → HasSides result.0 width height }
-    ensures samples { (c x y : ℕ) → samples_of result.0 c x y ≡ 0 }
-    ensures places { (across down : ℕ) → HasPlaces field across down → HasPlaces result.1 across down }
-    ensures motions { (x y : ℕ) → motions_of result.1 x y ≡ None }
+/// The field, with nothing in it. It takes no memory.
+fn emptied(mut field: MotionField) -> MotionField
+    ensures places { (across down : ℕ) → HasPlaces field across down → HasPlaces result across down }
+    ensures motions { (x y : ℕ) → motions_of result x y ≡ None }
 {
-    planes.restart();
     field.restart();
-    (planes, field)
+    field
 }
 
 /// New ones.
@@ -74,7 +70,6 @@ fn new_parts(alloc: Global, format: &PictureFormat) -> Result<(Planes, MotionFie
     requires { IsPictureFormat format.now }
     ensures sides { IfOk result
         (λ parts. HasSides parts.0 format.now.pic_width_in_luma_samples format.now.pic_height_in_luma_samples) }
-    ensures samples { IfOk result (λ parts. (c x y : ℕ) → samples_of parts.0 c x y ≡ 0) }
     ensures places { IfOk result (λ parts. HasPlaces parts.1 (format.now.pic_width_in_luma_samples / 4)
         (format.now.pic_height_in_luma_samples / 4)) }
     ensures motions { IfOk result (λ parts. (x y : ℕ) → motions_of parts.1 x y ≡ None) }

@@ -1,6 +1,6 @@
 //! A coding tree unit of a picture that is built (8.4.4.1, 8.5.3, 8.6, 8.7.2).
 
-ghost use Rattle.std.specs.Prelude.{◌≡◌, ℕ, ◌*◌, ◌<◌, ◌≤◌};
+ghost use Rattle.std.specs.Prelude.{◌≡◌, ℕ, ◌<◌, ◌≤◌};
 ghost use Rattle.std.specs.List.{All};
 ghost use Rattle.ctu_build.specs.Held.{held};
 ghost use Rattle.ctu_motion.specs.Held.{held as motion_held};
@@ -8,7 +8,7 @@ ghost use Rattle.ctu_records.specs.Tree.{qp_at};
 ghost use Rattle.picture_build.specs.Formats.{HasDepths};
 ghost use Rattle.picture_build.specs.Pictures.{buffer_of};
 ghost use Rattle.picture_buffer.specs.Motion.{motions_of};
-ghost use Rattle.picture_buffer.specs.Planes.{HasSides, samples_of};
+ghost use Rattle.picture_buffer.specs.Planes.{samples_of};
 ghost use Rattle.picture_filters.specs.Filtering.{IsUnit, data_of};
 ghost use Rattle.picture_filters.specs.Given.{IsGiven};
 ghost use Rattle.picture_trees.specs.Given.{tree_unit};
@@ -42,7 +42,8 @@ pub(crate) fn build_beside(
     requires unit { IsUnit source.now.plan.now source.now.segment.now unit.now }
     requires format { IsFormat source.now.format.now }
     requires depths { HasDepths source.now.plan.now.sps source.now.format.now }
-    requires sides { HasSides built.planes.now (4 * unit.now.layout.across) (4 * unit.now.layout.down) }
+    requires picture { built.planes.now.picture ≡ unit.now.layout }
+    requires order { unit.now.address ≤ built.planes.now.laid }
     ensures slice { work.new.slice ≡ slice_motion source.now.plan.now source.now.segment.now unit.now.address }
     ensures motion { (number : ℕ) → All IsPlacedItem records.now.items
         → motion_held work.new.motion
@@ -61,7 +62,7 @@ pub(crate) fn build_beside(
         (unit_inter (buffer_of built.entry.bases.now) source.now.plan.now source.now.segment.now
         (tree_unit number unit.now.address records.now) (motions_of built.entry.field.now))
         records.now.items
-        (known_beside unit.now.layout unit.now.slice unit.now.address (samples_of built.entry.planes.now)) }
+        (known_beside unit.now.layout unit.now.slice unit.now.address (samples_of built.entry.planes.now.planes)) }
 {
     let slice = &source.segment.header.fields().slice;
     let lists = &slice_of(source.plan, source.segment).lists;

@@ -25,11 +25,16 @@ first_place = record {
 unfoldable pub places_of : FieldPlaces → ℕ → ℕ → FilterPlace
 places_of field x y = cell first_place field x y
 
--- beside the places stand the flags of those whose samples stay (8.7.2.5.7, 8.7.3)
-pub record IsField (places : FieldPlaces) (flags : Cells Bool) : Type 0 where
+-- flags none of which is set
+abbrev pub AreClear : Cells Bool → Type 0
+AreClear flags = (x y : ℕ) → cell false flags x y ≡ false
+
+-- beside the places stand the flags of those whose samples stay (8.7.2.5.7, 8.7.3), and whether one may be set
+pub record IsField (places : FieldPlaces) (flags : Cells Bool) (flagged : Bool) : Type 0 where
   pub columns : flags.across ≡ places.across
   pub rows : flags.down ≡ places.down
   pub kept : (x y : ℕ) → cell false flags x y ≡ (places_of places x y).place.kept
+  pub clear : flagged ≡ false → AreClear flags
 
 -- a field of so many places across and down
 abbrev pub HasPlaces : FieldPlaces → ℕ → ℕ → Type 0

@@ -2,7 +2,8 @@
 
 ghost use Rattle.std.specs.Prelude.{◌≡◌, ℕ, ◌+◌, ◌-◌, ◌*◌, ◌<◌, ◌≤◌, ◌==◌, ◌&&◌, min, length};
 ghost use Rattle.std.specs.Prelude.{slice_index_or, IfOk, false, if◌then◌else◌};
-ghost use Rattle.picture_filters.specs.Places.{HasPlaces, first_place, places_of};
+ghost use Rattle.place_grid.specs.Cells.{HasCells, cell};
+ghost use Rattle.picture_filters.specs.Places.{AreClear, HasPlaces, first_place, places_of};
 
 use crate::filter_place::{FIRST_PLACE, FilterPlace};
 use place_grid::Grid;
@@ -14,6 +15,8 @@ use std::marker::Model;
 pub(crate) struct PlaceField {
     places: Grid<FilterPlace>,
     kept: Grid<bool>,
+    /// Whether a flag may be set.
+    flagged: bool,
 }
 
 impl Model for PlaceField {
@@ -23,7 +26,7 @@ impl Model for PlaceField {
 
     ghost view = { λ f. f.places };
 
-    ghost invariant = { λ f. IsField f.places f.kept };
+    ghost invariant = { λ f. IsField f.places f.kept f.flagged };
 }
 
 impl PlaceField {
@@ -38,7 +41,11 @@ impl PlaceField {
     {
         let places = Grid::new(alloc, across, down, FIRST_PLACE)?;
         let kept = Grid::new(alloc, across, down, false)?;
-        Ok(PlaceField { places, kept })
+        Ok(PlaceField {
+            places,
+            kept,
+            flagged: false,
+        })
     }
 
     /// What is known of a place; nothing outside the picture.
@@ -59,7 +66,7 @@ impl PlaceField {
             → places_of self.new i j ≡ (if i == x && j == y then place else places_of self.old i j) }
     {
         self.places.put(x, y, place);
-        self.kept.put(x, y, place.place.kept);
+        self.flagged = put_flag(&mut self.kept, self.flagged, x, y, place.place.kept);
     }
 
     /// Whether the samples of the places in a row of blocks of `side` places stay, line by line, as far as the picture
@@ -74,5 +81,24 @@ impl PlaceField {
     {
         let first = side.saturating_mul(row).min(self.kept.down() as usize);
         self.kept.rows(first, side)
+    }
+}
+
+/// A flag in its place, where one may be set. While none is, nothing is written.
+#[inline(always)]
+fn put_flag(flags: &mut Grid<bool>, flagged: bool, x: usize, y: usize, flag: bool) -> bool
+    requires column { x < flags.old.across }
+    requires row { y < flags.old.down }
+    requires clear { flagged ≡ false → AreClear flags.old }
+    ensures sides { (across down : ℕ) → HasCells flags.old across down → HasCells flags.new across down }
+    ensures flags { (i j : ℕ)
+        → cell false flags.new i j ≡ (if i == x && j == y then flag else cell false flags.old i j) }
+    ensures clear { result ≡ false → AreClear flags.new }
+{
+    if flagged || flag {
+        flags.put(x, y, flag);
+        true
+    } else {
+        false
     }
 }

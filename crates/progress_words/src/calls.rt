@@ -14,7 +14,7 @@ use crate::steps::{
     Cut, FetchAdd, FetchMin, Glue, LoadData, LoadFault, LoadLine, StoreData, StoreLine,
 };
 
-impl<F: Facts> Board<F> {
+impl<'a, F: Facts> Board<'a, F> {
     // The places of the words that many threads write.
     fn count_word(&self, line: usize) -> usize
         requires { line < (F.meaning self.now.flight).lines }
@@ -43,7 +43,7 @@ impl<F: Facts> Board<F> {
         ensures kept { Knows pass.old pass.new (kept_part (view pass.old)) }
         ensures new { IsPassOf self.now result × (view result ≡ new_part (view pass.old)) }
     {
-        let seat = self.table.shared.split_seat::<Cut>(&mut pass.seat);
+        let seat = self.shared.split_seat::<Cut>(&mut pass.seat);
         Pass { seat, count: 0 }
     }
 
@@ -55,7 +55,7 @@ impl<F: Facts> Board<F> {
         ensures { Knows pass.old pass.new (joined (view pass.old) (view other)) }
     {
         let Pass { seat, count: _ } = other;
-        self.table.shared.join_seat::<Glue>(&mut pass.seat, seat);
+        self.shared.join_seat::<Glue>(&mut pass.seat, seat);
         pass.count = 0;
     }
 
@@ -71,10 +71,7 @@ impl<F: Facts> Board<F> {
             × (seen_of (view pass.new) ((F.meaning self.now.flight).line_at t) ≡ 0)) }
     {
         let place = self.ticket_word();
-        let found = self
-            .table
-            .shared
-            .fetch_add::<FetchAdd>(&mut pass.seat, place, 1);
+        let found = self.shared.fetch_add::<FetchAdd>(&mut pass.seat, place, 1);
         if found < self.lines as u64 {
             pass.count = 0;
             Some(found as usize)
@@ -103,7 +100,7 @@ impl<F: Facts> Board<F> {
         ensures sound { AllSound (F.meaning self.now.flight) line result }
     {
         let place = self.count_word(line);
-        self.table.shared.load::<LoadLine>(&mut pass.seat, place)
+        self.shared.load::<LoadLine>(&mut pass.seat, place)
     }
 
     /// By one load, the least fault word: at most what this pass had seen, and none or that of a bad unit.
@@ -124,7 +121,7 @@ impl<F: Facts> Board<F> {
         ensures fault { IsFault (F.meaning self.now.flight) result }
     {
         let place = self.fault_word();
-        self.table.shared.load::<LoadFault>(&mut pass.seat, place)
+        self.shared.load::<LoadFault>(&mut pass.seat, place)
     }
 
     /// The word, whose unit this pass has seen counted.
@@ -144,7 +141,7 @@ impl<F: Facts> Board<F> {
         ensures value { result ≡ (F.meaning self.now.flight).expected word }
         ensures same { Knows pass.old pass.new (view pass.old) }
     {
-        self.table.shared.load::<LoadData>(&mut pass.seat, word)
+        self.shared.load::<LoadData>(&mut pass.seat, word)
     }
 
     /// Writes the next word of the next unit of the line held.
@@ -154,9 +151,7 @@ impl<F: Facts> Board<F> {
         requires value { value ≡ (F.meaning self.now.flight).expected word }
         ensures { Knows pass.old pass.new (writing (view pass.old)) }
     {
-        self.table
-            .shared
-            .store::<StoreData>(&mut pass.seat, word, value);
+        self.shared.store::<StoreData>(&mut pass.seat, word, value);
     }
 
     /// Counts the next unit of the line held, all of whose words are written.
@@ -169,7 +164,7 @@ impl<F: Facts> Board<F> {
         ensures sound { AllSound (F.meaning self.now.flight) line (seen_of (view pass.old) line + 1) }
     {
         let place = self.count_word(line);
-        let shared = &self.table.shared;
+        let shared = self.shared;
         let count = pass.count + 1;
         shared.store::<StoreLine>(&mut pass.seat, place, count);
         pass.count = count;
@@ -185,7 +180,7 @@ impl<F: Facts> Board<F> {
         ensures fault { IsFault (F.meaning self.now.flight) (view pass.new).least }
         ensures ended { HasEnded (F.meaning self.now.flight) (view pass.new) }
     {
-        let shared = &self.table.shared;
+        let shared = self.shared;
         let place = self.fault_word();
         let word = fault_of(unit, rule);
         shared.fetch_min::<FetchMin>(&mut pass.seat, place, word);

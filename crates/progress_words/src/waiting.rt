@@ -22,7 +22,7 @@ pub enum Waited {
     Stopped,
 }
 
-impl<F: Facts> Board<F> {
+impl<'a, F: Facts> Board<'a, F> {
     /// Waits until at least n units of the line are counted, or a fault is found before the unit that waits. Calls the
     /// gate with that unit between two looks.
     pub fn wait_line<R: Wait, G: Gate>(

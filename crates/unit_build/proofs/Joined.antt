@@ -46,24 +46,31 @@ motion_is collocated motions p s unit viewed slice items last same is es told =
 -- that of the picture behind it
 behind_here : (collocated motions : Motions) (p : PicturePlan) (s : SegmentPlan) (unit : CodingTreeUnit)
     (slice : SliceMotion) (items : List Item) (last : motion.Known)
-    → IsUnit p s unit → slice ≡ slice_motion p s unit.address → last ≡ derived_at collocated motions slice unit items
+    → IsUnit p s unit → slice ≡ slice_motion p s unit.address
+    → last ≡ known_over collocated p s unit.address items motions
     → motion_behind unit slice last motions ≡ derived_over collocated p s unit.address items motions
-behind_here collocated motions p s unit slice items last is es told =
+behind_here collocated motions p s unit slice items last is es known =
     laid_is collocated p p s unit.address items motions motions (motion_behind unit slice last motions) unit last
-    refl refl is.layout refl (known_here collocated motions p s unit slice items last is es told)
-    (ap (λ (m : SliceMotion). motion_behind unit m last motions) es)
+    refl refl is.layout refl known (ap (λ (m : SliceMotion). motion_behind unit m last motions) es)
 
 -- what it gives the loop filters
+given_here : (collocated motions : Motions) (coded : ℕ → ℕ → Bool) (p : PicturePlan) (s : SegmentPlan)
+    (unit : CodingTreeUnit) (slice : SliceMotion) (ctu : Ctu) (last : motion.Known) (given : UnitFilters)
+    → IsUnit p s unit → slice ≡ slice_motion p s unit.address
+    → last ≡ known_over collocated p s unit.address ctu.items motions
+    → IsGiven p s unit.address ctu (motion_behind unit slice last motions) coded given
+    → IsGiven p s unit.address ctu (derived_over collocated p s unit.address ctu.items motions) coded given
+given_here collocated motions coded p s unit slice ctu last given is es known gives =
+    subst (λ m. IsGiven p s unit.address ctu m coded given)
+    (behind_here collocated motions p s unit slice ctu.items last is es known) gives
+
 pub given_is : (collocated motions : Motions) (coded : ℕ → ℕ → Bool) (p : PicturePlan) (s : SegmentPlan)
     (unit viewed : CodingTreeUnit) (slice : SliceMotion) (ctu : Ctu) (last : motion.Known) (given : UnitFilters)
-    → unit ≡ viewed → IsUnit p s viewed → slice ≡ slice_motion p s unit.address
-    → last ≡ derived_at collocated motions slice unit ctu.items
+    → unit ≡ viewed → IsUnit p s viewed → slice ≡ slice_motion p s viewed.address
+    → last ≡ known_over collocated p s viewed.address ctu.items motions
     → IsGiven p s unit.address ctu (motion_behind unit slice last motions) coded given
     → IsGiven p s viewed.address ctu (derived_over collocated p s viewed.address ctu.items motions) coded given
-given_is collocated motions coded p s unit viewed slice ctu last given same is es told gives =
-    subst (λ (u : CodingTreeUnit).
-    IsGiven p s u.address ctu (derived_over collocated p s u.address ctu.items motions) coded given) same
-    (subst (λ m. IsGiven p s unit.address ctu m coded given)
-    (behind_here collocated motions p s unit slice ctu.items last
-    (subst (λ (u : CodingTreeUnit). IsUnit p s u) (sym same) is) es told)
+given_is collocated motions coded p s unit viewed slice ctu last given same is es known gives =
+    given_here collocated motions coded p s viewed slice ctu last given is es known
+    (subst (λ (u : CodingTreeUnit). IsGiven p s u.address ctu (motion_behind u slice last motions) coded given) same
     gives)

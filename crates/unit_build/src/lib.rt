@@ -15,5 +15,5 @@ mod weights;
 
 pub use built::BuiltUnit;
 pub use part::Part;
-pub use unit::{UnitSource, build_unit};
+pub use unit::{UnitSource, build_unit, derive_unit, fill_unit};
 pub use view::Beside;

@@ -14,7 +14,7 @@ use picture_motion::{gather_beneath, gather_beside};
 use spec_motion::SliceMotion;
 
 /// Derives the motion of a unit over that beside it and that of the collocated picture.
-pub(crate) fn derive_unit<B: Beside>(
+pub(crate) fn derive_over<B: Beside>(
     unit: &CodingTreeUnit,
     records: &Records,
     beside: &B,

@@ -142,7 +142,7 @@ impl<'a> SegmentData<'a> {
     }
 
     /// The bytes of the substream that a unit begins.
-    pub(crate) fn substream_at(&self, address: u32) -> &'a [u8]
+    pub fn substream_at(&self, address: u32) -> &'a [u8]
         ensures value { result.now
             ≡ slice_index_or self.now.shape.substreams (substream_of self.now.picture self.now.shape address) [] }
         ensures short { length result.now < 2 ^ 60 }

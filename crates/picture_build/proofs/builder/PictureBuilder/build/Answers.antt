@@ -1,4 +1,4 @@
-use Rattle.std.proofs.Common.{◌≡◌, Some, subst, rules}
+use Rattle.std.proofs.Common.{◌≡◌, Some, ap, subst, ◌∙◌, rules}
 use Rattle.std.specs.List.{All}
 use Rattle.ctu_build.specs.Held.{held}
 use Rattle.ctu_motion.specs.Held.{held as motion_held}
@@ -11,7 +11,8 @@ use Rattle.spec_picture_trees.specs.Picture.{TreeUnit}
 use Rattle.spec_picture_trees.specs.Shapes.{picture_shape}
 use Rattle.spec_picture_filters.specs.Filtered.{added_in}
 use Rattle.spec_picture_motion.specs.Derived.{unit_added as motion_added}
-use Rattle.spec_picture_build.specs.Built.{unit_added}
+use Rattle.spec_picture_build.specs.Border.{Samples}
+use Rattle.spec_picture_build.specs.Built.{BuiltPicture, unit_added}
 use Rattle.spec_picture_build.specs.Format.{unit_format}
 use Rattle.spec_picture_build.specs.References.{motions_of as motions_at}
 use Rattle.spec_reconstruction.specs.declared.format.UnitFormat.{UnitFormat}
@@ -28,7 +29,7 @@ pub returns-clause-value : goal.returns-clause-value
 returns-clause-value g c = λ number.
     let old : Building = record {
       plan = c.self.inside.plan.now;
-      planes = c.self.inside.planes;
+      planes = c.self.inside.planes.planes;
       motion = c.self.inside.field;
       filters = c.self.inside.filters;
     } in
@@ -48,20 +49,25 @@ returns-clause-value g c = λ number.
     c.lay_unit-2.ensures.value in
     let Q : Building → Type 0 =
     λ b. AreSound (unit_format b.plan.sps b.plan.pps c.args.segment.now.header.slice) c.args.records.now.items
-    → record { samples = samples_of c.lay_unit.new.planes; motions = motions_of c.lay_unit-2.new.field }
+    → record { samples = samples_of c.lay_unit.new.self.planes; motions = motions_of c.lay_unit-2.new.field }
     ≡ unit_added (buffer_of g.B.Buffer.pictures) b.plan c.args.segment.now unit (built_by b) in
+    let reached : BuiltPicture =
+    record { samples = samples_of c.reach.new.self.planes; motions = motions_of c.self.inside.field } in
     subst Q c.self.view_is (λ sound.
     unit_is c.self.inside.bases.now g.B.Buffer.pictures c.self.inside.plan.now c.args.segment.now unit
     c.self.inside.layout c.slice_address.result c.set_slice.new.format (held c.build_beside.new.work.samples)
-    (built_by old) (samples_of c.lay_unit.new.planes) (motions_of c.lay_unit-2.new.field)
+    reached (samples_of c.lay_unit.new.self.planes) (motions_of c.lay_unit-2.new.field)
     bases layout c.slice_address.ensures format c.lay_unit.ensures.shape sound moves
-    (c.build_beside.ensures.samples number) c.lay_unit.ensures.value)
+    (c.build_beside.ensures.samples number) c.lay_unit.ensures.value
+    ∙ ap (λ (f : Samples). unit_added (buffer_of g.B.Buffer.pictures) c.self.inside.plan.now c.args.segment.now unit
+    (record { samples = f; motions = motions_of c.self.inside.field }))
+    c.reach.ensures.samples)
 
 pub returns-clause-behind : goal.returns-clause-behind
 returns-clause-behind g c = λ number.
     let old : Building = record {
       plan = c.self.inside.plan.now;
-      planes = c.self.inside.planes;
+      planes = c.self.inside.planes.planes;
       motion = c.self.inside.field;
       filters = c.self.inside.filters;
     } in

@@ -6,7 +6,7 @@ use Rattle.progress_words.proofs.board.Board.split.Goals as goal
 
 pub split_seat-seat-requires : goal.split_seat-seat-requires
 split_seat-seat-requires g c =
-    let M = g.F.Facts.meaning in let is = sym c.self.view_is in let key = c.self.inside.table.shared.key in
+    let M = g.F.Facts.meaning in let is = sym c.self.view_is in let key = c.self.inside.shared.now.key in
     let p = c.args.pass.now in
     let own = subst (λ (b : Place g.row.F.Denot). IsPassOf b p) is c.requires.own in
     let laid = c.self.invariant.2 in let a = laid.room in let room = c.self.invariant.1 in

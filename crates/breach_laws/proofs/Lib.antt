@@ -1,0 +1,4 @@
+pub mod Breaking
+pub mod Levels
+pub mod Units
+pub mod Reading

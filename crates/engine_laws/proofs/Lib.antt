@@ -1,0 +1,4 @@
+pub mod Engines
+pub mod Keeping
+pub mod Levels
+pub mod Units

@@ -1,0 +1,4 @@
+pub mod Sized
+pub mod Told
+pub mod Holding
+pub mod Buffers

@@ -1,0 +1,4 @@
+pub mod Boards
+pub mod Held
+pub mod Facts
+pub mod Lawful

@@ -1,0 +1,48 @@
+//! What follows from the definitions.
+
+ghost use Rattle.std.specs.Prelude.{◌≡◌, ℕ, List, map};
+ghost use Rattle.plan_types.specs.declared.picture_plan.PicturePlan.{PicturePlan};
+ghost use Rattle.spec_picture_build.specs.References.{DecodedPicture};
+ghost use Rattle.spec_decoder.specs.Decoder.{BufferPicture, pictures_in};
+ghost use Rattle.progress_words.specs.Core.{IsReached};
+ghost use Rattle.progress_words.specs.Meanings.{IsLaid};
+ghost use Rattle.spec_flights.specs.Pictures.{PlannedFlight, folded_at};
+ghost use Rattle.flight_unit_laws.specs.Planned.{IsPlanned};
+ghost use Rattle.flight_lines.specs.Flights.{IsOnBoard};
+ghost use Rattle.flight_lines.specs.Held.{IsClosed};
+ghost use Rattle.flight_lines.specs.Shown.{ShowsState};
+ghost use Rattle.flight_facts.specs.Boards.{as_base, board_flight, flight_meaning};
+ghost use Rattle.flight_facts.specs.Held.{HoldsPictures};
+
+/// A flight as it is planned can be worked off on a board (`board`), which its words are laid out for (`laid`).
+pub fn flights_lie_on_boards()
+    ensures board { (f : PlannedFlight) → IsPlanned f → IsOnBoard (board_flight f) }
+    ensures laid { (f : PlannedFlight) → IsPlanned f → IsLaid (flight_meaning f) }
+{}
+
+/// The words of its board show a state of the core of row scheduling, to which a list of events leads, each ready when
+/// it was taken.
+pub fn boards_show_the_flight()
+    ensures { (f : PlannedFlight) → IsPlanned f → (words : List ℕ) → IsReached (flight_meaning f) words
+        → ShowsState (board_flight f) words }
+{}
+
+/// The words of its board hold the flight when it is closed: where no unit is bad all pictures are decoded and each
+/// word is as expected; else decoding stops at the unit of the fault word by its rule, and what stands before that is
+/// as expected.
+pub fn closed_boards_hold_the_pictures()
+    ensures { (f : PlannedFlight) → IsPlanned f → (words : List ℕ) → IsClosed (flight_meaning f) words
+        → HoldsPictures f words }
+{}
+
+/// What a flight is to its board depends on the decoded pictures of the buffer before it alone (`board`), as does what
+/// its known units make of each of its pictures (`pictures`). Those that its bases stand for are the bases (`bases`).
+pub fn flights_depend_on_decoded_pictures()
+    ensures board { (pictures : List PicturePlan) (b c : List BufferPicture) → pictures_in b ≡ pictures_in c
+        → board_flight (record { pictures = pictures; buffer = b })
+        ≡ board_flight (record { pictures = pictures; buffer = c }) }
+    ensures pictures { (pictures : List PicturePlan) (b c : List BufferPicture) (k : ℕ) → pictures_in b ≡ pictures_in c
+        → folded_at (record { pictures = pictures; buffer = b }) k
+        ≡ folded_at (record { pictures = pictures; buffer = c }) k }
+    ensures bases { (bases : List DecodedPicture) → pictures_in (map as_base bases) ≡ bases }
+{}

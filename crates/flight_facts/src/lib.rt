@@ -1,0 +1,14 @@
+//! Flights of pictures over a board: what their units need, what their words are to hold, and where decoding stops by
+//! what the board holds when all is done.
+#![tactic(auto)]
+
+mod flight_facts;
+mod laws;
+mod meant;
+mod rows;
+
+pub use flight_facts::FlightFacts;
+pub use laws::{
+    boards_show_the_flight, closed_boards_hold_the_pictures, flights_depend_on_decoded_pictures,
+    flights_lie_on_boards,
+};

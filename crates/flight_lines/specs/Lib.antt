@@ -1,0 +1,4 @@
+pub mod Numbers
+pub mod Flights
+pub mod Shown
+pub mod Held

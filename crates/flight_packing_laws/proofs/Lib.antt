@@ -1,0 +1,5 @@
+pub mod Agreeing
+pub mod Sizes
+pub mod Placed
+pub mod Holding
+pub mod Packed

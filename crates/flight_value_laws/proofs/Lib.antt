@@ -1,0 +1,17 @@
+pub mod Edges
+pub mod Over
+pub mod Used
+pub mod Rows
+pub mod Within
+pub mod Offsets
+pub mod Fitting
+pub mod Derived
+pub mod Contexts
+pub mod ContextWords
+pub mod Segments
+pub mod Known
+pub mod Phases
+pub mod Pictures
+pub mod Values
+pub mod Kept
+pub mod Sides

@@ -1,0 +1,3 @@
+pub mod Reading
+pub mod Motion
+pub mod Ranges

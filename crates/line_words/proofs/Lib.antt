@@ -1,0 +1,5 @@
+pub mod Words
+pub mod Bad
+pub mod Waiting
+pub mod Drawing
+pub mod Apart

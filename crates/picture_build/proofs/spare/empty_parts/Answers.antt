@@ -1,4 +1,0 @@
-use Rattle.picture_build.proofs.spare.empty_parts.Goals as goal
-
-pub returns-in-Some-clause-places : goal.returns-in-Some-clause-places
-returns-in-Some-clause-places c = c.emptied.ensures.places _ _ c.in-Some.ensures.places

@@ -1,0 +1,10 @@
+pub mod Places
+pub mod Parts
+pub mod Kept
+pub mod Standing
+pub mod Around
+pub mod Holding
+pub mod Sound
+pub mod Next
+pub mod Laid
+pub mod Later

@@ -1,0 +1,4 @@
+pub mod Strips
+pub mod Borders
+pub mod Building
+pub mod Next

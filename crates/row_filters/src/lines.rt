@@ -1,0 +1,31 @@
+//! Lines in memory as a row of a plane.
+
+ghost use Rattle.std.specs.Prelude.{◌≡◌, ◌<◌, ◌≤◌, ◌+◌, ◌-◌, ◌*◌, ◌^◌, ◌%◌, min, ℕ};
+ghost use Rattle.loop_filters.specs.Formats.{IsPlane};
+ghost use Rattle.row_filters.specs.Lines.{end_line, first_line, row_around};
+
+use deblock::Row;
+use loop_filters::Component;
+
+/// The lines of a row of coding tree blocks and so many on each side, as far as the plane has them: a row of the plane
+/// that ends with the last of these lines.
+pub(crate) fn row_around(component: &Component, row: usize, beside: usize) -> Row
+    requires component { IsPlane component.now }
+    requires row { component.now.size * row < component.now.height }
+    requires size { component.now.size ≤ 64 }
+    requires beside { beside ≤ 4 }
+    ensures { result ≡ row_around component.now row beside }
+{
+    let top = component.size * row;
+    let end = (top + component.size + beside).min(component.height);
+    Row {
+        plane: component.plane,
+        bit_depth: component.depth,
+        width: component.width,
+        height: component.height,
+        first: top.saturating_sub(beside),
+        end,
+        top,
+        bottom: end,
+    }
+}

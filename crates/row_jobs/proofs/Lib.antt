@@ -1,0 +1,3 @@
+pub mod Keeping
+pub mod Decoding
+pub mod Flights

@@ -1,0 +1,15 @@
+//! Decodes a flight, pictures of one sequence parameter set that are decoded together (H.265 8.1.3, C.5.2): those
+//! before the first in which a rule is broken, and that rule.
+#![tactic(auto)]
+
+mod buffer;
+mod flight;
+mod picture;
+mod result;
+mod spares;
+#[cfg(test)]
+mod tests;
+
+pub use flight::run_flight;
+pub use result::FlightResult;
+pub use spares::Spares;
