@@ -1,4 +1,5 @@
 pub mod Sized
+pub mod Laid
 pub mod Told
 pub mod Holding
 pub mod Buffers

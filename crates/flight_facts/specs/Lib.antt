@@ -1,4 +1,5 @@
 pub mod Boards
 pub mod Held
 pub mod Facts
+pub mod Flights
 pub mod Lawful

@@ -1,17 +1,25 @@
 //! What follows from the definitions.
 
-ghost use Rattle.std.specs.Prelude.{◌≡◌, ℕ, List, map};
+ghost use Rattle.std.specs.Prelude.{◌≡◌, ◌<◌, ℕ, List, Some, length, map, slice_get};
 ghost use Rattle.plan_types.specs.declared.picture_plan.PicturePlan.{PicturePlan};
 ghost use Rattle.spec_picture_build.specs.References.{DecodedPicture};
 ghost use Rattle.spec_decoder.specs.Decoder.{BufferPicture, pictures_in};
 ghost use Rattle.progress_words.specs.Core.{IsReached};
 ghost use Rattle.progress_words.specs.Meanings.{IsLaid};
+ghost use Rattle.sample_words.specs.declared.sizes.FlightSizes.{FlightSizes};
+ghost use Rattle.sample_words.specs.declared.unit_word.UnitWord.{UnitWord};
+ghost use Rattle.sample_words.specs.Contents.{expected_word};
 ghost use Rattle.spec_flights.specs.Pictures.{PlannedFlight, folded_at};
+ghost use Rattle.spec_flights.specs.Words.{expected, flight_sizes, values_in};
 ghost use Rattle.flight_unit_laws.specs.Planned.{IsPlanned};
 ghost use Rattle.flight_lines.specs.Flights.{IsOnBoard};
 ghost use Rattle.flight_lines.specs.Held.{IsClosed};
 ghost use Rattle.flight_lines.specs.Shown.{ShowsState};
+ghost use Rattle.line_words.specs.Places.{HasSizes};
+ghost use Rattle.flight_facts.specs.declared.flight_facts.FlightFacts.{FlightFacts};
 ghost use Rattle.flight_facts.specs.Boards.{as_base, board_flight, flight_meaning};
+ghost use Rattle.flight_facts.specs.Facts.{flight_in};
+ghost use Rattle.flight_facts.specs.Flights.{IsOfFlight};
 ghost use Rattle.flight_facts.specs.Held.{HoldsPictures};
 
 /// A flight as it is planned can be worked off on a board (`board`), which its words are laid out for (`laid`).
@@ -45,4 +53,20 @@ pub fn flights_depend_on_decoded_pictures()
         → folded_at (record { pictures = pictures; buffer = b }) k
         ≡ folded_at (record { pictures = pictures; buffer = c }) k }
     ensures bases { (bases : List DecodedPicture) → pictures_in (map as_base bases) ≡ bases }
+{}
+
+/// The sizes by which the words of a flight are laid out are those of its board (`board`), and of each of its pictures,
+/// which are as many (`each`, `picture`). What a word of a unit is to hold is the value of its picture (`expected`).
+pub fn pictures_have_the_sizes_of_their_flight()
+    ensures board { (facts : FlightFacts) (s : FlightSizes) → IsOfFlight facts s
+        → HasSizes (board_flight (flight_in facts)) s }
+    ensures each { (facts : FlightFacts) (s : FlightSizes) (k : ℕ) → IsOfFlight facts s → k < s.pictures
+        → (p : PicturePlan) × (slice_get (flight_in facts).pictures k ≡ Some p) }
+    ensures picture { (facts : FlightFacts) (s : FlightSizes) (k : ℕ) (p : PicturePlan) → IsOfFlight facts s
+        → slice_get (flight_in facts).pictures k ≡ Some p
+        → s ≡ flight_sizes p.sps (length (flight_in facts).pictures) }
+    ensures expected { (facts : FlightFacts) (s : FlightSizes) (p : PicturePlan) (u : UnitWord) → IsOfFlight facts s
+        → slice_get (flight_in facts).pictures u.line.picture ≡ Some p
+        → expected (flight_in facts) u
+        ≡ expected_word s (λ k. values_in p (folded_at (flight_in facts) k)) u }
 {}

@@ -10,5 +10,5 @@ mod rows;
 pub use flight_facts::FlightFacts;
 pub use laws::{
     boards_show_the_flight, closed_boards_hold_the_pictures, flights_depend_on_decoded_pictures,
-    flights_lie_on_boards,
+    flights_lie_on_boards, pictures_have_the_sizes_of_their_flight,
 };

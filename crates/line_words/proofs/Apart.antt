@@ -27,14 +27,14 @@ use Rattle.flight_lines.proofs.Numbered.{same_number}
 use Rattle.line_words.specs.Passes.{NameOthers}
 
 -- phases of different delays differ
-apart_phases : (p q r : Phase) → p ≡ r → q ≡ r → delay p < delay q → ⊥
+pub apart_phases : (p q r : Phase) → p ≡ r → q ≡ r → delay p < delay q → ⊥
 apart_phases p q r e f less = let same : delay p ≡ delay q = ap delay (e ∙ sym f) in omega (arith, less, same)
 
 module _ (plan : FlightRows) (l : Line) where
-  abbrev IsOther : Line × ℕ → Type 0
+  abbrev pub IsOther : Line × ℕ → Type 0
   IsOther need = need.0 ≢ l
 
-  rows_other : (phase : Phase) (k first last : ℕ) → (phase ≡ l.phase → k ≡ l.picture → ⊥)
+  pub rows_other : (phase : Phase) (k first last : ℕ) → (phase ≡ l.phase → k ≡ l.picture → ⊥)
       → All IsOther (rows_needs plan phase k first last)
   rows_other phase k first last apart =
       let n : ℕ = min (last + 1) (picture_at plan k).rows - first in
@@ -59,7 +59,7 @@ module _ (plan : FlightRows) (l : Line) where
   row_other (Some (Base place)) row earlier = All-nil IsOther
   row_other (Some (Flight k)) row earlier = rows_other B k row row (λ e same. omega (arith, earlier, same))
 
-  reference_other : (r : Reference) (first last : ℕ) → IsEarlier l.picture r
+  pub reference_other : (r : Reference) (first last : ℕ) → IsEarlier l.picture r
       → All IsOther (reference_needs plan r first last)
   reference_other (Base place) first last earlier = All-nil IsOther
   reference_other (Flight k) first last earlier = rows_other S k first last (λ e same. omega (arith, earlier, same))
@@ -117,7 +117,7 @@ module _ (plan : FlightRows) (l : Line) where
     counting_other S x = phase_other l.phase l.picture l.row refl
 
 -- other lines have other numbers
-other_numbers : (plan : FlightRows) (s : FlightSizes) (l : Line) → IsSized plan s → IsLine plan l
+pub other_numbers : (plan : FlightRows) (s : FlightSizes) (l : Line) → IsSized plan s → IsLine plan l
     → (needs : List (Line × ℕ)) → AreOfLines plan needs → All (λ need. need.0 ≢ l) needs
     → NameOthers (line_number s l) (numbered_needs s needs)
 other_numbers plan s l sized line needs of_lines others =

@@ -16,7 +16,7 @@ use Rattle.progress_words.specs.Views.{AllSound, loads_of, seen_of}
 use Rattle.flight_lines.specs.Flights.{BoardFlight, meaning_of}
 use Rattle.flight_lines.specs.Numbers.{AreOfFlight, numbered, numbered_needs}
 use Rattle.flight_lines.proofs.Numbered.{number_of_words}
-use Rattle.line_words.specs.Passes.{AreSound, HasGone}
+use Rattle.line_words.specs.Passes.{AreAllSound, AreSound, HasGone}
 use Rattle.line_words.specs.Places.{HasSizes}
 
 -- needs that are met stay met where counts are no less
@@ -101,8 +101,25 @@ module _ {F : Type 0} where
         less = omega arith;
         loaded = λ l. omega arith;
         checked = omega arith;
+        still = λ l same. refl;
         others = λ l apart. (refl, refl);
       }
+
+  -- what is seen of a line that wasn't loaded since is the same
+  still_seen : (v w x : View F) (needs : List (ℕ × ℕ)) (l j : ℕ) → HasGone v needs w → HasLooked w l x
+      → loads_of x j ≡ loads_of v j → seen_of x j ≡ seen_of v j
+  still_seen v w x needs l j gone looked e =
+      elim (cases_eq j l) [
+        | inl same ↦
+            let here : loads_of x l ≡ loads_of v l =
+            subst (λ (k : ℕ). loads_of x k ≡ loads_of v k) same e in
+            let loaded = looked.loaded in
+            let before = gone.loaded l in
+            absurd (omega (arith, here, loaded, before))
+        | inr other ↦
+            let after = looked.others j other in
+            after.0 ∙ gone.still j (sym after.1 ∙ e)
+      ]
 
   gone_on : (v w x : View F) (needs : List (ℕ × ℕ)) (l : ℕ) → HasGone v needs w → IsNamed needs l → HasLooked w l x
       → HasGone v needs x
@@ -119,6 +136,7 @@ module _ {F : Type 0} where
         less = omega (arith, less, less_first);
         loaded = λ j. let a = gone.loaded j in let b = more_loads w x l j looked in omega (arith, a, b);
         checked = omega (arith, checked, checked_first);
+        still = λ j e. still_seen v w x needs l j gone looked e;
         others = λ j apart.
             let d : ℕ × ℕ = (0, 0) in
             let other : j ≢ l = λ e. apart named.at d named.inside (named.named d ∙ sym e) in
@@ -137,6 +155,17 @@ module _ {F : Type 0} where
             let before : loads_of v j < loads_of w j =
             subst (λ (n : ℕ). loads_of v j < n) e.1 loaded in
             subst (λ (n : ℕ). AllSound m j n) (sym e.0) (sound j before)
+      ]
+
+  -- where all units that were seen are sound, so are those that are seen behind a wait
+  pub all_sound_on : (m : Meaning) (v w : View F) (needs : List (ℕ × ℕ)) → AreAllSound m v → HasGone v needs w
+      → AreSound m v w → AreAllSound m w
+  all_sound_on m v w needs all gone sound l =
+      elim (cases_eq (loads_of w l) (loads_of v l)) [
+        | inl same ↦ subst (λ (n : ℕ). AllSound m l n) (sym (gone.still l same)) (all l)
+        | inr other ↦
+            let more = gone.loaded l in
+            sound l (omega (arith, more, other))
       ]
 
   module _ (m : Meaning) (v : View F) (needs : List (ℕ × ℕ)) where

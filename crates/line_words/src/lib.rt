@@ -11,7 +11,7 @@ mod waits;
 
 pub use counting::{count_unit, find_bad};
 pub use draws::draw_line;
-pub use laws::{needs_name_other_lines, needs_stay_met};
+pub use laws::{needs_name_other_lines, needs_stay_met, waits_keep_units_sound};
 pub use row_facts::RowFacts;
 pub use runs::{read_run, write_run};
 pub use unit_place::UnitPlace;

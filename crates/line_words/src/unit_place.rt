@@ -72,6 +72,22 @@ impl UnitPlace {
         }
     }
 
+    /// Its line.
+    pub fn line(&self) -> Line
+        ensures value { result ≡ self.now.line }
+        ensures unit { IsUnit self.now }
+    {
+        self.line
+    }
+
+    /// Which unit of its line it is: the column of a coding tree unit, else 0.
+    pub fn unit(&self) -> u32
+        ensures value { result ≡ self.now.unit }
+        ensures unit { IsUnit self.now }
+    {
+        self.unit
+    }
+
     /// Its first word.
     pub(crate) fn start(&self) -> usize
         ensures value { result ≡ start_at self.now }
@@ -89,7 +105,7 @@ impl UnitPlace {
     }
 
     /// Its number in the flight.
-    pub(crate) fn unit_number(&self) -> UnitNumber
+    pub fn unit_number(&self) -> UnitNumber
         ensures value { result ≡ unit_number self.now.sizes self.now.line self.now.unit }
         ensures unit { IsUnit self.now }
     {

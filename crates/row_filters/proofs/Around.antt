@@ -1,6 +1,6 @@
 -- Rows of flags and of units, by what is known of three rows of coding tree blocks.
 use Rattle.std.proofs.Common.{◌≡◌, ℕ, ◌+◌, ◌-◌, ◌*◌, ◌/◌, ◌<◌, ◌≤◌, Bool, true, false, nat_le, List, get_or, length}
-use Rattle.std.proofs.Common.{inl, inr, refl, sym, ap, ◌∙◌, arith}
+use Rattle.std.proofs.Common.{inl, inr, refl, sym, ap, subst, ◌∙◌, arith}
 use Rattle.std.specs.Prelude.{min}
 use Rattle.std.proofs.lemmas.Bool.{cases_lt}
 use Rattle.std.proofs.lemmas.Bool.Decides.{nat_tests}
@@ -9,9 +9,10 @@ use Rattle.std.proofs.Math.Nat.{mul-le-mul_left}
 use Rattle.place_grid.specs.Cells.{Cells, HasCells, cell}
 use Rattle.spec_deblocking.specs.declared.place.Place.{Place}
 use Rattle.spec_sample_adaptive_offset.specs.declared.unit.OffsetUnit.{OffsetUnit}
-use Rattle.loop_filters.specs.Formats.{columns_of}
+use Rattle.spec_loop_filters.specs.declared.format.FilterFormat.{FilterFormat}
+use Rattle.loop_filters.specs.Formats.{IsFormat, columns_of}
 use Rattle.loop_filters.proofs.Copied.{line_below}
-use Rattle.row_filters.specs.Around.{Around, no_place, no_unit, place_in, unit_in}
+use Rattle.row_filters.specs.Around.{Around, IsAround, no_place, no_unit, place_in, unit_in}
 
 -- a component of a row of units
 pub row_units : (around : Around) (row : List OffsetUnit) (c r slot : ℕ) (other : OffsetUnit)
@@ -96,3 +97,25 @@ row_kept around flags kept row low sides same count told i j left few =
     (omega (arith, columns, left))
     few
     ∙ ap (λ n. (cell no_place around.places i n).kept) line)
+
+-- three rows of a format are those of another one of the same columns and units
+pub other_format : (format other : FilterFormat) (above : ℕ) (field : Cells Place) (flags : Cells Bool)
+    (units : Cells OffsetUnit) → IsAround format above field flags units → IsFormat other
+    → other.width ≡ format.width → other.ctb_size ≡ format.ctb_size → IsAround other above field flags units
+other_format format other above field flags units is there width size =
+    let across = sym width in
+    let side = sym size in
+    record {
+      is_format = there;
+      few = is.few;
+      places =
+          subst (λ (n : ℕ). HasCells field (n / 4) (3 * (other.ctb_size / 4))) across
+          (subst (λ (n : ℕ). HasCells field (format.width / 4) (3 * (n / 4))) side is.places);
+      sides =
+          subst (λ (n : ℕ). HasCells flags (n / 4) (3 * (other.ctb_size / 4))) across
+          (subst (λ (n : ℕ). HasCells flags (format.width / 4) (3 * (n / 4))) side is.sides);
+      kept = is.kept;
+      units =
+          subst (λ (n : ℕ). HasCells units ((n + other.ctb_size - 1) / other.ctb_size) 9) across
+          (subst (λ (n : ℕ). HasCells units ((format.width + n - 1) / n) 9) side is.units);
+    }

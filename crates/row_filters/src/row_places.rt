@@ -82,6 +82,20 @@ impl RowPlaces {
         })
     }
 
+    /// Takes the format of another picture of the same columns and coding tree units, as the pictures have that are
+    /// decoded together. What was known stays.
+    pub fn set_format(&mut self, format: &FilterFormat)
+        requires is { IsFormat format.now }
+        requires width { format.now.width ≡ self.old.format.width }
+        requires size { format.now.ctb_size ≡ self.old.format.ctb_size }
+        ensures format { self.new.format ≡ format.now }
+        ensures above { self.new.above ≡ self.old.above }
+        ensures places { self.new.places ≡ self.old.places }
+        ensures units { self.new.units ≡ self.old.units }
+    {
+        self.format = *format;
+    }
+
     /// Takes the rows around another one. What was known of the former rows stands for theirs, until it is laid anew.
     pub fn begin(&mut self, row: usize)
         requires { row ≤ 8192 }

@@ -50,6 +50,13 @@ impl<'a> RowReader<'a> {
         })
     }
 
+    /// Goes over to another picture, before any of its rows. What was read stays in memory until it is read anew.
+    pub fn begin_picture(&mut self, plan: &'a PicturePlan)
+        ensures { self.new.segments.plan ≡ plan.now }
+    {
+        self.segments = RowSegments::new(plan);
+    }
+
     /// Goes to the first unit of a row that begins by itself: the first row of the picture, and where each row has a
     /// substream of its own every one.
     pub fn begin_row(&mut self)
