@@ -1,0 +1,13 @@
+pub mod Passes
+pub mod Words
+pub mod Places
+pub mod Laying
+pub mod Above
+pub mod Shapes
+pub mod Lines
+pub mod Built
+pub mod Lowest
+pub mod Blocks
+pub mod Trees
+pub mod Outside
+pub mod Named

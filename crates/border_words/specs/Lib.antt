@@ -1,0 +1,4 @@
+pub mod Kept
+pub mod Units
+pub mod Laid
+pub mod Beneath

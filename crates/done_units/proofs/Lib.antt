@@ -1,0 +1,6 @@
+pub mod Uses
+pub mod Reached
+pub mod Indices
+pub mod Ends
+pub mod Standing
+pub mod Passes

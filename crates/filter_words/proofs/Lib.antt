@@ -1,0 +1,9 @@
+pub mod Back
+pub mod Sizes
+pub mod Placed
+pub mod Regions
+pub mod Formats
+pub mod Words
+pub mod Laid
+pub mod Rows
+pub mod Passing

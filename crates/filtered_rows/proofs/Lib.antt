@@ -1,0 +1,13 @@
+pub mod Sides
+pub mod Laying
+pub mod Beside
+pub mod Own
+pub mod Formats
+pub mod Ready
+pub mod Seen
+pub mod Views
+pub mod Room
+pub mod Counted
+pub mod Ranges
+pub mod Steps
+pub mod Filtered

@@ -1,0 +1,3 @@
+pub mod Components
+pub mod Phases
+pub mod Memory

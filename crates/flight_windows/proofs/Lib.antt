@@ -1,0 +1,11 @@
+pub mod Agreeing
+pub mod Bases
+pub mod Covering
+pub mod Flags
+pub mod Known
+pub mod Lines
+pub mod Plain
+pub mod Staying
+pub mod Sides
+pub mod Samples
+pub mod Units

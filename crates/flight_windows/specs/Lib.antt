@@ -1,0 +1,5 @@
+pub mod Seen
+pub mod Pictures
+pub mod Windows
+pub mod Lines
+pub mod Reading

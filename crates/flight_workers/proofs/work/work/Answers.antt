@@ -1,0 +1,5 @@
+use Rattle.flight_facts.proofs.Laid.{board_sizes}
+use Rattle.flight_workers.proofs.work.work.Goals as goal
+
+pub draw_line-requires-clause-flight : goal.draw_line-requires-clause-flight
+draw_line-requires-clause-flight g c = board_sizes c.args.board.now.flight c.args.layout.now c.requires.may.flight

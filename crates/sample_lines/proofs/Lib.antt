@@ -1,0 +1,10 @@
+pub mod Parts
+pub mod LineWords
+pub mod Runs
+pub mod Columns
+pub mod Indexes
+pub mod Values
+pub mod Built
+pub mod PartWords
+pub mod UnitShapes
+pub mod WrittenWords

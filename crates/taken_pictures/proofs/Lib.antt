@@ -1,0 +1,15 @@
+pub mod Tests
+pub mod Laid
+pub mod Sides
+pub mod Lines
+pub mod RowSamples
+pub mod Kept
+pub mod Shapes
+pub mod Words
+pub mod Passes
+pub mod Places
+pub mod Outside
+pub mod Held
+pub mod Seen
+pub mod Taken
+pub mod Pictures

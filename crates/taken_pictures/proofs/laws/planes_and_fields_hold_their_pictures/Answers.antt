@@ -1,0 +1,12 @@
+use Rattle.flight_facts.specs.Facts.{flight_in}
+use Rattle.spec_flights.specs.Pictures.{pictures_before}
+use Rattle.taken_pictures.proofs.Held.{held_is}
+use Rattle.taken_pictures.proofs.Places.{sizes_of}
+use Rattle.taken_pictures.proofs.laws.planes_and_fields_hold_their_pictures.Goals as goal
+
+pub returns : goal.returns
+returns c = λ facts s k p planes field is has sides places samples motions.
+    let f = flight_in facts in
+    held_is f k p has s (c.pictures_have_the_sizes_of_their_flight.ensures.picture facts s k p is has)
+    (sizes_of facts s is) planes field sides places
+    (λ x y z. c.decoded_samples_are_of_the_last_phase.ensures (pictures_before f k) p x y z) samples motions

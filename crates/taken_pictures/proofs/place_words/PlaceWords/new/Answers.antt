@@ -1,0 +1,30 @@
+use Rattle.std.proofs.Common.{rules, arith}
+use Rattle.taken_pictures.proofs.Words.{are_place_words, places_before, unit_high, unit_wide}
+use Rattle.taken_pictures.proofs.place_words.PlaceWords.new.Goals as goal
+
+pub returns-clause-words : goal.returns-clause-words
+returns-clause-words c =
+    let u = c.args.at.now in
+    let s = c.args.layout.now in
+    let shape = c.unit_shape-shape in
+    let line = c.line-line.ensures.value in
+    are_place_words u s shape.result.column shape.result.width shape.result.height c.index_of-index.result
+    c.sizes-sizes.ensures.in_range c.requires.place
+    (unit_wide u s c.line-line.result c.unit-unit.result c.from-column.result shape.result.width c.requires.place line
+    c.unit-unit.ensures.value c.from-column.ensures c.requires.phase shape.ensures.width)
+    (unit_high u s c.line-line.result shape.result.height c.requires.place line shape.ensures.height)
+    c.index_of-index.ensures
+
+pub overflow_sub-result : goal.overflow_sub-result
+overflow_sub-result c =
+    let shape = c.unit_shape-shape in
+    let before = places_before c.args.layout.now shape.result.width shape.result.height shape.result.column
+    c.index_of-index.result c.index_of-index.ensures in
+    search (rules, arith)
+
+pub overflow_sub-result-2 : goal.overflow_sub-result-2
+overflow_sub-result-2 c =
+    let shape = c.unit_shape-shape in
+    let before = places_before c.args.layout.now shape.result.width shape.result.height shape.result.column
+    c.index_of-index.result c.index_of-index.ensures in
+    search (rules, arith)

@@ -1,0 +1,30 @@
+use Rattle.std.proofs.Common.{rules, ◌+◌, ◌*◌, ◌∙◌}
+use Rattle.sample_words.specs.declared.unit_content.UnitContent.TheVariants.{Modes}
+use Rattle.flight_facts.specs.Facts.{flight_in}
+use Rattle.taken_pictures.proofs.Words.{row_fits, modes_at, modes_fit, modes_inside, word_is}
+use Rattle.taken_pictures.proofs.reading.read_modes.Goals as goal
+
+pub overflow_mul-first : goal.overflow_mul-first
+overflow_mul-first c =
+    let few = row_fits c.args.at.now c.args.words.now c.requires.words c.args.row c.requires.row in
+    search rules
+
+pub overflow_add-first : goal.overflow_add-first
+overflow_add-first c =
+    let few = modes_fit c.args.at.now c.args.words.now c.requires.words c.args.row c.requires.row in
+    search rules
+
+pub read_first-requires-clause-few : goal.read_first-requires-clause-few
+read_first-requires-clause-few c = c.requires.words.few_columns
+
+pub read_first-requires-clause-inside : goal.read_first-requires-clause-inside
+read_first-requires-clause-inside c =
+    modes_inside c.args.at.now c.args.words.now c.requires.words c.requires.phase c.args.row c.requires.row
+
+pub returns-clause-value : goal.returns-clause-value
+returns-clause-value c = λ i less.
+    let words = c.args.words.now in
+    c.read_first.ensures.value i less
+    ∙ word_is (flight_in c.args.board.now.flight) c.args.at.now (Modes i c.args.row)
+    (words.modes + c.args.row * words.columns + i) c.requires.phase
+    (modes_at c.args.at.now words c.requires.words i c.args.row)

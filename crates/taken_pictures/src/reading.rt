@@ -1,0 +1,105 @@
+//! Words of the places of a coding tree unit.
+
+ghost use Rattle.std.specs.Prelude.{◌≡◌, ℕ, ◌+◌, ◌<◌, ◌≤◌, length, slice_index};
+ghost use Rattle.hv_base.specs.declared.line.Phase.TheVariants.{B};
+ghost use Rattle.sample_words.specs.declared.unit_content.UnitContent.TheVariants.{Modes, Vectors};
+ghost use Rattle.progress_words.specs.Passes.{IsPassOf, Knows, view};
+ghost use Rattle.progress_words.specs.Views.{seen_of};
+ghost use Rattle.line_words.specs.Places.{number_at, word_at, words_at};
+ghost use Rattle.spec_flights.specs.Words.{expected};
+ghost use Rattle.flight_facts.specs.Facts.{flight_in};
+ghost use Rattle.flight_facts.specs.Flights.{IsOfFlight};
+ghost use Rattle.taken_pictures.specs.Places.{ArePlaceWords, word_in};
+
+use crate::place_words::PlaceWords;
+use flight_facts::{FlightFacts, pictures_have_the_sizes_of_their_flight};
+use line_words::{UnitPlace, read_run};
+use progress_words::{Board, Pass};
+
+/// Words of a unit that the pass has seen counted, from one of them on: they are those that the flight expects.
+fn read_words(
+    board: &Board<'_, FlightFacts>,
+    pass: &mut Pass<FlightFacts>,
+    at: &UnitPlace,
+    first: usize,
+    out: &mut [u64],
+)
+    requires own { IsPassOf board.now pass.old }
+    requires flight { IsOfFlight board.now.flight at.now.sizes }
+    requires seen { at.now.unit < seen_of (view pass.old) (number_at at.now) }
+    requires inside { first + length out.old ≤ words_at at.now }
+    ensures count { length out.new ≡ length out.old }
+    ensures value { (k : ℕ) → k < length out.old
+        → slice_index out.new k ≡ expected (flight_in board.now.flight) (word_at at.now (first + k)) }
+    ensures same { Knows pass.old pass.new (view pass.old) }
+{
+    pictures_have_the_sizes_of_their_flight();
+    read_run(board, pass, at, first, out);
+}
+
+/// As many of them as are asked for, into the first words of an array.
+fn read_first(
+    board: &Board<'_, FlightFacts>,
+    pass: &mut Pass<FlightFacts>,
+    at: &UnitPlace,
+    first: usize,
+    count: usize,
+    out: &mut [u64; 16],
+)
+    requires own { IsPassOf board.now pass.old }
+    requires flight { IsOfFlight board.now.flight at.now.sizes }
+    requires seen { at.now.unit < seen_of (view pass.old) (number_at at.now) }
+    requires few { count ≤ 16 }
+    requires inside { first + count ≤ words_at at.now }
+    ensures value { (k : ℕ) → k < count
+        → slice_index out.new k ≡ expected (flight_in board.now.flight) (word_at at.now (first + k)) }
+    ensures same { Knows pass.old pass.new (view pass.old) }
+{
+    read_words(board, pass, at, first, &mut out[..count]);
+}
+
+/// The words of the vectors of a row of places, from the left one on.
+pub(crate) fn read_vectors(
+    board: &Board<'_, FlightFacts>,
+    pass: &mut Pass<FlightFacts>,
+    at: &UnitPlace,
+    words: &PlaceWords,
+    row: usize,
+    out: &mut [u64; 16],
+)
+    requires own { IsPassOf board.now pass.old }
+    requires flight { IsOfFlight board.now.flight at.now.sizes }
+    requires seen { at.now.unit < seen_of (view pass.old) (number_at at.now) }
+    requires phase { at.now.line.phase ≡ B }
+    requires words { ArePlaceWords at.now words.now }
+    requires row { row < words.now.rows }
+    ensures value { (i : ℕ) → i < words.now.columns
+        → slice_index out.new i ≡ word_in (flight_in board.now.flight) at.now (Vectors i row) }
+    ensures same { Knows pass.old pass.new (view pass.old) }
+{
+    let first = words.vectors + row * words.columns;
+    read_first(board, pass, at, first, words.columns, out);
+}
+
+/// Those of their modes.
+pub(crate) fn read_modes(
+    board: &Board<'_, FlightFacts>,
+    pass: &mut Pass<FlightFacts>,
+    at: &UnitPlace,
+    words: &PlaceWords,
+    row: usize,
+    out: &mut [u64; 16],
+)
+    requires own { IsPassOf board.now pass.old }
+    requires flight { IsOfFlight board.now.flight at.now.sizes }
+    requires seen { at.now.unit < seen_of (view pass.old) (number_at at.now) }
+    requires phase { at.now.line.phase ≡ B }
+    requires words { ArePlaceWords at.now words.now }
+    requires row { row < words.now.rows }
+    ensures value { (i : ℕ) → i < words.now.columns
+        → slice_index out.new i ≡ word_in (flight_in board.now.flight) at.now (Modes i row) }
+    ensures same { Knows pass.old pass.new (view pass.old) }
+{
+    let first = words.modes + row * words.columns;
+    read_first(board, pass, at, first, words.columns, out);
+}
