@@ -38,7 +38,7 @@ use Rattle.flight_waits.specs.Waits.{AreSeen}
 use Rattle.flight_waits.proofs.Needed.{unit_met}
 use Rattle.flight_waits.proofs.Waited.{sized}
 use Rattle.flight_windows.specs.Seen.{SeenFlags, is_seen}
-use Rattle.built_rows.specs.Seen.{AreRowsOf, AreRowsSeen, HasRange, HasReach, HasRow, reach_in}
+use Rattle.built_rows.specs.Seen.{AreRowsOf, HasSeenFlags, HasRange, HasReach, HasRow, reach_in}
 
 module _ (facts : FlightFacts) (s : FlightSizes) (of_flight : IsOfFlight facts s) where
   abbrev plan : FlightRows
@@ -54,7 +54,7 @@ module _ (facts : FlightFacts) (s : FlightSizes) (of_flight : IsOfFlight facts s
   unfolding meaning_of
   lines_are = ap lines (sym of_flight.sizes)
 
-  module _ {F : Type 0} (v : View F) (seen : SeenFlags) (are : AreRowsSeen s v seen) where
+  module _ {F : Type 0} (v : View F) (seen : SeenFlags) (are : HasSeenFlags s v seen) where
     abbrev IsMet : Line × ℕ → Type 0
     IsMet need =
         (line_number s need.0 < (flight_meaning (flight_in facts)).lines) × (need.1 ≤ seen_of v (line_number s need.0))

@@ -31,7 +31,7 @@ use Rattle.progress_words.specs.Core.{AreMet}
 use Rattle.progress_words.specs.Meanings.{Meaning}
 use Rattle.progress_words.specs.Views.{seen_of}
 use Rattle.flight_windows.specs.Seen.{HasRows, SeenFlags, has_row, is_seen}
-use Rattle.built_rows.specs.Seen.{AreRowsOf, AreRowsSeen, HasRange, HasReach, HasRow, ReachesEarlier, SeesMore}
+use Rattle.built_rows.specs.Seen.{AreRowsOf, HasSeenFlags, HasRange, HasReach, HasRow, ReachesEarlier, HasMoreFlags}
 use Rattle.built_rows.specs.Seen.{reach_in}
 
 -- a row of a phase that is needed by itself is counted where its need is met
@@ -52,10 +52,10 @@ row_met m count plan s sized phase j row met line =
 module _ (old new : SeenFlags) (j row : ℕ)
     (each : (i r : ℕ) → is_seen new i r
     ≡ (is_seen old i r || (has_row old j row && (i == j && r == row)))) where
-  pub sees_more : SeesMore old new
+  pub sees_more : HasMoreFlags old new
   sees_more i r is = each i r ∙ or_left (is_seen old i r) (has_row old j row && (i == j && r == row)) is
 
-  module _ {F : Type 0} (s : FlightSizes) (w : View F) (are : AreRowsSeen s w old) where
+  module _ {F : Type 0} (s : FlightSizes) (w : View F) (are : HasSeenFlags s w old) where
     pub row_there : HasRow s new j row
     row_there line =
         let few : j < old.pictures = subst (λ n. j < n) (sym are.sizes.0) line.picture in
@@ -70,7 +70,7 @@ module _ (old new : SeenFlags) (j row : ℕ)
 
     pub row_added : HasRows new old.pictures old.rows
         → (IsLine s (line_of S j row) → 1 ≤ seen_of w (line_number s (line_of S j row)))
-        → AreRowsSeen s w new
+        → HasSeenFlags s w new
     row_added sizes counted = record {
       sizes = (sizes.0 ∙ are.sizes.0, sizes.1 ∙ are.sizes.1);
       counted = λ i r is.
@@ -94,7 +94,7 @@ module _ (old new : SeenFlags) (j row : ℕ)
 
 -- what is seen of rows stays where counts are no less
 pub rows_stay : {F : Type 0} (s : FlightSizes) (v w : View F) (seen : SeenFlags)
-    → ((l : ℕ) → seen_of v l ≤ seen_of w l) → AreRowsSeen s v seen → AreRowsSeen s w seen
+    → ((l : ℕ) → seen_of v l ≤ seen_of w l) → HasSeenFlags s v seen → HasSeenFlags s w seen
 rows_stay s v w seen more are = record {
   sizes = are.sizes;
   counted = λ j row is.
@@ -105,7 +105,7 @@ rows_stay s v w seen more are = record {
 }
 
 -- ranges whose rows are seen stay so
-module _ (s : FlightSizes) (old new : SeenFlags) (more : SeesMore old new) where
+module _ (s : FlightSizes) (old new : SeenFlags) (more : HasMoreFlags old new) where
   rows_of_stay : (r : Reference) (first last : ℕ) → AreRowsOf s old r first last → AreRowsOf s new r first last
   rows_of_stay (Base place) first last has = has
   rows_of_stay (Flight j) first last has = λ row low high line. more j row (has row low high line)
@@ -160,7 +160,7 @@ module _ (source : ReachSource) (item : Item) (reach : ItemReach) (is : ranges_o
       (All-append (HasRange s seen) (one reach.list_0) (one reach.list_1) first second)
 
 -- one row more of a picture is seen of those from a first one on
-pub rows_more : (s : FlightSizes) (old new : SeenFlags) (j first end : ℕ) → SeesMore old new
+pub rows_more : (s : FlightSizes) (old new : SeenFlags) (j first end : ℕ) → HasMoreFlags old new
     → ((row : ℕ) → first ≤ row → row < end → HasRow s old j row) → HasRow s new j end
     → (row : ℕ) → first ≤ row → row < end + 1 → HasRow s new j row
 rows_more s old new j first end more has last row low high =
@@ -172,7 +172,8 @@ rows_more s old new j first end more has last row low high =
     ]
 
 -- and those of one item more
-pub items_more : (s : FlightSizes) (old new : SeenFlags) → SeesMore old new → (source : ReachSource) (items : List Item)
+pub items_more : (s : FlightSizes) (old new : SeenFlags) → HasMoreFlags old new
+    → (source : ReachSource) (items : List Item)
     (k : ℕ) (e item : Item) → k < length items → get_or items k e ≡ item
     → ((i : ℕ) (d : Item) → i < k → HasReach s old source (get_or items i d)) → HasReach s new source item
     → (i : ℕ) (d : Item) → i < k + 1 → HasReach s new source (get_or items i d)
@@ -186,7 +187,7 @@ items_more s old new more source items k e item inside is has last i d less =
     ]
 
 -- and those of one picture more
-pub pictures_more : (s : FlightSizes) (old new : SeenFlags) (k end : ℕ) → end ≡ rows s → SeesMore old new
+pub pictures_more : (s : FlightSizes) (old new : SeenFlags) (k end : ℕ) → end ≡ rows s → HasMoreFlags old new
     → ((j row : ℕ) → j < k → HasRow s old j row)
     → ((row : ℕ) → 0 ≤ row → row < end → HasRow s new k row)
     → (j row : ℕ) → j < k + 1 → HasRow s new j row

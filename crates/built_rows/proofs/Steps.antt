@@ -19,7 +19,7 @@ use Rattle.flight_waits.specs.Waits.{AreAllKnown, AreSeen, HasWaited}
 use Rattle.flight_waits.proofs.Waited.{sized}
 use Rattle.flight_windows.specs.Seen.{HasRows, SeenFlags, has_row, is_seen}
 use Rattle.built_rows.specs.declared.picture_view.PictureView.{PictureView}
-use Rattle.built_rows.specs.Seen.{AreRowsSeen, HasLookedAround, HasRow, MayWait}
+use Rattle.built_rows.specs.Seen.{HasSeenFlags, HasLookedAround, HasRow, MayWait}
 use Rattle.built_rows.proofs.Rows.{row_added, row_met, row_there, rows_stay, sees_more}
 use Rattle.built_rows.proofs.Waited.{may_again}
 
@@ -27,7 +27,7 @@ module _ (board : Place FlightFacts) (picture : PictureView) (at : UnitAt) (befo
     (old : SeenFlags) (may : MayWait board picture at before old) (own : IsPassOf board after)
     (known : AreAllKnown board.flight (view after)) (waited : HasWaited (view before) (number_at at) (view after))
   where
-    rows_still : AreRowsSeen picture.layout.now (view after) old
+    rows_still : HasSeenFlags picture.layout.now (view after) old
     rows_still = rows_stay picture.layout.now (view before) (view after) old waited.more may.sees
 
     -- what was seen is what it was

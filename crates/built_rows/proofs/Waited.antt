@@ -9,7 +9,7 @@ use Rattle.flight_facts.specs.declared.flight_facts.FlightFacts.{FlightFacts}
 use Rattle.flight_waits.specs.Waits.{AreAllKnown, HasWaited, HoldsUnit}
 use Rattle.flight_windows.specs.Seen.{SeenFlags}
 use Rattle.built_rows.specs.declared.picture_view.PictureView.{PictureView}
-use Rattle.built_rows.specs.Seen.{AreRowsSeen, HasLookedAround, MayWait}
+use Rattle.built_rows.specs.Seen.{HasSeenFlags, HasLookedAround, MayWait}
 
 module _ {F : Type 0} where
   pub not_waited : (v : View F) (line : ℕ) → HasWaited v line v
@@ -35,7 +35,7 @@ module _ (board : Place FlightFacts) (picture : PictureView) (at : UnitAt) where
   -- it may wait again
   pub may_again : (before after : Pass FlightFacts) (old new : SeenFlags) → MayWait board picture at before old
       → IsPassOf board after → AreAllKnown board.flight (view after)
-      → AreRowsSeen picture.layout.now (view after) new → MayWait board picture at after new
+      → HasSeenFlags picture.layout.now (view after) new → MayWait board picture at after new
   may_again before after old new may own known sees =
       record { own = own; flight = may.flight; unit = may.unit; known = known; sees = sees }
 

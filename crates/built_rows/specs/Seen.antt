@@ -21,18 +21,18 @@ use Rattle.progress_words.specs.Places.{Place}
 use Rattle.line_words.specs.Places.{UnitAt, number_at}
 use Rattle.flight_facts.specs.declared.flight_facts.FlightFacts.{FlightFacts}
 use Rattle.flight_waits.specs.Waits.{AreAllKnown, HasWaited}
-use Rattle.flight_windows.specs.Seen.{AreSeen, HasRows, SeenFlags, is_seen}
+use Rattle.flight_windows.specs.Seen.{AreFlagsSeen, HasRows, SeenFlags, is_seen}
 use Rattle.built_rows.specs.declared.picture_view.PictureView.{PictureView}
 use Rattle.built_rows.specs.Pictures.{IsPictureOf, IsUnitOf}
 
 -- of as many pictures and rows as the flight has some are seen, each of which this pass has seen counted
-pub record AreRowsSeen {F : Type 0} (s : FlightSizes) (v : View F) (seen : SeenFlags) : Type 0 where
+pub record HasSeenFlags {F : Type 0} (s : FlightSizes) (v : View F) (seen : SeenFlags) : Type 0 where
   pub sizes : HasRows seen s.pictures (rows s)
-  pub counted : AreSeen s v seen
+  pub counted : AreFlagsSeen s v seen
 
 -- what was seen still is
-abbrev pub SeesMore : SeenFlags → SeenFlags → Type 0
-SeesMore old new = (j row : ℕ) → is_seen old j row ≡ true → is_seen new j row ≡ true
+abbrev pub HasMoreFlags : SeenFlags → SeenFlags → Type 0
+HasMoreFlags old new = (j row : ℕ) → is_seen old j row ≡ true → is_seen new j row ≡ true
 
 -- a row of a picture is seen, if the flight has it
 abbrev pub HasRow : FlightSizes → SeenFlags → ℕ → ℕ → Type 0
@@ -66,9 +66,9 @@ pub record MayWait (board : Place FlightFacts) (picture : PictureView) (at : Uni
   pub flight : IsPictureOf board.flight picture
   pub unit : IsUnitOf picture at
   pub known : AreAllKnown board.flight (view pass)
-  pub sees : AreRowsSeen picture.layout.now (view pass) seen
+  pub sees : HasSeenFlags picture.layout.now (view pass) seen
 
 -- a pass has waited for rows of reference pictures
 pub record HasLookedAround (at : UnitAt) (before after : Pass FlightFacts) (old new : SeenFlags) : Type 0 where
   pub waited : HasWaited (view before) (number_at at) (view after)
-  pub more : SeesMore old new
+  pub more : HasMoreFlags old new

@@ -30,7 +30,7 @@ ghost use Rattle.flight_facts.specs.Facts.{flight_in};
 ghost use Rattle.flight_facts.specs.Flights.{IsOfFlight};
 ghost use Rattle.flight_waits.specs.Waits.{AreAllKnown, AreSeen};
 ghost use Rattle.flight_windows.specs.Seen.{SeenFlags, is_seen};
-ghost use Rattle.built_rows.specs.Seen.{AreRowsSeen, HasReach, ReachesEarlier, reach_in};
+ghost use Rattle.built_rows.specs.Seen.{HasSeenFlags, HasReach, ReachesEarlier, reach_in};
 ghost use Rattle.built_rows.specs.Told.{IsSourceOf};
 
 /// The ranges of rows that the items of a known unit reach, by its derived motion, are those that its flight tells of
@@ -54,7 +54,7 @@ pub fn items_reach_what_their_flight_tells()
 /// picture's row, what counting it needs is met (`needs`), and each final row that it uses is seen (`rows`).
 pub fn seen_reach_meets_the_needs_of_a_unit()
     ensures needs { (facts : FlightFacts) (s : FlightSizes) → IsOfFlight facts s → (v : View FlightFacts)
-        (seen : SeenFlags) → AreRowsSeen s v seen → (source : ReachSource) (items : List Item) (l : Line) (x : ℕ)
+        (seen : SeenFlags) → HasSeenFlags s v seen → (source : ReachSource) (items : List Item) (l : Line) (x : ℕ)
         → flat_map (reach_in source) items ≡ told_reach (flight_rows (flight_in facts)) l x
         → All (HasReach s seen source) items → l.phase ≡ B
         → AreSeen facts s v (read_needs (flight_rows (flight_in facts)) l x)
@@ -62,7 +62,7 @@ pub fn seen_reach_meets_the_needs_of_a_unit()
         (row_needs (flight_rows (flight_in facts)) (collocated_of (flight_rows (flight_in facts)) l x) l.row)
         → AreSeen facts s v (unit_needs (flight_rows (flight_in facts)) l x) }
     ensures rows { (facts : FlightFacts) (s : FlightSizes) → IsOfFlight facts s → (v : View FlightFacts)
-        (seen : SeenFlags) → AreRowsSeen s v seen → (source : ReachSource) (items : List Item) (l : Line) (x : ℕ)
+        (seen : SeenFlags) → HasSeenFlags s v seen → (source : ReachSource) (items : List Item) (l : Line) (x : ℕ)
         → flat_map (reach_in source) items ≡ told_reach (flight_rows (flight_in facts)) l x
         → All (HasReach s seen source) items → (j row : ℕ) → l.phase ≡ B
         → UnitUses (flight_rows (flight_in facts)) l x (line_of S j row) 0 → is_seen seen j row ≡ true }

@@ -24,7 +24,8 @@ use Rattle.flight_facts.specs.declared.flight_facts.FlightFacts.{FlightFacts}
 use Rattle.flight_facts.specs.Boards.{flight_meaning, sizes_in}
 use Rattle.flight_facts.specs.Facts.{flight_in}
 use Rattle.flight_facts.proofs.Laid.{board_sizes}
-use Rattle.done_units.specs.Seen.{HasMet, HasReached, IsSeenUnit}
+use Rattle.flight_waits.specs.Waits.{AreSeen}
+use Rattle.done_units.specs.Seen.{HasReached, IsSeenUnit}
 use Rattle.done_units.proofs.Uses.{AreMetBy, IsSeen, read_seen, unit_seen}
 
 module _ (facts : FlightFacts) (v : View FlightFacts) (u : UnitAt) (reached : HasReached facts v u) where
@@ -58,7 +59,7 @@ module _ (facts : FlightFacts) (v : View FlightFacts) (u : UnitAt) (reached : Ha
   here : seen_of v (line_number laid u.line) ≡ u.unit
   here = ap (λ (s : FlightSizes). seen_of v (line_number s u.line)) same ∙ reached.seen
 
-  met_there : (needs : List (Line × ℕ)) → HasMet facts v u.sizes needs → AreMetBy plan laid sized (seen_of v) needs
+  met_there : (needs : List (Line × ℕ)) → AreSeen facts u.sizes v needs → AreMetBy plan laid sized (seen_of v) needs
   unfolding meaning_of
   met_there needs met =
       subst (λ (s : FlightSizes). AreMet meaning (seen_of v) (numbered_needs s needs)) (sym same) met
@@ -77,34 +78,34 @@ module _ (facts : FlightFacts) (v : View FlightFacts) (u : UnitAt) (reached : Ha
       ap (λ (l : Line). is_sound (flight_in facts) l y) (sym (number_line plan laid sized m seen.line))
       ∙ all (line_number laid m) y seen.counted
 
-  read_there : u.line.phase ≡ B → HasMet facts v u.sizes (read_needs plan u.line u.unit) → (m : Line) (y : ℕ)
+  read_there : u.line.phase ≡ B → AreSeen facts u.sizes v (read_needs plan u.line u.unit) → (m : Line) (y : ℕ)
       → ReadingUses plan u.line u.unit m y → IsSeen plan laid sized (seen_of v) m y
   read_there tree met m y uses =
       read_seen plan laid sized (seen_of v) u.line u.unit line here left tree
       (met_there (read_needs plan u.line u.unit) met) m y uses
 
-  unit_there : HasMet facts v u.sizes (unit_needs plan u.line u.unit) → (m : Line) (y : ℕ)
+  unit_there : AreSeen facts u.sizes v (unit_needs plan u.line u.unit) → (m : Line) (y : ℕ)
       → UnitUses plan u.line u.unit m y → IsSeen plan laid sized (seen_of v) m y
   unit_there met m y uses =
       unit_seen plan laid sized (seen_of v) u.line u.unit line here left
       (met_there (unit_needs plan u.line u.unit) met) m y uses
 
-  pub read_uses_seen : u.line.phase ≡ B → HasMet facts v u.sizes (read_needs plan u.line u.unit) → (m : Line) (y : ℕ)
+  pub read_uses_seen : u.line.phase ≡ B → AreSeen facts u.sizes v (read_needs plan u.line u.unit) → (m : Line) (y : ℕ)
       → ReadingUses plan u.line u.unit m y → IsSeenUnit u.sizes v m y
   read_uses_seen tree met m y uses = seen_there m y (read_there tree met m y uses)
 
-  pub unit_uses_seen : HasMet facts v u.sizes (unit_needs plan u.line u.unit) → (m : Line) (y : ℕ)
+  pub unit_uses_seen : AreSeen facts u.sizes v (unit_needs plan u.line u.unit) → (m : Line) (y : ℕ)
       → UnitUses plan u.line u.unit m y → IsSeenUnit u.sizes v m y
   unit_uses_seen met m y uses = seen_there m y (unit_there met m y uses)
 
   pub read_uses_sound : u.line.phase ≡ B → AreAllSound meaning v
-      → HasMet facts v u.sizes (read_needs plan u.line u.unit)
+      → AreSeen facts u.sizes v (read_needs plan u.line u.unit)
       → AreUsesSound (flight_in facts) u.line.picture u.line.row u.unit
   read_uses_sound tree all met m y uses =
       let e : line_of B u.line.picture u.line.row ≡ u.line =
       ap (λ (p : Phase). line_of p u.line.picture u.line.row) (sym tree) in
       sound_there all m y (read_there tree met m y (subst (λ (l : Line). ReadingUses plan l u.unit m y) e uses))
 
-  pub unit_uses_sound : AreAllSound meaning v → HasMet facts v u.sizes (unit_needs plan u.line u.unit)
+  pub unit_uses_sound : AreAllSound meaning v → AreSeen facts u.sizes v (unit_needs plan u.line u.unit)
       → (m : Line) (y : ℕ) → UnitUses plan u.line u.unit m y → is_sound (flight_in facts) m y ≡ true
   unit_uses_sound all met m y uses = sound_there all m y (unit_there met m y uses)

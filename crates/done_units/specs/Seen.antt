@@ -1,16 +1,12 @@
 -- What a pass of a flight's board has seen counted.
-use Rattle.std.specs.Prelude.{ℕ, ◌≡◌, ◌<◌, List}
+use Rattle.std.specs.Prelude.{ℕ, ◌≡◌, ◌<◌}
 use Rattle.hv_base.specs.declared.line.Line.{Line}
 use Rattle.sample_words.specs.declared.sizes.FlightSizes.{FlightSizes}
 use Rattle.sample_words.specs.Words.{IsLine, line_number}
 use Rattle.progress_words.specs.declared.view.View.{View}
-use Rattle.progress_words.specs.Core.{AreMet}
 use Rattle.progress_words.specs.Views.{seen_of}
-use Rattle.flight_lines.specs.Numbers.{numbered_needs}
 use Rattle.line_words.specs.Places.{IsUnit, UnitAt, number_at}
 use Rattle.flight_facts.specs.declared.flight_facts.FlightFacts.{FlightFacts}
-use Rattle.flight_facts.specs.Boards.{flight_meaning}
-use Rattle.flight_facts.specs.Facts.{flight_in}
 use Rattle.flight_facts.specs.Flights.{IsOfFlight}
 
 -- it has come to a unit of a flight: it has seen those before it in its line counted, and no more
@@ -18,10 +14,6 @@ pub record HasReached (facts : FlightFacts) (v : View FlightFacts) (u : UnitAt) 
   pub flight : IsOfFlight facts u.sizes
   pub unit : IsUnit u
   pub seen : seen_of v (number_at u) ≡ u.unit
-
--- what is needed of lines is met by what it has seen
-abbrev pub HasMet : FlightFacts → View FlightFacts → FlightSizes → List (Line × ℕ) → Type 0
-HasMet facts v s needs = AreMet (flight_meaning (flight_in facts)) (seen_of v) (numbered_needs s needs)
 
 -- it has seen the unit y of a line counted
 pub record IsSeenUnit (s : FlightSizes) (v : View FlightFacts) (m : Line) (y : ℕ) : Type 0 where

@@ -8,22 +8,21 @@ ghost use Rattle.board_core.specs.Uses.{ReadingUses, UnitUses};
 ghost use Rattle.spec_flights.specs.Rows.{flight_rows, is_sound};
 ghost use Rattle.flight_value_laws.specs.Reading.{AreUsesSound};
 ghost use Rattle.progress_words.specs.declared.view.View.{View};
-ghost use Rattle.line_words.specs.Passes.{AreAllSound};
 ghost use Rattle.line_words.specs.Places.{UnitAt};
 ghost use Rattle.flight_facts.specs.declared.flight_facts.FlightFacts.{FlightFacts};
-ghost use Rattle.flight_facts.specs.Boards.{flight_meaning};
 ghost use Rattle.flight_facts.specs.Facts.{flight_in};
-ghost use Rattle.done_units.specs.Seen.{HasMet, HasReached, IsSeenUnit};
+ghost use Rattle.flight_waits.specs.Waits.{AreAllKnown, AreSeen};
+ghost use Rattle.done_units.specs.Seen.{HasReached, IsSeenUnit};
 
 /// A pass that has come to a unit, and has met what reading it needs, has seen each unit counted that reading it uses
 /// (`read`); where it has met what counting it needs, each that making it uses (`unit`).
 pub fn met_needs_are_seen_uses()
     ensures read { (facts : FlightFacts) (v : View FlightFacts) (u : UnitAt) → HasReached facts v u → u.line.phase ≡ B
-        → HasMet facts v u.sizes (read_needs (flight_rows (flight_in facts)) u.line u.unit)
+        → AreSeen facts u.sizes v (read_needs (flight_rows (flight_in facts)) u.line u.unit)
         → (m : Line) (y : ℕ) → ReadingUses (flight_rows (flight_in facts)) u.line u.unit m y
         → IsSeenUnit u.sizes v m y }
     ensures unit { (facts : FlightFacts) (v : View FlightFacts) (u : UnitAt) → HasReached facts v u
-        → HasMet facts v u.sizes (unit_needs (flight_rows (flight_in facts)) u.line u.unit)
+        → AreSeen facts u.sizes v (unit_needs (flight_rows (flight_in facts)) u.line u.unit)
         → (m : Line) (y : ℕ) → UnitUses (flight_rows (flight_in facts)) u.line u.unit m y
         → IsSeenUnit u.sizes v m y }
 {}
@@ -31,12 +30,12 @@ pub fn met_needs_are_seen_uses()
 /// So these are sound, where all units are that the pass has seen counted.
 pub fn met_needs_are_sound_uses()
     ensures read { (facts : FlightFacts) (v : View FlightFacts) (u : UnitAt) → HasReached facts v u → u.line.phase ≡ B
-        → AreAllSound (flight_meaning (flight_in facts)) v
-        → HasMet facts v u.sizes (read_needs (flight_rows (flight_in facts)) u.line u.unit)
+        → AreAllKnown facts v
+        → AreSeen facts u.sizes v (read_needs (flight_rows (flight_in facts)) u.line u.unit)
         → AreUsesSound (flight_in facts) u.line.picture u.line.row u.unit }
     ensures unit { (facts : FlightFacts) (v : View FlightFacts) (u : UnitAt) → HasReached facts v u
-        → AreAllSound (flight_meaning (flight_in facts)) v
-        → HasMet facts v u.sizes (unit_needs (flight_rows (flight_in facts)) u.line u.unit)
+        → AreAllKnown facts v
+        → AreSeen facts u.sizes v (unit_needs (flight_rows (flight_in facts)) u.line u.unit)
         → (m : Line) (y : ℕ) → UnitUses (flight_rows (flight_in facts)) u.line u.unit m y
         → is_sound (flight_in facts) m y ≡ true }
 {}

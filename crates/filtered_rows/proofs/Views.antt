@@ -14,7 +14,7 @@ use Rattle.line_words.specs.Passes.{writing_run}
 use Rattle.line_words.specs.Places.{UnitAt, number_at}
 use Rattle.line_words.proofs.Words.{next_still}
 use Rattle.flight_facts.specs.declared.flight_facts.FlightFacts.{FlightFacts}
-use Rattle.flight_waits.specs.Waits.{AreSeen, HasWaited, HoldsUnit}
+use Rattle.flight_waits.specs.Waits.{AreSeen, HasSameParts, HasWaited, HoldsUnit}
 
 module _ {F : Type 0} where
   -- it hasn't waited, or has waited twice
@@ -39,8 +39,23 @@ module _ {F : Type 0} where
   pub written_still : (v w : View F) (line n : ℕ) → HasWaited v line w → v.written ≡ n → w.written ≡ n
   written_still v w line n waited e = ap (λ (u : View F). u.written) waited.same ∙ e
 
-  pub none_still : (v w : View F) (line : ℕ) → HasWaited v line w → w.none ≡ v.none
-  none_still v w line waited = ap (λ (u : View F). u.none) waited.same
+  -- it has drawn, split and joined as before
+  pub parts_still : (v w : View F) (line : ℕ) → HasWaited v line w → HasSameParts v w
+  parts_still v w line waited =
+      record {
+        none = ap (λ (u : View F). u.none) waited.same;
+        opens = ap (λ (u : View F). u.opens) waited.same;
+        splits = ap (λ (u : View F). u.splits) waited.same;
+        joins = ap (λ (u : View F). u.joins) waited.same;
+      }
+
+  counted_parts : (v w : View F) (l n : ℕ) → HasSameParts v w → HasSameParts v (counting w l n)
+  counted_parts v w l n same =
+      record { none = same.none; opens = same.opens; splits = same.splits; joins = same.joins }
+
+  pub parts_counted : (v w x : View F) (line l n : ℕ) → HasWaited v line w → x ≡ counting w l n → HasSameParts v x
+  parts_counted v w x line l n waited e =
+      subst (HasSameParts v) (sym e) (counted_parts v w l n (parts_still v w line waited))
 
   -- what is met stays met
   pub seen_more : (facts : FlightFacts) (s : FlightSizes) (v w : View F) (needs : List (Line × ℕ))

@@ -10,7 +10,7 @@ ghost use Rattle.flight_facts.specs.Boards.{flight_meaning};
 ghost use Rattle.flight_facts.specs.Facts.{flight_in};
 ghost use Rattle.flight_facts.specs.Flights.{IsOfFlight};
 ghost use Rattle.flight_waits.specs.Frames.{frame_rows};
-ghost use Rattle.flight_waits.specs.Waits.{AreAllKnown, HoldsUnit};
+ghost use Rattle.flight_waits.specs.Waits.{AreAllKnown, HasSameParts, HoldsUnit};
 ghost use Rattle.filtered_rows.specs.Memory.{HasRoomFor};
 ghost use Rattle.filtered_rows.specs.Phases.{IsReady};
 
@@ -97,7 +97,7 @@ pub fn filter_row<R: Wait, G: Gate>(
     ensures own { IsPassOf board.now pass.new }
     ensures known { AreAllKnown board.now.flight (view pass.new) }
     ensures ended { HasEnded (flight_meaning (flight_in board.now.flight)) (view pass.new) }
-    ensures none { (view pass.new).none ≡ (view pass.old).none }
+    ensures parts { HasSameParts (view pass.old) (view pass.new) }
     ensures more { (l : ℕ) → seen_of (view pass.old) l ≤ seen_of (view pass.new) l }
     ensures memory { HasRoomFor format.now memory.new }
 {

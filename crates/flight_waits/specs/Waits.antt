@@ -23,6 +23,13 @@ pub record HasWaited {F : Type 0} (v : View F) (line : ℕ) (w : View F) : Type 
   pub more : (l : ℕ) → seen_of v l ≤ seen_of w l
   pub own : seen_of w line ≡ seen_of v line
 
+-- it has drawn, split and joined as before
+pub record HasSameParts {F : Type 0} (v w : View F) : Type 0 where
+  pub none : w.none ≡ v.none
+  pub opens : w.opens ≡ v.opens
+  pub splits : w.splits ≡ v.splits
+  pub joins : w.joins ≡ v.joins
+
 -- by what it has seen of the lines of a flight needs are met
 abbrev pub AreSeen : {F : Type 0} → FlightFacts → FlightSizes → View F → List (Line × ℕ) → Type 0
 AreSeen facts s v needs = AreMet (flight_meaning (flight_in facts)) (seen_of v) (numbered_needs s needs)

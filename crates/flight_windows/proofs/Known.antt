@@ -8,7 +8,7 @@ use Rattle.progress_words.specs.Passes.{Knows, view}
 use Rattle.progress_words.specs.Places.{Place}
 use Rattle.flight_facts.specs.declared.flight_facts.FlightFacts.{FlightFacts}
 use Rattle.flight_windows.specs.Reading.{Sees}
-use Rattle.flight_windows.specs.Seen.{AreSeen, SeenFlags}
+use Rattle.flight_windows.specs.Seen.{AreFlagsSeen, SeenFlags}
 use Rattle.flight_windows.specs.Windows.{IsKnown}
 
 pub sees_still : (board : Place FlightFacts) (s : FlightSizes) (seen : SeenFlags) (p q : Pass FlightFacts)
@@ -16,7 +16,7 @@ pub sees_still : (board : Place FlightFacts) (s : FlightSizes) (seen : SeenFlags
 sees_still board s seen p q knows sees = record {
   own = (knows.0 ∙ sees.own.0, ap (λ (v : View FlightFacts). v.facts) knows.1 ∙ sees.own.1);
   flight = sees.flight;
-  rows = subst (λ (v : View FlightFacts). AreSeen s v seen) (sym knows.1) sees.rows;
+  rows = subst (λ (v : View FlightFacts). AreFlagsSeen s v seen) (sym knows.1) sees.rows;
 }
 
 pub known_still : (table : TableId) (v : View FlightFacts) (p q : Pass FlightFacts) → Knows p q (view p)

@@ -10,7 +10,7 @@ use Rattle.line_words.specs.Places.{UnitAt, number_at}
 use Rattle.sample_lines.specs.Lines.{height_at, width_at}
 use Rattle.flight_windows.specs.declared.final_rows.FinalRow.{FinalRow}
 use Rattle.flight_windows.specs.Lines.{IsFinalRow, final_unit, width_in}
-use Rattle.flight_windows.specs.Seen.{AreSeen, SeenFlags, is_seen}
+use Rattle.flight_windows.specs.Seen.{AreFlagsSeen, SeenFlags, is_seen}
 
 -- it has the sizes of the flight, was seen counted, and has whole lines
 pub record IsSeenUnit {F : Type 0} (s : FlightSizes) (v : View F) (row : ℕ) (at : UnitAt) : Type 0 where
@@ -19,7 +19,7 @@ pub record IsSeenUnit {F : Type 0} (s : FlightSizes) (v : View F) (row : ℕ) (a
   pub width : (c : ℕ) → width_at at c ≡ width_in s c
   pub height : (c : ℕ) → height_at at c ≡ component_side c (height_of s row)
 
-pub seen_unit : {F : Type 0} (s : FlightSizes) (v : View F) (seen : SeenFlags) → AreSeen s v seen → (j row : ℕ)
+pub seen_unit : {F : Type 0} (s : FlightSizes) (v : View F) (seen : SeenFlags) → AreFlagsSeen s v seen → (j row : ℕ)
     → is_seen seen j row ≡ true → (at : UnitAt) → at ≡ final_unit s j row → IsSeenUnit s v row at
 seen_unit s v seen rows j row here at is =
     let told = (rows j row here).1 in
@@ -49,7 +49,8 @@ none_final s seen row is e =
     (λ a. (is_seen seen row.picture row.row ≡ true) × (a ≡ final_unit s row.picture row.row)))
     e is
 
-pub unit_of_row : {F : Type 0} (s : FlightSizes) (v : View F) (seen : SeenFlags) → AreSeen s v seen → (row : FinalRow)
+pub unit_of_row : {F : Type 0} (s : FlightSizes) (v : View F) (seen : SeenFlags) → AreFlagsSeen s v seen
+    → (row : FinalRow)
     (at : UnitAt) → IsFinalRow s seen row → row.at ≡ Some at → IsSeenUnit s v row.row at
 unit_of_row s v seen rows row at is e =
     let told = final_is s seen row at is e in seen_unit s v seen rows row.picture row.row told.0 at told.1

@@ -12,14 +12,14 @@ use Rattle.flight_facts.specs.Facts.{flight_in}
 use Rattle.flight_facts.specs.Flights.{IsOfFlight}
 use Rattle.flight_windows.specs.declared.final_rows.FinalRows.{FinalRows}
 use Rattle.flight_windows.specs.Pictures.{seen_picture}
-use Rattle.flight_windows.specs.Seen.{AreSeen, SeenFlags}
+use Rattle.flight_windows.specs.Seen.{AreFlagsSeen, SeenFlags}
 
 -- a pass is of a board that lies as its flight is laid out, and has seen these rows counted
 pub record Sees (board : Place FlightFacts) (s : FlightSizes) (seen : SeenFlags) (pass : Pass FlightFacts)
     : Type 0 where
   pub own : IsPassOf board pass
   pub flight : IsOfFlight board.flight s
-  pub rows : AreSeen s (view pass) seen
+  pub rows : AreFlagsSeen s (view pass) seen
 
 -- the same of the rows that a value has
 abbrev pub SeesRows : FinalRows → Pass FlightFacts → Type 0

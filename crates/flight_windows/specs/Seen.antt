@@ -26,7 +26,7 @@ unfoldable pub is_seen : SeenFlags → ℕ → ℕ → Bool
 is_seen seen j row = has_row seen j row && slice_index_or seen.flags (j * seen.rows + row) false
 
 -- rows that are seen are lines of a flight with these sizes, and this pass has seen them counted
-abbrev pub AreSeen : {F : Type 0} → FlightSizes → View F → SeenFlags → Type 0
-AreSeen s v seen =
+abbrev pub AreFlagsSeen : {F : Type 0} → FlightSizes → View F → SeenFlags → Type 0
+AreFlagsSeen s v seen =
     (j row : ℕ) → is_seen seen j row ≡ true
     → IsLine s (line_of S j row) × (1 ≤ seen_of v (line_number s (line_of S j row)))

@@ -19,7 +19,7 @@ ghost use Rattle.flight_facts.specs.declared.flight_facts.FlightFacts.{FlightFac
 ghost use Rattle.flight_unit_laws.specs.Planned.{IsPlanned};
 ghost use Rattle.flight_unit_laws.specs.Uses.{BuffersAgree};
 ghost use Rattle.flight_windows.specs.Pictures.{seen_pictures};
-ghost use Rattle.flight_windows.specs.Seen.{AreSeen, SeenFlags, has_row, is_seen};
+ghost use Rattle.flight_windows.specs.Seen.{AreFlagsSeen, SeenFlags, has_row, is_seen};
 ghost use Rattle.flight_windows.specs.Windows.{bases_in};
 
 /// Where all final rows are seen that a unit of a picture of a flight uses, the pictures with the rows that are seen
@@ -38,13 +38,13 @@ pub fn seen_pictures_agree()
 /// (`later`), and where one more is told that it has seen, as `SeenRows::add` does (`more`).
 pub fn seen_rows_stay_seen()
     ensures none { (s : FlightSizes) (v : View FlightFacts) (seen : SeenFlags)
-        → ((j row : ℕ) → is_seen seen j row ≡ false) → AreSeen s v seen }
+        → ((j row : ℕ) → is_seen seen j row ≡ false) → AreFlagsSeen s v seen }
     ensures later { (s : FlightSizes) (v w : View FlightFacts) (seen : SeenFlags)
-        → ((l : ℕ) → seen_of v l ≤ seen_of w l) → AreSeen s v seen → AreSeen s w seen }
+        → ((l : ℕ) → seen_of v l ≤ seen_of w l) → AreFlagsSeen s v seen → AreFlagsSeen s w seen }
     ensures more { (s : FlightSizes) (v : View FlightFacts) (seen now : SeenFlags) (j row : ℕ)
-        → AreSeen s v seen → IsLine s (line_of S j row) → 1 ≤ seen_of v (line_number s (line_of S j row))
+        → AreFlagsSeen s v seen → IsLine s (line_of S j row) → 1 ≤ seen_of v (line_number s (line_of S j row))
         → ((i r : ℕ) → is_seen now i r ≡ (is_seen seen i r || (has_row seen j row && (i == j && r == row))))
-        → AreSeen s v now }
+        → AreFlagsSeen s v now }
 {}
 
 /// The pictures of the buffer before a flight are those that its bases hold, to any picture that refers to them.

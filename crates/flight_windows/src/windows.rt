@@ -10,7 +10,7 @@ ghost use Rattle.spec_reconstruction.specs.declared.format.UnitFormat.{UnitForma
 ghost use Rattle.flight_facts.specs.Facts.{flight_in};
 ghost use Rattle.flight_facts.specs.Flights.{IsOfFlight};
 ghost use Rattle.flight_windows.specs.Pictures.{seen_pictures};
-ghost use Rattle.flight_windows.specs.Seen.{AreSeen};
+ghost use Rattle.flight_windows.specs.Seen.{AreFlagsSeen};
 ghost use Rattle.flight_windows.specs.Windows.{IsKnown, bases_in, references_in};
 
 use crate::final_rows::FinalRows;
@@ -73,7 +73,7 @@ impl<'b, K: KnownPass, R: RefWindow + Drop> FlightWindows<'b, K, R> {
         requires own { IsPassOf board.now pass }
         requires flight { IsOfFlight board.now.flight layout }
         requires bases { R.reference_at bases ≡ bases_in sps.now.format board.now.flight }
-        requires seen { AreSeen layout (view pass) seen.now }
+        requires seen { AreFlagsSeen layout (view pass) seen.now }
         requires known { IsKnown K.table K.knows pass }
         ensures value { result
             ≡ record { facts = board.now.flight; seen = seen.now; names = names.now; sps = sps.now } }

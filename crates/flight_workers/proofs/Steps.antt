@@ -33,8 +33,8 @@ use Rattle.line_words.specs.Passes.{AreAllSound}
 use Rattle.flight_facts.specs.declared.flight_facts.FlightFacts.{FlightFacts}
 use Rattle.flight_facts.specs.Boards.{flight_meaning}
 use Rattle.flight_facts.specs.Facts.{flight_in}
-use Rattle.flight_waits.specs.Waits.{AreAllKnown}
-use Rattle.flight_workers.specs.Working.{HasEndedLine, HasSameParts, HoldsLine, IsDone, IsFresh}
+use Rattle.flight_waits.specs.Waits.{AreAllKnown, HasSameParts}
+use Rattle.flight_workers.specs.Working.{HasEndedLine, HoldsLine, IsDone, IsFresh}
 
 -- between two lines a pass has ended what it held
 pub record IsBetween (b : Place FlightFacts) (p q : Pass FlightFacts) : Type 0 where

@@ -12,7 +12,7 @@ use Rattle.flight_facts.specs.declared.flight_facts.FlightFacts.{FlightFacts}
 use Rattle.flight_facts.specs.Boards.{flight_meaning}
 use Rattle.flight_facts.specs.Facts.{flight_in}
 use Rattle.flight_facts.specs.Flights.{IsOfFlight}
-use Rattle.flight_waits.specs.Waits.{AreAllKnown, HoldsUnit}
+use Rattle.flight_waits.specs.Waits.{AreAllKnown, HasSameParts, HoldsUnit}
 
 -- the first unit of a line
 abbrev pub first_unit : FlightSizes → Line → UnitAt
@@ -24,13 +24,6 @@ pub record HoldsLine (b : Place FlightFacts) (s : FlightSizes) (p : Pass FlightF
   pub holds : HoldsUnit (view p) (first_unit s line)
   pub written : (view p).written ≡ 0
   pub known : AreAllKnown b.flight (view p)
-
--- it has drawn, split and joined as before
-pub record HasSameParts {F : Type 0} (v w : View F) : Type 0 where
-  pub none : w.none ≡ v.none
-  pub opens : w.opens ≡ v.opens
-  pub splits : w.splits ≡ v.splits
-  pub joins : w.joins ≡ v.joins
 
 -- its job has ended
 pub record HasEndedLine (b : Place FlightFacts) (p q : Pass FlightFacts) : Type 0 where

@@ -11,7 +11,7 @@ use Rattle.picture_buffer.proofs.Laying.{part_at}
 use Rattle.sample_words.specs.Contents.{component_side}
 use Rattle.sample_words.specs.declared.sizes.FlightSizes.{FlightSizes}
 use Rattle.sample_words.specs.Sizes.{IsFlight, height_of, rows}
-use Rattle.taken_pictures.specs.Rows.{first_line, is_in_row}
+use Rattle.taken_pictures.specs.Rows.{first_line, is_line_of_row}
 use Rattle.taken_pictures.proofs.Sides.{line_among, lines_inside}
 
 -- a list of which a part was written has as many elements as before
@@ -98,7 +98,7 @@ module _ (s : FlightSizes) (c row : ℕ) (sizes : IsFlight s) (there : row < row
   part_inside = let ends = ends_inside w first count (component_side c s.height) most in omega (arith, ends, all)
 
   test_is : (y : ℕ) → y < component_side c s.height
-      → (nat_le first y && nat_lt y (first + count)) ≡ is_in_row s c row y
+      → (nat_le first y && nat_lt y (first + count)) ≡ is_line_of_row s c row y
   test_is y line =
       (λ t. nat_le (top t) y && nat_lt y (top t + count)) ∙ line_among s c row count y sizes high line
 
@@ -106,7 +106,7 @@ module _ (s : FlightSizes) (c row : ℕ) (sizes : IsFlight s) (there : row < row
       → ((i j : ℕ) → i < w → j < count → get_or part (w * j + i) 0 ≡ f i (first + j))
       → (x y : ℕ) → x < component_side c s.width → y < component_side c s.height
       → get_or (put_mid (w * first) k plane part) (component_side c s.width * y + x) 0
-      ≡ cond (is_in_row s c row y) (f x y) (get_or plane (component_side c s.width * y + x) 0)
+      ≡ cond (is_line_of_row s c row y) (f x y) (get_or plane (component_side c s.width * y + x) 0)
   row_laid size part f many told x y column line =
       ap (λ n. get_or (put_mid (w * first) k plane part) (n * y + x) 0) (sym wide)
       ∙ (laid w (component_side c s.height) first count k y x plane part f size all most many told

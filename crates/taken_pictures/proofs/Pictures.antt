@@ -19,7 +19,7 @@ use Rattle.flight_facts.specs.declared.flight_facts.FlightFacts.{FlightFacts}
 use Rattle.flight_facts.specs.Facts.{flight_in}
 use Rattle.flight_facts.specs.Flights.{IsOfFlight}
 use Rattle.flight_facts.proofs.Laid.{picture_sizes}
-use Rattle.taken_pictures.specs.Pictures.{IsPictureSeen, IsRowSeen}
+use Rattle.taken_pictures.specs.Pictures.{IsPictureSeen, IsBuiltAndFinal}
 
 there_inside : {X : Type 0} (xs : List X) (k : ℕ) (x : X) → slice_get xs k ≡ Some x → k < length xs
 there_inside xs k x has =
@@ -92,5 +92,5 @@ module _ (facts : FlightFacts) (s : FlightSizes) (k : ℕ) (p : PicturePlan) (is
 
 -- a row of a picture that is seen
 pub row_seen : {F : Type 0} (s : FlightSizes) (v w : View F) (k row : ℕ) → w ≡ v → IsPictureSeen s v k → row < rows s
-    → IsRowSeen s w k row
-row_seen s v w k row same seen less = subst (λ u. IsRowSeen s u k row) (sym same) (seen row less)
+    → IsBuiltAndFinal s w k row
+row_seen s v w k row same seen less = subst (λ u. IsBuiltAndFinal s u k row) (sym same) (seen row less)

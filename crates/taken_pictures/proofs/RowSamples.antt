@@ -12,7 +12,7 @@ use Rattle.spec_flights.specs.Pictures.{PlannedFlight}
 use Rattle.line_words.specs.Places.{IsUnit, UnitAt}
 use Rattle.flight_facts.specs.Flights.{samples_at}
 use Rattle.sample_lines.specs.Lines.{height_at, sample_of, width_at}
-use Rattle.taken_pictures.specs.Rows.{first_line, is_in_row}
+use Rattle.taken_pictures.specs.Rows.{first_line, is_line_of_row}
 use Rattle.taken_pictures.proofs.Lines.{part_inside, part_written, row_laid}
 use Rattle.taken_pictures.proofs.Sides.{side_of_none}
 
@@ -101,7 +101,7 @@ module _ (s : FlightSizes) (at : UnitAt) (c w first count : ℕ) (part : ArePart
         → (x y : ℕ) → x < component_side c s.width → y < component_side c s.height
         → get_or (put_mid (w * first) (w * first + w * count - w * first) plane out)
         (component_side c s.width * y + x) 0
-        ≡ cond (is_in_row s c at.line.row y) (samples_at f at.line.picture S c x y)
+        ≡ cond (is_line_of_row s c at.line.row y) (samples_at f at.line.picture S c x y)
         (get_or plane (component_side c s.width * y + x) 0)
     part_value f told =
         row_laid s c at.line.row part.sizes part.there w first count (w * first + w * count - w * first) part.wide

@@ -19,11 +19,11 @@ use Rattle.flight_facts.specs.declared.flight_facts.FlightFacts.{FlightFacts}
 use Rattle.flight_facts.specs.Boards.{flight_meaning}
 use Rattle.flight_facts.specs.Facts.{flight_in}
 use Rattle.flight_facts.specs.Flights.{IsOfFlight}
-use Rattle.taken_pictures.specs.Pictures.{IsRowSeen, SeesMore}
+use Rattle.taken_pictures.specs.Pictures.{IsBuiltAndFinal, HasSeenMore}
 
 module _ {F : Type 0} where
   -- a pass that looked at a line
-  pub sees_more : (v w : View F) (l : ℕ) → HasLooked v l w → SeesMore v w
+  pub sees_more : (v w : View F) (l : ℕ) → HasLooked v l w → HasSeenMore v w
   sees_more v w l looked =
       record {
         same = looked.same;
@@ -42,14 +42,14 @@ module _ {F : Type 0} where
         | inr other ↦ subst (AllSound m j) (sym (looked.others j other).0) (all j)
       ]
 
-  pub sees_same : (v : View F) → SeesMore v v
+  pub sees_same : (v : View F) → HasSeenMore v v
   sees_same v = record { same = refl; more = λ l. omega arith }
 
   -- of what waits leave two after another leave so
   abbrev over : View F → View F → View F
   over v w = record v { seen = w.seen; loads = w.loads; least = w.least; fault_loads = w.fault_loads }
 
-  pub sees_on : (u v w : View F) → SeesMore u v → SeesMore v w → SeesMore u w
+  pub sees_on : (u v w : View F) → HasSeenMore u v → HasSeenMore v w → HasSeenMore u w
   sees_on u v w first second =
       record {
         same = second.same ∙ ap (λ (x : View F). over x w) first.same;
@@ -57,8 +57,8 @@ module _ {F : Type 0} where
       }
 
   -- a row that is seen stays so
-  pub row_on : (s : FlightSizes) (v w : View F) (picture row : ℕ) → SeesMore v w → IsRowSeen s v picture row
-      → IsRowSeen s w picture row
+  pub row_on : (s : FlightSizes) (v w : View F) (picture row : ℕ) → HasSeenMore v w → IsBuiltAndFinal s v picture row
+      → IsBuiltAndFinal s w picture row
   row_on s v w picture row sees seen =
       let built = sees.more (line_number s (line_of B picture row)) in
       let final = sees.more (line_number s (line_of S picture row)) in
@@ -68,12 +68,12 @@ module _ {F : Type 0} where
       }
 
   -- one more row
-  pub rows_more : (s : FlightSizes) (v w : View F) (picture n : ℕ) → SeesMore v w
-      → ((row : ℕ) → row < n → IsRowSeen s v picture row) → IsRowSeen s w picture n
-      → (row : ℕ) → row < n + 1 → IsRowSeen s w picture row
+  pub rows_more : (s : FlightSizes) (v w : View F) (picture n : ℕ) → HasSeenMore v w
+      → ((row : ℕ) → row < n → IsBuiltAndFinal s v picture row) → IsBuiltAndFinal s w picture n
+      → (row : ℕ) → row < n + 1 → IsBuiltAndFinal s w picture row
   rows_more s v w picture n sees before here row below =
       elim (cases_eq row n) [
-        | inl last ↦ subst (IsRowSeen s w picture) (sym last) here
+        | inl last ↦ subst (IsBuiltAndFinal s w picture) (sym last) here
         | inr other ↦ row_on s v w picture row sees (before row (less row n other below))
       ]
     where
@@ -86,8 +86,8 @@ module _ {F : Type 0} where
 
   -- a row of which both lines were looked at
   pub row_is_seen : (s : FlightSizes) (v w : View F) (picture row : ℕ) (built final : Line) (count : ℕ)
-      → built ≡ line_of B picture row → final ≡ line_of S picture row → count ≡ columns s → SeesMore v w
-      → count ≤ seen_of v (line_number s built) → 1 ≤ seen_of w (line_number s final) → IsRowSeen s w picture row
+      → built ≡ line_of B picture row → final ≡ line_of S picture row → count ≡ columns s → HasSeenMore v w
+      → count ≤ seen_of v (line_number s built) → 1 ≤ seen_of w (line_number s final) → IsBuiltAndFinal s w picture row
   row_is_seen s v w picture row built final count built_is final_is all sees first second =
       let there : count ≤ seen_of v (line_number s (line_of B picture row)) =
       subst (λ (l : Line). count ≤ seen_of v (line_number s l)) built_is first in

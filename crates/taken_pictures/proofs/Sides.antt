@@ -8,7 +8,7 @@ use Rattle.sample_words.specs.Contents.{component_side}
 use Rattle.sample_words.specs.Sizes.{IsFlight, columns, ctb_size, height_of, rows, width_of}
 use Rattle.sample_words.proofs.Extents.{some_side}
 use Rattle.sample_words.proofs.Parts.{next_part}
-use Rattle.taken_pictures.specs.Rows.{first_line, is_in_row, side_places}
+use Rattle.taken_pictures.specs.Rows.{first_line, is_line_of_row, side_places}
 use Rattle.taken_pictures.proofs.Tests.{below_cut}
 
 -- CtbSizeY is a multiple of 4
@@ -148,7 +148,7 @@ lines_inside s c row is less =
 -- a line of the picture is among those that it has of a row where it is one of the row
 pub line_among : (s : FlightSizes) (c row h y : ℕ) → IsFlight s → h ≡ component_side c (height_of s row)
     → y < component_side c s.height
-    → (nat_le (first_line s c row) y && nat_lt y (first_line s c row + h)) ≡ is_in_row s c row y
+    → (nat_le (first_line s c row) y && nat_lt y (first_line s c row + h)) ≡ is_line_of_row s c row y
 line_among s c row h y is e inside =
     ap (λ n. nat_le (first_line s c row) y && nat_lt y (first_line s c row + n)) (e ∙ lines_are s c row is)
     ∙ (ap (λ b. nat_le (first_line s c row) y && b)

@@ -20,7 +20,7 @@ use Rattle.line_words.specs.Places.{UnitAt}
 use Rattle.flight_facts.specs.declared.flight_facts.FlightFacts.{FlightFacts}
 use Rattle.flight_facts.specs.Facts.{flight_in}
 use Rattle.flight_facts.specs.Flights.{samples_at}
-use Rattle.taken_pictures.specs.Rows.{first_line, is_in_row, is_among, side_places}
+use Rattle.taken_pictures.specs.Rows.{first_line, is_line_of_row, is_place_of_row, side_places}
 use Rattle.taken_pictures.proofs.Sides.{column_before_end}
 use Rattle.taken_pictures.proofs.Tests.{part_all, part_more}
 
@@ -45,71 +45,73 @@ pub unit_whole : {M : Type 0} (s : FlightSizes) (row x w h i j : ℕ) (taken old
     → new
     ≡ cond ((nat_le (side_places s * row) j && nat_lt j (side_places s * row + h))
     && (nat_le (side_places s * x) i && nat_lt i (side_places s * x + w))) taken old
-    → new ≡ cond (is_among s row j && is_among s x i) taken old
+    → new ≡ cond (is_place_of_row s row j && is_place_of_row s x i) taken old
 unit_whole s row x w h i j taken old new is across down laid =
     laid ∙ (λ t. cond (down t && across t) taken old)
 
 -- the motion of a place behind one more unit
 abbrev pub with_unit : FlightFacts → FlightSizes → UnitAt → (ℕ → ℕ → Option PlaceMotion) → ℕ → ℕ → Option PlaceMotion
 with_unit facts s u old i j =
-    cond (is_among s u.line.row j && is_among s u.unit i) ((folded_at (flight_in facts) u.line.picture).motions i j)
+    cond (is_place_of_row s u.line.row j && is_place_of_row s u.unit i)
+    ((folded_at (flight_in facts) u.line.picture).motions i j)
     (old i j)
 
 -- that behind one more row, and the sample of a component behind one more row
 abbrev pub with_line : PlannedFlight → FlightSizes → Line → (ℕ → ℕ → Option PlaceMotion) → ℕ → ℕ → Option PlaceMotion
-with_line f s l old i j = cond (is_among s l.row j) ((folded_at f l.picture).motions i j) (old i j)
+with_line f s l old i j = cond (is_place_of_row s l.row j) ((folded_at f l.picture).motions i j) (old i j)
 
 abbrev pub with_row : PlannedFlight → FlightSizes → UnitAt → Samples → Samples
-with_row f s u old c x y = cond (is_in_row s c u.line.row y) (samples_at f u.line.picture S c x y) (old c x y)
+with_row f s u old c x y = cond (is_line_of_row s c u.line.row y) (samples_at f u.line.picture S c x y) (old c x y)
 
 -- one more unit
 pub units_more : {M : Type 0} (s : FlightSizes) (row x i j : ℕ) (taken old mid new : M)
-    → mid ≡ cond (is_among s row j && nat_lt i (side_places s * x)) taken old
-    → new ≡ cond (is_among s row j && is_among s x i) taken mid
-    → new ≡ cond (is_among s row j && nat_lt i (side_places s * (x + 1))) taken old
+    → mid ≡ cond (is_place_of_row s row j && nat_lt i (side_places s * x)) taken old
+    → new ≡ cond (is_place_of_row s row j && is_place_of_row s x i) taken mid
+    → new ≡ cond (is_place_of_row s row j && nat_lt i (side_places s * (x + 1))) taken old
 units_more s row x i j taken old mid new before is =
     let next : side_places s * (x + 1) ≡ side_places s * x + side_places s = grind arith in
-    part_more (is_among s row j) (side_places s * x) (side_places s) (side_places s * (x + 1)) i taken old mid new next
+    part_more (is_place_of_row s row j) (side_places s * x) (side_places s) (side_places s * (x + 1)) i taken old mid
+    new next
     before is
 
 -- all units
 pub units_all : {M : Type 0} (s : FlightSizes) (row i j n : ℕ) (taken old new : M) → IsFlight s → n ≡ columns s
-    → i < s.width / 4 → new ≡ cond (is_among s row j && nat_lt i (side_places s * n)) taken old
-    → new ≡ cond (is_among s row j) taken old
+    → i < s.width / 4 → new ≡ cond (is_place_of_row s row j && nat_lt i (side_places s * n)) taken old
+    → new ≡ cond (is_place_of_row s row j) taken old
 units_all s row i j n taken old new is all inside laid =
     let end : i < side_places s * n =
     subst (λ (m : ℕ). i < side_places s * m) (sym all) (column_before_end s i is inside) in
-    part_all (is_among s row j) i (side_places s * n) taken old new end laid
+    part_all (is_place_of_row s row j) i (side_places s * n) taken old new end laid
 
 -- one more row of a picture: of its places, and of the lines of a component
 pub places_more : {M : Type 0} (s : FlightSizes) (row j : ℕ) (taken mid new : M)
     → (j < side_places s * row → mid ≡ taken)
-    → new ≡ cond (is_among s row j) taken mid
+    → new ≡ cond (is_place_of_row s row j) taken mid
     → j < side_places s * (row + 1) → new ≡ taken
 places_more s row j taken mid new before is below =
     let next : side_places s * (row + 1) ≡ side_places s * row + side_places s = grind arith in
     elim (cases_lt j (side_places s * row)) [
       | inl low ↦
-          let out : is_among s row j ≡ false = grind (arith, nat_tests) in
-          is ∙ (cond_no (is_among s row j) taken mid out ∙ before low)
+          let out : is_place_of_row s row j ≡ false = grind (arith, nat_tests) in
+          is ∙ (cond_no (is_place_of_row s row j) taken mid out ∙ before low)
       | inr past ↦
           let less : j < side_places s * row + side_places s = omega (arith, next, below) in
-          let here : is_among s row j ≡ true = grind (arith, nat_tests) in
-          is ∙ cond_yes (is_among s row j) taken mid here
+          let here : is_place_of_row s row j ≡ true = grind (arith, nat_tests) in
+          is ∙ cond_yes (is_place_of_row s row j) taken mid here
     ]
 
 pub lines_more : {M : Type 0} (s : FlightSizes) (c row y : ℕ) (taken mid new : M)
     → (y < first_line s c row → mid ≡ taken)
-    → new ≡ cond (is_in_row s c row y) taken mid
+    → new ≡ cond (is_line_of_row s c row y) taken mid
     → y < first_line s c (row + 1) → new ≡ taken
 lines_more s c row y taken mid new before is below =
     elim (cases_lt y (first_line s c row)) [
       | inl low ↦
-          let out : is_in_row s c row y ≡ false = grind (arith, nat_tests) in
-          is ∙ (cond_no (is_in_row s c row y) taken mid out ∙ before low)
+          let out : is_line_of_row s c row y ≡ false = grind (arith, nat_tests) in
+          is ∙ (cond_no (is_line_of_row s c row y) taken mid out ∙ before low)
       | inr past ↦
-          let here : is_in_row s c row y ≡ true = grind (arith, nat_tests) in
-          is ∙ cond_yes (is_in_row s c row y) taken mid here
+          let here : is_line_of_row s c row y ≡ true = grind (arith, nat_tests) in
+          is ∙ cond_yes (is_line_of_row s c row y) taken mid here
     ]
 
 -- the sides of a component's plane

@@ -8,13 +8,13 @@ use Rattle.sample_words.specs.Sizes.{ctb_size}
 abbrev pub first_line : FlightSizes → ℕ → ℕ → ℕ
 first_line s c row = component_side c (row * ctb_size s)
 
-abbrev pub is_in_row : FlightSizes → ℕ → ℕ → ℕ → Bool
-is_in_row s c row y = nat_le (first_line s c row) y && nat_lt y (first_line s c (row + 1))
+abbrev pub is_line_of_row : FlightSizes → ℕ → ℕ → ℕ → Bool
+is_line_of_row s c row y = nat_le (first_line s c row) y && nat_lt y (first_line s c (row + 1))
 
 -- how many places a coding tree unit has across and down, where the picture has all of them
 abbrev pub side_places : FlightSizes → ℕ
 side_places s = ctb_size s / 4
 
 -- whether a row of places is one of a row of coding tree units; the same of columns
-abbrev pub is_among : FlightSizes → ℕ → ℕ → Bool
-is_among s k place = nat_le (side_places s * k) place && nat_lt place (side_places s * k + side_places s)
+abbrev pub is_place_of_row : FlightSizes → ℕ → ℕ → Bool
+is_place_of_row s k place = nat_le (side_places s * k) place && nat_lt place (side_places s * k + side_places s)

@@ -14,7 +14,7 @@ ghost use Rattle.flight_facts.specs.Boards.{flight_meaning};
 ghost use Rattle.flight_facts.specs.Facts.{flight_in};
 ghost use Rattle.flight_facts.specs.Flights.{IsOfFlight};
 ghost use Rattle.taken_pictures.specs.Places.{ArePlaceWords, IsPlaceRow, IsTreeUnit};
-ghost use Rattle.taken_pictures.specs.Rows.{is_among};
+ghost use Rattle.taken_pictures.specs.Rows.{is_place_of_row};
 
 use crate::kept_places::SegmentMotion;
 use crate::laws::words_tell_the_motion_of_their_places;
@@ -51,7 +51,7 @@ pub fn take_row_motion(
     ensures sides { HasPlaces field.new (layout.now.width / 4) (layout.now.height / 4) }
     ensures places { (i j : ℕ) → i < layout.now.width / 4 → j < layout.now.height / 4
         → motions_of field.new i j
-        ≡ (if is_among layout.now line.row j
+        ≡ (if is_place_of_row layout.now line.row j
         then (folded_at (flight_in board.now.flight) line.picture).motions i j
         else motions_of field.old i j) }
     ensures same { Knows pass.old pass.new (view pass.old) }
@@ -80,7 +80,7 @@ fn take_unit(
     ensures sides { HasPlaces field.new (layout.now.width / 4) (layout.now.height / 4) }
     ensures places { (i j : ℕ) → i < layout.now.width / 4 → j < layout.now.height / 4
         → motions_of field.new i j
-        ≡ (if is_among layout.now at.now.line.row j && is_among layout.now at.now.unit i
+        ≡ (if is_place_of_row layout.now at.now.line.row j && is_place_of_row layout.now at.now.unit i
         then (folded_at (flight_in board.now.flight) at.now.line.picture).motions i j
         else motions_of field.old i j) }
     ensures same { Knows pass.old pass.new (view pass.old) }

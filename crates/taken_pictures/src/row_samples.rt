@@ -9,7 +9,7 @@ ghost use Rattle.progress_words.specs.Views.{seen_of};
 ghost use Rattle.line_words.specs.Places.{number_at};
 ghost use Rattle.flight_facts.specs.Facts.{flight_in};
 ghost use Rattle.flight_facts.specs.Flights.{IsOfFlight, samples_at};
-ghost use Rattle.taken_pictures.specs.Rows.{is_in_row};
+ghost use Rattle.taken_pictures.specs.Rows.{is_line_of_row};
 
 use flight_facts::FlightFacts;
 use line_words::UnitPlace;
@@ -37,7 +37,7 @@ pub fn take_row_samples(
     ensures samples { (c x y : ℕ) → c < 3 → x < component_side c layout.now.width
         → y < component_side c layout.now.height
         → samples_of planes.new c x y
-        ≡ (if is_in_row layout.now c at.now.line.row y
+        ≡ (if is_line_of_row layout.now c at.now.line.row y
         then samples_at (flight_in board.now.flight) at.now.line.picture S c x y
         else samples_of planes.old c x y) }
     ensures same { Knows pass.old pass.new (view pass.old) }
@@ -66,7 +66,7 @@ fn take_component(
     ensures sides { HasSides planes.new layout.now.width layout.now.height }
     ensures value { (x y : ℕ) → x < component_side c layout.now.width → y < component_side c layout.now.height
         → samples_of planes.new c x y
-        ≡ (if is_in_row layout.now c at.now.line.row y
+        ≡ (if is_line_of_row layout.now c at.now.line.row y
         then samples_at (flight_in board.now.flight) at.now.line.picture S c x y
         else samples_of planes.old c x y) }
     ensures others { (i x y : ℕ) → (i == c) ≡ false → samples_of planes.new i x y ≡ samples_of planes.old i x y }
@@ -95,7 +95,7 @@ fn lay_component(
     ensures count { length plane.new ≡ length plane.old }
     ensures value { (x y : ℕ) → x < component_side c layout.now.width → y < component_side c layout.now.height
         → slice_index plane.new (component_side c layout.now.width * y + x)
-        ≡ (if is_in_row layout.now c at.now.line.row y
+        ≡ (if is_line_of_row layout.now c at.now.line.row y
         then samples_at (flight_in board.now.flight) at.now.line.picture S c x y
         else slice_index plane.old (component_side c layout.now.width * y + x)) }
     ensures same { Knows pass.old pass.new (view pass.old) }

@@ -14,7 +14,7 @@ ghost use Rattle.line_words.specs.Passes.{AreAllSound};
 ghost use Rattle.flight_facts.specs.Boards.{flight_meaning};
 ghost use Rattle.flight_facts.specs.Facts.{flight_in};
 ghost use Rattle.flight_facts.specs.Flights.{IsOfFlight};
-ghost use Rattle.taken_pictures.specs.Pictures.{SeesMore, IsPictureSeen, IsRowSeen};
+ghost use Rattle.taken_pictures.specs.Pictures.{HasSeenMore, IsPictureSeen, IsBuiltAndFinal};
 
 use crate::picture_lines::{built_line, final_line};
 use flight_facts::FlightFacts;
@@ -44,7 +44,7 @@ pub fn see_picture<R: Wait, G: Gate>(
         → (unit_in (view pass.new).least < unit_number layout.now (line_of S picture (rows layout.now - 1)) 0)
         × IsFault (flight_meaning (flight_in board.now.flight)) (view pass.new).least }
     ensures own { IsPassOf board.now pass.new }
-    ensures kept { SeesMore (view pass.old) (view pass.new) }
+    ensures kept { HasSeenMore (view pass.old) (view pass.new) }
     ensures known { AreAllSound (flight_meaning (flight_in board.now.flight)) (view pass.new) }
 {
     let rows = layout.rows() as u32;
@@ -75,11 +75,11 @@ fn see_row<R: Wait, G: Gate>(
     requires picture { picture < layout.now.pictures }
     requires row { row < rows layout.now }
     requires known { AreAllSound (flight_meaning (flight_in board.now.flight)) (view pass.old) }
-    ensures ready { result ≡ Ready → IsRowSeen layout.now (view pass.new) picture row }
+    ensures ready { result ≡ Ready → IsBuiltAndFinal layout.now (view pass.new) picture row }
     ensures stopped { result ≡ Stopped → (unit_in (view pass.new).least < unit)
         × IsFault (flight_meaning (flight_in board.now.flight)) (view pass.new).least }
     ensures own { IsPassOf board.now pass.new }
-    ensures kept { SeesMore (view pass.old) (view pass.new) }
+    ensures kept { HasSeenMore (view pass.old) (view pass.new) }
     ensures known { AreAllSound (flight_meaning (flight_in board.now.flight)) (view pass.new) }
 {
     let columns = layout.columns();
@@ -112,7 +112,7 @@ fn see_line<R: Wait, G: Gate>(
     ensures stopped { result ≡ Stopped → (unit_in (view pass.new).least < unit)
         × IsFault (flight_meaning (flight_in board.now.flight)) (view pass.new).least }
     ensures own { IsPassOf board.now pass.new }
-    ensures kept { SeesMore (view pass.old) (view pass.new) }
+    ensures kept { HasSeenMore (view pass.old) (view pass.new) }
     ensures known { AreAllSound (flight_meaning (flight_in board.now.flight)) (view pass.new) }
 {
     let number = line_number(layout, line);

@@ -1,8 +1,8 @@
-use Rattle.std.proofs.Common.{◌∙◌, arith, ap}
+use Rattle.std.proofs.Common.{arith}
 use Rattle.progress_words.specs.Passes.{view}
 use Rattle.line_words.specs.Places.{number_at}
 use Rattle.filtered_rows.proofs.Counted.{unit_ended, unit_known, unit_more}
-use Rattle.filtered_rows.proofs.Views.{holds_still, none_still, own_counted, written_still}
+use Rattle.filtered_rows.proofs.Views.{holds_still, own_counted, parts_counted, parts_still, written_still}
 use Rattle.filtered_rows.proofs.rows.filter_row.Goals as goal
 
 pub filter_ready_row-requires-clause-holds : goal.filter_ready_row-requires-clause-holds
@@ -40,11 +40,11 @@ returns-in-Ready-clause-ended g c =
     c.wait_for_row.ensures.waited)
     (view c.filter_ready_row.new.pass) c.filter_ready_row.ensures.counted.1
 
-pub returns-in-Ready-clause-none : goal.returns-in-Ready-clause-none
-returns-in-Ready-clause-none g c =
-    ap (λ v. v.none) c.filter_ready_row.ensures.counted.1
-    ∙ none_still (view c.args.pass.now) (view c.wait_for_row.new.pass) (number_at c.args.at.now)
-    c.wait_for_row.ensures.waited
+pub returns-in-Ready-clause-parts : goal.returns-in-Ready-clause-parts
+returns-in-Ready-clause-parts g c =
+    parts_counted (view c.args.pass.now) (view c.wait_for_row.new.pass) (view c.filter_ready_row.new.pass)
+    (number_at c.args.at.now) (number_at c.args.at.now) 1 c.wait_for_row.ensures.waited
+    c.filter_ready_row.ensures.counted.1
 
 pub returns-in-Ready-clause-more : goal.returns-in-Ready-clause-more
 returns-in-Ready-clause-more g c = λ l.
@@ -60,9 +60,9 @@ returns-in-Ready-clause-more g c = λ l.
 pub returns-in-Stopped-clause-ended : goal.returns-in-Stopped-clause-ended
 returns-in-Stopped-clause-ended g c = c.wait_for_row.ensures.ended c.in-Stopped.is c.requires.holds
 
-pub returns-in-Stopped-clause-none : goal.returns-in-Stopped-clause-none
-returns-in-Stopped-clause-none g c =
-    none_still (view c.args.pass.now) (view c.wait_for_row.new.pass) (number_at c.args.at.now)
+pub returns-in-Stopped-clause-parts : goal.returns-in-Stopped-clause-parts
+returns-in-Stopped-clause-parts g c =
+    parts_still (view c.args.pass.now) (view c.wait_for_row.new.pass) (number_at c.args.at.now)
     c.wait_for_row.ensures.waited
 
 pub returns-in-Stopped-clause-more : goal.returns-in-Stopped-clause-more

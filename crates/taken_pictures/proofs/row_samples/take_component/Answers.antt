@@ -4,7 +4,7 @@ use Rattle.picture_buffer.specs.Planes.{plane_samples}
 use Rattle.picture_buffer.proofs.Lent.{others_stay}
 use Rattle.flight_facts.specs.Facts.{flight_in}
 use Rattle.flight_facts.specs.Flights.{samples_at}
-use Rattle.taken_pictures.specs.Rows.{is_in_row}
+use Rattle.taken_pictures.specs.Rows.{is_line_of_row}
 use Rattle.taken_pictures.proofs.Taken.{given_at, plane_high, plane_wide, stood_at}
 use Rattle.taken_pictures.proofs.row_samples.take_component.Goals as goal
 
@@ -27,7 +27,7 @@ returns-clause-value c = λ x y column line.
     let same : length c.lay_component.new.plane ≡ length (plane_samples p n) = search rules in
     given_at p s n c.lay_component.new.plane few sides same x y column line
     ∙ (c.lay_component.ensures.value x y column line
-    ∙ ap (cond (is_in_row s n c.args.at.now.line.row y)
+    ∙ ap (cond (is_line_of_row s n c.args.at.now.line.row y)
     (samples_at (flight_in c.args.board.now.flight) c.args.at.now.line.picture S n x y))
     (stood_at p s n c.samples_mut-plane.result.now few sides c.samples_mut-plane.ensures.value x y column line))
 

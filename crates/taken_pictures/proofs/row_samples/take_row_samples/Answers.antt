@@ -6,7 +6,7 @@ use Rattle.line_words.specs.Places.{number_at}
 use Rattle.line_words.proofs.Words.{knows_as_much}
 use Rattle.flight_facts.specs.Facts.{flight_in}
 use Rattle.flight_facts.specs.Flights.{samples_at}
-use Rattle.taken_pictures.specs.Rows.{is_in_row}
+use Rattle.taken_pictures.specs.Rows.{is_line_of_row}
 use Rattle.taken_pictures.proofs.Passes.{stays_own, stays_seen}
 use Rattle.taken_pictures.proofs.Taken.{components_all}
 use Rattle.taken_pictures.proofs.Tests.{component_more}
@@ -34,13 +34,13 @@ loop-c-preserved c =
           c.take_component.ensures.same;
       sides = c.take_component.ensures.sides;
       samples = λ k x y few column line.
-          component_more (is_in_row s k l.row y) c.loop-c.c k (samples_at f l.picture S k x y)
+          component_more (is_line_of_row s k l.row y) c.loop-c.c k (samples_at f l.picture S k x y)
           (samples_of c.args.planes.now k x y) (samples_of mid k x y) (samples_of new k x y)
           (i.samples k x y few column line)
           (λ same. subst
           (λ (n : ℕ). x < component_side n s.width → y < component_side n s.height
           → samples_of new n x y
-          ≡ cond (is_in_row s n l.row y) (samples_at f l.picture S n x y) (samples_of mid n x y))
+          ≡ cond (is_line_of_row s n l.row y) (samples_at f l.picture S n x y) (samples_of mid n x y))
           (sym same) (c.take_component.ensures.value x y) column line)
           (c.take_component.ensures.others k x y);
     }
@@ -49,7 +49,7 @@ pub returns-clause-samples : goal.returns-clause-samples
 returns-clause-samples c = λ k x y few column line.
     let s = c.args.layout.now in
     let l = c.args.at.now.line in
-    components_all k c.loop-c.c (is_in_row s k l.row y)
+    components_all k c.loop-c.c (is_line_of_row s k l.row y)
     (samples_at (flight_in c.args.board.now.flight) l.picture S k x y)
     (samples_of c.args.planes.now k x y) (samples_of c.loop-c.planes k x y)
     (let test = c.loop-c-test.false in omega (arith, test, few)) (c.loop-c.invariant.samples k x y few column line)
