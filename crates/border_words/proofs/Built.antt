@@ -12,9 +12,9 @@ use Rattle.sample_words.specs.declared.sizes.FlightSizes.{FlightSizes}
 use Rattle.spec_flights.specs.Phases.{phase_samples}
 use Rattle.spec_flights.specs.Pictures.{folded_at}
 use Rattle.spec_flights.specs.Words.{flight_sizes}
-use Rattle.flight_facts.specs.declared.flight_facts.FlightFacts.{FlightFacts}
-use Rattle.flight_facts.specs.Facts.{flight_in}
-use Rattle.flight_facts.specs.Flights.{samples_at, samples_of}
+use Rattle.sample_lines.specs.FactsOfFlights.{FlightFacts}
+use Rattle.sample_lines.specs.FactsOfFlights.{flight_in}
+use Rattle.sample_lines.specs.FactsOfFlights.{samples_at, samples_of}
 use Rattle.line_words.specs.Places.{UnitAt}
 use Rattle.border_words.specs.Units.{IsTreeUnit}
 use Rattle.border_words.proofs.Lines.{left_is, lowest_is}

@@ -18,8 +18,8 @@ use Rattle.spec_flights.specs.Words.{flight_sizes}
 use Rattle.row_borders.specs.Next.{HasLine, LaysSamples}
 use Rattle.row_borders.specs.Strips.{StripPlaces}
 use Rattle.row_borders.proofs.Laid.{line_grows}
-use Rattle.flight_facts.specs.declared.flight_facts.FlightFacts.{FlightFacts}
-use Rattle.flight_facts.specs.Facts.{flight_in}
+use Rattle.sample_lines.specs.FactsOfFlights.{FlightFacts}
+use Rattle.sample_lines.specs.FactsOfFlights.{flight_in}
 use Rattle.line_words.specs.Places.{UnitAt}
 use Rattle.sample_lines.specs.Lines.{sample_of}
 use Rattle.border_words.specs.Units.{IsTreeUnit}

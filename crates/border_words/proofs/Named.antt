@@ -4,7 +4,7 @@ use Rattle.std.specs.Option.{option_map}
 use Rattle.std.proofs.lemmas.Option.{slice_get-map}
 use Rattle.plan_types.specs.declared.picture_plan.PicturePlan.{PicturePlan}
 use Rattle.picture_buffer.specs.Pictures.{HeldPicture}
-use Rattle.picture_build.specs.Pictures.{buffer_of, decoded_of}
+use Rattle.sample_lines.specs.FactsOfFlights.{buffer_of, decoded_of}
 use Rattle.spec_picture_build.specs.References.{DecodedPicture, motions_in}
 use Rattle.spec_picture_motion.specs.Field.{Motions, no_motions}
 use Rattle.spec_decoded_pictures.specs.Decoded.{decoded_by}
@@ -14,7 +14,7 @@ use Rattle.flight_plan.specs.declared.row_range.Reference.TheVariants.{Base, Fli
 use Rattle.spec_flights.specs.Pictures.{PlannedFlight, buffer_before, folded_at, folded_in, known_decoded}
 use Rattle.spec_flights.specs.Pictures.{pictures_before}
 use Rattle.spec_flights.specs.References.{names_before, picture_named}
-use Rattle.flight_facts.specs.Boards.{as_base}
+use Rattle.sample_lines.specs.FactsOfFlights.{as_base}
 use Rattle.border_words.specs.Beneath.{base_motions, flight_motions, named_motions}
 
 -- an option of an option

@@ -19,8 +19,8 @@ use Rattle.spec_flights.specs.Rows.{is_sound, is_sound_in, is_sound_of}
 use Rattle.spec_flights.specs.Words.{flight_sizes, modes_at, values_in}
 use Rattle.flight_value_laws.specs.Motion.{kept_in, kept_motion, motion_where}
 use Rattle.flight_value_laws.proofs.Rows.{in_picture}
-use Rattle.flight_facts.specs.declared.flight_facts.FlightFacts.{FlightFacts}
-use Rattle.flight_facts.specs.Facts.{flight_in}
+use Rattle.sample_lines.specs.FactsOfFlights.{FlightFacts}
+use Rattle.sample_lines.specs.FactsOfFlights.{flight_in}
 use Rattle.line_words.specs.Places.{UnitAt}
 use Rattle.border_words.specs.Kept.{AreOfPlace, motion_in_segment, pointing_in}
 use Rattle.border_words.specs.Units.{IsTreeUnit, address_at, column_at, row_at}

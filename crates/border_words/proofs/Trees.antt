@@ -16,9 +16,9 @@ use Rattle.progress_words.specs.declared.view.View.{View}
 use Rattle.progress_words.specs.Views.{seen_of}
 use Rattle.row_borders.specs.Borders.{Bordering}
 use Rattle.line_words.specs.Places.{UnitAt, number_at}
-use Rattle.flight_facts.specs.declared.flight_facts.FlightFacts.{FlightFacts}
-use Rattle.flight_facts.specs.Facts.{flight_in}
-use Rattle.flight_facts.specs.Flights.{IsOfFlight}
+use Rattle.sample_lines.specs.FactsOfFlights.{FlightFacts}
+use Rattle.sample_lines.specs.FactsOfFlights.{flight_in}
+use Rattle.sample_lines.specs.FactsOfFlights.{IsOfFlight}
 use Rattle.border_words.specs.declared.unit_blocks.UnitBlocks.{UnitBlocks}
 use Rattle.border_words.specs.Beneath.{HasColumn, IsUnitBlocks, motion_in_unit}
 use Rattle.border_words.specs.Units.{IsTreeUnit, column_at, row_at}

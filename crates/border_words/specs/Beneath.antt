@@ -4,7 +4,7 @@ use Rattle.plan_types.specs.declared.picture_plan.PicturePlan.{PicturePlan}
 use Rattle.picture_buffer.specs.declared.place_motion.PlaceMotion.{PlaceMotion}
 use Rattle.picture_buffer.specs.Motion.{motions_of}
 use Rattle.picture_buffer.specs.Pictures.{HeldPicture}
-use Rattle.picture_build.specs.Pictures.{buffer_of}
+use Rattle.sample_lines.specs.FactsOfFlights.{buffer_of}
 use Rattle.spec_picture_motion.specs.Field.{Motions, no_motions}
 use Rattle.spec_picture_trees.specs.Shapes.{picture_shape}
 use Rattle.spec_flights.specs.Pictures.{PlannedFlight, folded_at}
@@ -12,8 +12,8 @@ use Rattle.flight_plan.specs.declared.row_range.Reference.{Reference}
 use Rattle.flight_plan.specs.declared.row_range.Reference.TheVariants.{Base, Flight}
 use Rattle.spec_flights.specs.References.{names_before}
 use Rattle.row_borders.specs.Borders.{Bordering, block_beneath}
-use Rattle.flight_facts.specs.declared.flight_facts.FlightFacts.{FlightFacts}
-use Rattle.flight_facts.specs.Facts.{flight_in}
+use Rattle.sample_lines.specs.FactsOfFlights.{FlightFacts}
+use Rattle.sample_lines.specs.FactsOfFlights.{flight_in}
 use Rattle.border_words.specs.Units.{ArePlaceWords, IsTreeUnit, address_at, column_at, row_at}
 use Rattle.border_words.specs.declared.unit_blocks.UnitBlocks.{UnitBlocks}
 use Rattle.border_words.specs.declared.reference_pictures.ReferencePictures.{ReferencePictures}

@@ -2,8 +2,8 @@
 
 ghost use Rattle.std.specs.Prelude.{◌≡◌, ◌+◌, ◌*◌, ◌<◌, Some, true, slice_get};
 ghost use Rattle.border_words.specs.Units.{IsAboveOf};
-ghost use Rattle.flight_facts.specs.Facts.{flight_in};
-ghost use Rattle.flight_facts.specs.Flights.{IsOfFlight};
+ghost use Rattle.sample_lines.specs.FactsOfFlights.{flight_in};
+ghost use Rattle.sample_lines.specs.FactsOfFlights.{IsOfFlight};
 ghost use Rattle.header_types.specs.SequenceParameterSets.{height_in_ctbs};
 ghost use Rattle.hv_base.specs.declared.line.Phase.TheVariants.{B};
 ghost use Rattle.line_words.specs.Places.{number_at};
@@ -19,11 +19,11 @@ ghost use Rattle.spec_picture_trees.specs.Shapes.{picture_shape};
 use crate::lowest_lines::lay_lines_above;
 use crate::places_above::lay_places_above;
 use crate::unit_above::UnitAbove;
-use flight_facts::FlightFacts;
 use line_words::UnitPlace;
 use plan_types::PicturePlan;
 use progress_words::{Board, Pass};
 use row_borders::RowBorder;
+use sample_lines::FlightFacts;
 use sample_words::Layout;
 
 /// Lays what stands above the unit below another one, out of the words of that one, which the pass has seen counted:

@@ -4,8 +4,8 @@ ghost use Rattle.std.specs.Prelude.{◌≡◌, ℕ, ◌<◌, ◌≤◌, Some, sl
 ghost use Rattle.std.specs.Option.{option_copied};
 ghost use Rattle.border_words.specs.Beneath.{AreReferences, base_motions, flight_motions, named_motions};
 ghost use Rattle.board_core.specs.Places.{line_of};
-ghost use Rattle.flight_facts.specs.Facts.{flight_in};
-ghost use Rattle.flight_facts.specs.Flights.{IsOfFlight};
+ghost use Rattle.sample_lines.specs.FactsOfFlights.{flight_in};
+ghost use Rattle.sample_lines.specs.FactsOfFlights.{IsOfFlight};
 ghost use Rattle.flight_plan.specs.declared.row_range.Reference.TheVariants.{Flight};
 ghost use Rattle.header_types.specs.SequenceParameterSets.{size_in_ctbs};
 ghost use Rattle.hv_base.specs.declared.line.Phase.TheVariants.{B};
@@ -27,9 +27,7 @@ ghost use Rattle.spec_slice_data.specs.Segment.{row_of};
 use crate::field_blocks::lay_field;
 use crate::picture_blocks::lay_picture;
 use crate::reference_pictures::ReferencePictures;
-use flight_facts::FlightFacts;
 use flight_plan::Reference;
-use flight_unit_laws::names_stand_for_the_pictures_of_the_buffer;
 use hv_base::{Line, Phase};
 use picture_buffer::Bases;
 use picture_layout::slice_of;
@@ -37,6 +35,7 @@ use picture_motion::collocated_entry;
 use plan_types::{PicturePlan, SegmentPlan};
 use progress_words::{Board, Pass};
 use row_borders::RowBorder;
+use sample_lines::{FlightFacts, names_stand_for_the_pictures_of_the_buffer};
 use sample_words::Layout;
 use unit_build::Beside;
 

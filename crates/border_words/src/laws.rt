@@ -3,9 +3,9 @@
 ghost use Rattle.std.specs.Prelude.{◌≡◌, ℕ, ◌+◌, ◌*◌, ◌/◌, ◌<◌, ◌≤◌, None, Some, slice_get};
 ghost use Rattle.border_words.specs.Kept.{AreOfPlace};
 ghost use Rattle.border_words.specs.Units.{IsTreeUnit, address_at, column_at, row_at, word_in};
-ghost use Rattle.flight_facts.specs.declared.flight_facts.FlightFacts.{FlightFacts};
-ghost use Rattle.flight_facts.specs.Facts.{flight_in};
-ghost use Rattle.flight_facts.specs.Flights.{IsOfFlight};
+ghost use Rattle.sample_lines.specs.FactsOfFlights.{FlightFacts};
+ghost use Rattle.sample_lines.specs.FactsOfFlights.{flight_in};
+ghost use Rattle.sample_lines.specs.FactsOfFlights.{IsOfFlight};
 ghost use Rattle.header_types.specs.SequenceParameterSets.{height_in_ctbs};
 ghost use Rattle.line_words.specs.Places.{UnitAt};
 ghost use Rattle.plan_types.specs.declared.picture_plan.PicturePlan.{PicturePlan};
@@ -17,9 +17,9 @@ ghost use Rattle.spec_flights.specs.Pictures.{folded_at};
 ghost use Rattle.spec_picture_trees.specs.Places.{unit_places};
 ghost use Rattle.spec_picture_trees.specs.Shapes.{picture_shape};
 
-use flight_facts::pictures_have_the_sizes_of_their_flight;
 use flight_value_laws::references_come_back;
 use row_above_laws::{expected_words_are_of_their_places, words_above_are_of_their_units};
+use sample_lines::pictures_have_the_sizes_of_their_flight;
 
 /// The two words that a flight expects of a place of a sound coding tree unit are those of a place of which its picture
 /// keeps what the picture's units make of it (`place`). A unit has as many places across as the picture has there

@@ -2,8 +2,8 @@
 
 ghost use Rattle.std.specs.Prelude.{◌≡◌, ◌≢◌, ℕ, ◌+◌, ◌*◌, ◌<◌, ◌≤◌, length, slice_index, take};
 ghost use Rattle.border_words.specs.Units.{IsTreeUnit};
-ghost use Rattle.flight_facts.specs.Facts.{flight_in};
-ghost use Rattle.flight_facts.specs.Flights.{IsOfFlight};
+ghost use Rattle.sample_lines.specs.FactsOfFlights.{flight_in};
+ghost use Rattle.sample_lines.specs.FactsOfFlights.{IsOfFlight};
 ghost use Rattle.header_types.specs.SequenceParameterSets.{height_in_ctbs};
 ghost use Rattle.line_words.specs.Places.{number_at};
 ghost use Rattle.progress_words.specs.Passes.{IsPassOf, Knows, view};
@@ -20,12 +20,11 @@ ghost use Rattle.spec_picture_trees.specs.Shapes.{picture_shape};
 ghost use Rattle.spec_slice_data.specs.Residual.{samples_of_place};
 
 use crate::laws::words_are_of_kept_places;
-use flight_facts::FlightFacts;
 use line_words::UnitPlace;
 use plan_types::PicturePlan;
 use progress_words::{Board, Pass};
 use row_borders::RowBorder;
-use sample_lines::read_samples;
+use sample_lines::{FlightFacts, read_samples};
 use sample_words::Layout;
 
 /// Lays the lowest line of samples of each component of a unit above the row below it.

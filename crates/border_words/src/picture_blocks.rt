@@ -2,8 +2,8 @@
 
 ghost use Rattle.std.specs.Prelude.{◌≡◌, ◌≢◌, ℕ, ◌+◌, ◌*◌, ◌<◌, ◌≤◌, None, Some, slice_get, true};
 ghost use Rattle.border_words.specs.Beneath.{HasColumn, IsUnitBlocks, motion_in_unit};
-ghost use Rattle.flight_facts.specs.Facts.{flight_in};
-ghost use Rattle.flight_facts.specs.Flights.{IsOfFlight};
+ghost use Rattle.sample_lines.specs.FactsOfFlights.{flight_in};
+ghost use Rattle.sample_lines.specs.FactsOfFlights.{IsOfFlight};
 ghost use Rattle.hv_base.specs.declared.line.Phase.TheVariants.{B};
 ghost use Rattle.line_words.specs.Places.{number_at};
 ghost use Rattle.progress_words.specs.Passes.{IsPassOf, Knows, view};
@@ -22,12 +22,12 @@ use crate::kept_places::SegmentMotion;
 use crate::laws::places_outside_have_no_motion;
 use crate::reading::read_segment;
 use crate::unit_blocks::{UnitBlocks, lay_block_column, lay_unit_blocks};
-use flight_facts::FlightFacts;
 use hv_base::Line;
 use line_words::UnitPlace;
 use plan_types::PicturePlan;
 use progress_words::{Board, Pass};
 use row_borders::RowBorder;
+use sample_lines::FlightFacts;
 use sample_words::Layout;
 use unit_build::Beside;
 

@@ -2,8 +2,8 @@
 
 ghost use Rattle.std.specs.Prelude.{◌≡◌, ℕ, ◌+◌, ◌-◌, ◌*◌, ◌<◌, length, slice_index};
 ghost use Rattle.border_words.specs.Units.{ArePlaceWords, IsAboveOf, IsTreeUnit, address_at, word_in};
-ghost use Rattle.flight_facts.specs.Facts.{flight_in};
-ghost use Rattle.flight_facts.specs.Flights.{IsOfFlight};
+ghost use Rattle.sample_lines.specs.FactsOfFlights.{flight_in};
+ghost use Rattle.sample_lines.specs.FactsOfFlights.{IsOfFlight};
 ghost use Rattle.header_types.specs.SequenceParameterSets.{height_in_ctbs};
 ghost use Rattle.hv_base.specs.declared.line.Phase.TheVariants.{B};
 ghost use Rattle.line_words.specs.Places.{number_at};
@@ -23,11 +23,11 @@ use crate::place_words::PlaceWords;
 use crate::reading::{read_modes, read_offsets, read_vectors};
 use crate::tree_units::unit_of;
 use crate::unit_above::UnitAbove;
-use flight_facts::FlightFacts;
 use line_words::UnitPlace;
 use plan_types::PicturePlan;
 use progress_words::{Board, Pass};
 use row_borders::RowBorder;
+use sample_lines::FlightFacts;
 use sample_words::Layout;
 use unit_build::Beside;
 

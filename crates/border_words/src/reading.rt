@@ -2,8 +2,8 @@
 
 ghost use Rattle.std.specs.Prelude.{◌≡◌, ℕ, ◌+◌, ◌*◌, ◌<◌, ◌≤◌, length, slice_index};
 ghost use Rattle.border_words.specs.Units.{ArePlaceWords, word_in};
-ghost use Rattle.flight_facts.specs.Facts.{flight_in};
-ghost use Rattle.flight_facts.specs.Flights.{IsOfFlight};
+ghost use Rattle.sample_lines.specs.FactsOfFlights.{flight_in};
+ghost use Rattle.sample_lines.specs.FactsOfFlights.{IsOfFlight};
 ghost use Rattle.hv_base.specs.declared.line.Phase.TheVariants.{B};
 ghost use Rattle.line_words.specs.Places.{number_at, word_at, words_at};
 ghost use Rattle.progress_words.specs.Passes.{IsPassOf, Knows, view};
@@ -12,9 +12,9 @@ ghost use Rattle.sample_words.specs.declared.unit_content.UnitContent.TheVariant
 ghost use Rattle.spec_flights.specs.Words.{expected};
 
 use crate::place_words::PlaceWords;
-use flight_facts::{FlightFacts, pictures_have_the_sizes_of_their_flight};
 use line_words::{UnitPlace, read_run};
 use progress_words::{Board, Pass};
+use sample_lines::{FlightFacts, pictures_have_the_sizes_of_their_flight};
 use sample_words::unpack_modes;
 
 /// Words of a unit that the pass has seen counted, from one of them on: they are those that the flight expects.

@@ -4,7 +4,7 @@ ghost use Rattle.std.specs.Prelude.{◌≡◌, ◌≢◌, ℕ, ◌*◌, ◌<◌}
 ghost use Rattle.border_words.specs.Beneath.{HasColumn, IsUnitBlocks, motion_in_unit};
 ghost use Rattle.border_words.specs.Kept.{IsOfSegment};
 ghost use Rattle.border_words.specs.Units.{IsTreeUnit};
-ghost use Rattle.flight_facts.specs.declared.flight_facts.FlightFacts.{FlightFacts};
+ghost use Rattle.sample_lines.specs.FactsOfFlights.{FlightFacts};
 ghost use Rattle.hv_base.specs.declared.line.Phase.TheVariants.{B};
 ghost use Rattle.line_words.specs.Places.{number_at};
 ghost use Rattle.progress_words.specs.Passes.{IsPassOf, Knows, view};
@@ -17,13 +17,13 @@ use crate::laws::{places_outside_have_no_motion, words_are_of_kept_places};
 use crate::place_words::PlaceWords;
 use crate::reading::{read_place, read_segment};
 use crate::tree_units::unit_of;
-use flight_facts::FlightFacts;
 use line_words::UnitPlace;
 use picture_buffer::PlaceMotion;
 use picture_layout::{CodingTreeUnit, Layout as PictureLayout};
 use plan_types::PicturePlan;
 use progress_words::{Board, Pass};
 use row_borders::RowBorder;
+use sample_lines::FlightFacts;
 use sample_words::Layout;
 
 /// A unit of a picture of the flight, by its place there and in its picture, and where its words stand.

@@ -1,3 +1,6 @@
-pub mod Pictures
-pub mod Seen
-pub mod Told
+pub mod Stages
+pub mod Above
+pub mod Reading
+pub mod Beginning
+pub mod Motion
+pub mod Filling

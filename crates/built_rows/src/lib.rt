@@ -1,20 +1,17 @@
-//! What rows of coding tree units of pictures of a flight, as jobs over its board, wait for and take from other
-//! rows: the collocated picture's row, the final rows of reference pictures that vectors reach, and what goes on
-//! from the row above (H.265 8.5.3.2.8, 8.5.3.3, 9.3.1, 9.3.2).
+//! Rows of coding tree units of a picture of a flight as jobs over a board: each unit is read, its motion derived, its
+//! samples built, its words written, and it is counted (H.265 6.3.1, 6.4.1, 7.3.8, 8.4, 8.5, 8.6).
 #![tactic(auto)]
 
-mod carried;
-mod collocated;
-mod laws;
-mod picture_view;
-mod reach;
+mod above;
+mod beginning;
+mod filling;
+mod finishing;
+mod reaching;
+mod reading;
+mod row;
+mod row_builder;
 mod slices;
+mod unit_motion;
 
-pub use carried::{read_carry, read_stored};
-pub use collocated::wait_for_collocated;
-pub use laws::{
-    collocated_rows_are_told, items_reach_what_their_flight_tells,
-    seen_reach_meets_the_needs_of_a_unit,
-};
-pub use picture_view::PictureView;
-pub use reach::wait_for_reach;
+pub use row::build_row;
+pub use row_builder::RowBuilder;

@@ -9,9 +9,9 @@ use Rattle.progress_words.specs.Rule.{IsNext}
 use Rattle.progress_words.specs.Views.{counting, seen_of}
 use Rattle.line_words.specs.Passes.{writing_run}
 use Rattle.line_words.specs.Places.{UnitAt, number_at}
-use Rattle.flight_facts.specs.declared.flight_facts.FlightFacts.{FlightFacts}
-use Rattle.flight_facts.specs.Boards.{flight_meaning}
-use Rattle.flight_facts.specs.Facts.{flight_in}
+use Rattle.flight_waits.specs.FactsOfFlights.{FlightFacts}
+use Rattle.flight_waits.specs.FactsOfFlights.{flight_meaning}
+use Rattle.flight_waits.specs.FactsOfFlights.{flight_in}
 use Rattle.done_units.specs.Writing.{HasWritten, IsWriting, written_to}
 
 -- the next unit stays the next one

@@ -14,16 +14,16 @@ use Rattle.progress_words.specs.Core.{AreMet}
 use Rattle.progress_words.specs.Meanings.{Meaning}
 use Rattle.progress_words.specs.Views.{seen_of}
 use Rattle.spec_flights.specs.Rows.{flight_rows, is_sound}
-use Rattle.flight_value_laws.specs.Reading.{AreUsesSound}
+use Rattle.flight_waits.specs.FactsOfFlights.{AreUsesSound}
 use Rattle.flight_lines.specs.Flights.{IsSized, meaning_of}
 use Rattle.flight_lines.specs.Numbers.{numbered_needs}
 use Rattle.flight_lines.proofs.Numbered.{flight_line, number_line, units_are, word_line}
 use Rattle.line_words.specs.Passes.{AreAllSound}
 use Rattle.line_words.specs.Places.{UnitAt}
-use Rattle.flight_facts.specs.declared.flight_facts.FlightFacts.{FlightFacts}
-use Rattle.flight_facts.specs.Boards.{flight_meaning, sizes_in}
-use Rattle.flight_facts.specs.Facts.{flight_in}
-use Rattle.flight_facts.proofs.Laid.{board_sizes}
+use Rattle.flight_waits.specs.FactsOfFlights.{FlightFacts}
+use Rattle.flight_waits.specs.FactsOfFlights.{flight_meaning, sizes_in}
+use Rattle.flight_waits.specs.FactsOfFlights.{flight_in}
+use Rattle.flight_waits.proofs.FactsOfFlights.{board_sizes}
 use Rattle.flight_waits.specs.Waits.{AreSeen}
 use Rattle.done_units.specs.Seen.{HasReached, IsSeenUnit}
 use Rattle.done_units.proofs.Uses.{AreMetBy, IsSeen, read_seen, unit_seen}

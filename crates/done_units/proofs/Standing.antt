@@ -19,10 +19,10 @@ use Rattle.unit_words.proofs.Standing.{words_stand}
 use Rattle.spec_flights.specs.Words.{expected}
 use Rattle.flight_packing_laws.proofs.Packed.{packable, word_is}
 use Rattle.line_words.specs.Places.{UnitAt, word_at, words_at}
-use Rattle.flight_facts.specs.declared.flight_facts.FlightFacts.{FlightFacts}
-use Rattle.flight_facts.specs.Facts.{flight_in}
-use Rattle.flight_facts.specs.Flights.{IsOfFlight}
-use Rattle.flight_facts.proofs.Laid.{board_sizes, picture_sizes}
+use Rattle.flight_waits.specs.FactsOfFlights.{FlightFacts}
+use Rattle.flight_waits.specs.FactsOfFlights.{flight_in}
+use Rattle.flight_waits.specs.FactsOfFlights.{IsOfFlight}
+use Rattle.flight_waits.proofs.FactsOfFlights.{board_sizes, picture_sizes}
 use Rattle.done_units.specs.Done.{HaveWords, IsDoneAt, size_of}
 use Rattle.done_units.proofs.Indices.{carried_index, contexts_index, modes_index, offsets_index, samples_index}
 use Rattle.done_units.proofs.Indices.{vectors_index}

@@ -6,8 +6,8 @@ use Rattle.sample_words.specs.Words.{IsLine, line_number}
 use Rattle.progress_words.specs.declared.view.View.{View}
 use Rattle.progress_words.specs.Views.{seen_of}
 use Rattle.line_words.specs.Places.{IsUnit, UnitAt, number_at}
-use Rattle.flight_facts.specs.declared.flight_facts.FlightFacts.{FlightFacts}
-use Rattle.flight_facts.specs.Flights.{IsOfFlight}
+use Rattle.flight_waits.specs.FactsOfFlights.{FlightFacts}
+use Rattle.flight_waits.specs.FactsOfFlights.{IsOfFlight}
 
 -- it has come to a unit of a flight: it has seen those before it in its line counted, and no more
 pub record HasReached (facts : FlightFacts) (v : View FlightFacts) (u : UnitAt) : Type 0 where

@@ -7,9 +7,9 @@ use Rattle.progress_words.specs.Places.{Place}
 use Rattle.progress_words.specs.Rule.{IsNext}
 use Rattle.progress_words.specs.Views.{seen_of}
 use Rattle.line_words.specs.Places.{UnitAt, number_at}
-use Rattle.flight_facts.specs.declared.flight_facts.FlightFacts.{FlightFacts}
-use Rattle.flight_facts.specs.Boards.{flight_meaning}
-use Rattle.flight_facts.specs.Facts.{flight_in}
+use Rattle.flight_waits.specs.FactsOfFlights.{FlightFacts}
+use Rattle.flight_waits.specs.FactsOfFlights.{flight_meaning}
+use Rattle.flight_waits.specs.FactsOfFlights.{flight_in}
 
 -- a pass of a board is at a unit, which it may count once its words are written, and has written so many of them
 pub record IsWriting (board : Place FlightFacts) (pass : Pass FlightFacts) (u : UnitAt) (n : ℕ) : Type 0 where

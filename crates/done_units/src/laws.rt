@@ -6,11 +6,11 @@ ghost use Rattle.hv_base.specs.declared.line.Phase.TheVariants.{B};
 ghost use Rattle.board_core.specs.Needs.{read_needs, unit_needs};
 ghost use Rattle.board_core.specs.Uses.{ReadingUses, UnitUses};
 ghost use Rattle.spec_flights.specs.Rows.{flight_rows, is_sound};
-ghost use Rattle.flight_value_laws.specs.Reading.{AreUsesSound};
+ghost use Rattle.flight_waits.specs.FactsOfFlights.{AreUsesSound};
 ghost use Rattle.progress_words.specs.declared.view.View.{View};
 ghost use Rattle.line_words.specs.Places.{UnitAt};
-ghost use Rattle.flight_facts.specs.declared.flight_facts.FlightFacts.{FlightFacts};
-ghost use Rattle.flight_facts.specs.Facts.{flight_in};
+ghost use Rattle.flight_waits.specs.FactsOfFlights.{FlightFacts};
+ghost use Rattle.flight_waits.specs.FactsOfFlights.{flight_in};
 ghost use Rattle.flight_waits.specs.Waits.{AreAllKnown, AreSeen};
 ghost use Rattle.done_units.specs.Seen.{HasReached, IsSeenUnit};
 

@@ -1,12 +1,12 @@
 //! Words of a unit behind those that are written.
 
 ghost use Rattle.std.specs.Prelude.{◌≡◌, ◌+◌, ◌≤◌, length};
-ghost use Rattle.flight_facts.specs.Facts.{flight_in};
-ghost use Rattle.flight_facts.specs.Flights.{IsOfFlight};
+ghost use Rattle.flight_waits.specs.FactsOfFlights.{flight_in};
+ghost use Rattle.flight_waits.specs.FactsOfFlights.{IsOfFlight};
 ghost use Rattle.done_units.specs.Done.{HaveWords, IsDoneAt, size_of};
 ghost use Rattle.done_units.specs.Writing.{HasWritten, IsWriting};
 
-use flight_facts::FlightFacts;
+use flight_waits::FlightFacts;
 use line_words::{UnitPlace, write_run};
 use progress_words::{Board, Pass};
 use unit_words::DoneUnit;

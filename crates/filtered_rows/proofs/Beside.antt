@@ -10,7 +10,7 @@ use Rattle.row_filters.specs.Lines.{end_line}
 use Rattle.sample_words.specs.declared.sizes.FlightSizes.{FlightSizes}
 use Rattle.sample_words.specs.Sizes.{IsFlight, rows}
 use Rattle.spec_flights.specs.Pictures.{PlannedFlight}
-use Rattle.flight_facts.specs.Flights.{samples_at}
+use Rattle.sample_lines.specs.FactsOfFlights.{samples_at}
 use Rattle.sample_lines.specs.Lines.{height_at, sample_of, width_at}
 use Rattle.filtered_rows.specs.Components.{HasSidesOf, IsPartOfRow}
 use Rattle.filtered_rows.proofs.Sides.{begins, begins_row, row_unit, size_range, unit_height_is, unit_sample}

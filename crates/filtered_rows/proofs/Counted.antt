@@ -7,10 +7,10 @@ use Rattle.progress_words.specs.declared.view.View.{View}
 use Rattle.progress_words.specs.Rule.{IsNext}
 use Rattle.progress_words.specs.Views.{AllSound, HasEnded, counting, seen_of}
 use Rattle.line_words.specs.Places.{IsUnit, UnitAt, number_at}
-use Rattle.flight_facts.specs.declared.flight_facts.FlightFacts.{FlightFacts}
-use Rattle.flight_facts.specs.Boards.{flight_meaning}
-use Rattle.flight_facts.specs.Facts.{flight_in}
-use Rattle.flight_facts.specs.Flights.{IsOfFlight}
+use Rattle.sample_lines.specs.FactsOfFlights.{FlightFacts}
+use Rattle.sample_lines.specs.FactsOfFlights.{flight_meaning}
+use Rattle.sample_lines.specs.FactsOfFlights.{flight_in}
+use Rattle.sample_lines.specs.FactsOfFlights.{IsOfFlight}
 use Rattle.flight_waits.specs.Waits.{AreAllKnown, HoldsUnit}
 use Rattle.filtered_rows.specs.Phases.{IsReady}
 use Rattle.filtered_rows.proofs.Ready.{row_ended, row_known, row_more, row_next}

@@ -23,9 +23,9 @@ use Rattle.progress_words.specs.Passes.{Knows, view}
 use Rattle.spec_flights.specs.Pictures.{PlannedFlight, folded_at}
 use Rattle.line_words.specs.Passes.{writing_run}
 use Rattle.line_words.specs.Places.{IsUnit, UnitAt}
-use Rattle.flight_facts.specs.declared.flight_facts.FlightFacts.{FlightFacts}
-use Rattle.flight_facts.specs.Facts.{flight_in}
-use Rattle.flight_facts.specs.Flights.{IsOfFlight, samples_at}
+use Rattle.sample_lines.specs.FactsOfFlights.{FlightFacts}
+use Rattle.sample_lines.specs.FactsOfFlights.{flight_in}
+use Rattle.sample_lines.specs.FactsOfFlights.{IsOfFlight, samples_at}
 use Rattle.filtered_rows.specs.Components.{IsFormatAt}
 use Rattle.filtered_rows.proofs.Formats.{rows_same}
 use Rattle.filtered_rows.proofs.Laying.{held_bounded}

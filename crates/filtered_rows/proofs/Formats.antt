@@ -13,10 +13,10 @@ use Rattle.sample_words.specs.declared.sizes.FlightSizes.{FlightSizes}
 use Rattle.sample_words.specs.Contents.{component_side}
 use Rattle.sample_words.specs.Sizes.{ctb_size, rows}
 use Rattle.spec_flights.specs.Words.{flight_sizes}
-use Rattle.flight_facts.specs.declared.flight_facts.FlightFacts.{FlightFacts}
-use Rattle.flight_facts.specs.Facts.{flight_in}
-use Rattle.flight_facts.specs.Flights.{IsOfFlight}
-use Rattle.flight_facts.proofs.Laid.{picture_sizes}
+use Rattle.sample_lines.specs.FactsOfFlights.{FlightFacts}
+use Rattle.sample_lines.specs.FactsOfFlights.{flight_in}
+use Rattle.sample_lines.specs.FactsOfFlights.{IsOfFlight}
+use Rattle.sample_lines.proofs.FactsOfFlights.{picture_sizes}
 use Rattle.filtered_rows.specs.Components.{HasSidesOf, IsFormatAt}
 
 by_luma : (luma : Bool) (n : ℕ) → n / cond luma 1 2 ≡ cond luma n (n / 2)

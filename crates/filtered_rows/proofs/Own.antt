@@ -13,7 +13,7 @@ use Rattle.sample_words.specs.declared.sizes.FlightSizes.{FlightSizes}
 use Rattle.sample_words.specs.Contents.{component_side}
 use Rattle.sample_words.specs.Sizes.{IsFlight, ctb_size, height_of}
 use Rattle.spec_flights.specs.Pictures.{PlannedFlight}
-use Rattle.flight_facts.specs.Flights.{samples_at}
+use Rattle.sample_lines.specs.FactsOfFlights.{samples_at}
 use Rattle.sample_lines.specs.Lines.{height_at, sample_of, width_at}
 use Rattle.filtered_rows.specs.Components.{HasSidesOf}
 use Rattle.filtered_rows.proofs.Sides.{lines_are, row_unit, top_is, unit_height_is, unit_sample, unit_width_is}

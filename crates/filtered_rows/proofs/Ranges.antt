@@ -21,7 +21,7 @@ use Rattle.flight_value_laws.specs.Ranges.{IsInRange}
 use Rattle.flight_value_laws.proofs.Phases.{in_depth, phase_small}
 use Rattle.flight_value_laws.proofs.Pictures.{all_given}
 use Rattle.flight_value_laws.proofs.Values.{fit_at, folded_is}
-use Rattle.flight_facts.specs.Flights.{samples_at, samples_of}
+use Rattle.sample_lines.specs.FactsOfFlights.{samples_at, samples_of}
 use Rattle.filtered_rows.specs.Components.{IsFormatAt}
 
 module _ (p : PicturePlan) (plan : IsPlan p) where

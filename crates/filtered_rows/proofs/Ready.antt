@@ -29,12 +29,12 @@ use Rattle.flight_lines.specs.Numbers.{numbered, numbered_needs}
 use Rattle.flight_lines.proofs.Numbered.{line_again, number_of_words, word_line}
 use Rattle.spec_flights.specs.Pictures.{PlannedFlight}
 use Rattle.spec_flights.specs.Rows.{flight_rows, is_sound}
-use Rattle.flight_unit_laws.proofs.SoundRows.{all_sound}
-use Rattle.flight_facts.specs.declared.flight_facts.FlightFacts.{FlightFacts}
-use Rattle.flight_facts.specs.Boards.{flight_meaning}
-use Rattle.flight_facts.specs.Facts.{flight_in}
-use Rattle.flight_facts.specs.Flights.{IsOfFlight}
-use Rattle.flight_facts.proofs.Told.{tells_bad}
+use Rattle.sample_lines.proofs.FactsOfFlights.{all_sound}
+use Rattle.sample_lines.specs.FactsOfFlights.{FlightFacts}
+use Rattle.sample_lines.specs.FactsOfFlights.{flight_meaning}
+use Rattle.sample_lines.specs.FactsOfFlights.{flight_in}
+use Rattle.sample_lines.specs.FactsOfFlights.{IsOfFlight}
+use Rattle.sample_lines.proofs.FactsOfFlights.{tells_bad}
 use Rattle.flight_waits.specs.Waits.{AreAllKnown, AreSeen}
 use Rattle.flight_waits.proofs.Waited.{line_there, sized}
 

@@ -14,10 +14,10 @@ use Rattle.sample_words.specs.Words.{IsLine as IsWordLine, line_number}
 use Rattle.progress_words.specs.declared.view.View.{View}
 use Rattle.progress_words.specs.Views.{seen_of}
 use Rattle.spec_flights.specs.Rows.{flight_rows}
-use Rattle.flight_facts.specs.declared.flight_facts.FlightFacts.{FlightFacts}
-use Rattle.flight_facts.specs.Boards.{flight_meaning}
-use Rattle.flight_facts.specs.Facts.{flight_in}
-use Rattle.flight_facts.specs.Flights.{IsOfFlight}
+use Rattle.sample_lines.specs.FactsOfFlights.{FlightFacts}
+use Rattle.sample_lines.specs.FactsOfFlights.{flight_meaning}
+use Rattle.sample_lines.specs.FactsOfFlights.{flight_in}
+use Rattle.sample_lines.specs.FactsOfFlights.{IsOfFlight}
 use Rattle.flight_waits.specs.Waits.{AreAllKnown, AreSeen}
 use Rattle.flight_waits.proofs.Waited.{line_there, sized}
 use Rattle.filter_words.specs.Rows.{AreRowsSeen, IsRowSeen}

@@ -17,10 +17,10 @@ use Rattle.sample_words.proofs.Parts.{next_part}
 use Rattle.spec_flights.specs.Pictures.{PlannedFlight}
 use Rattle.board_core.specs.Places.{line_of}
 use Rattle.line_words.specs.Places.{IsUnit, UnitAt}
-use Rattle.flight_facts.specs.declared.flight_facts.FlightFacts.{FlightFacts}
-use Rattle.flight_facts.specs.Facts.{flight_in}
-use Rattle.flight_facts.specs.Flights.{IsOfFlight, samples_at}
-use Rattle.flight_facts.proofs.Sized.{flight_sized}
+use Rattle.sample_lines.specs.FactsOfFlights.{FlightFacts}
+use Rattle.sample_lines.specs.FactsOfFlights.{flight_in}
+use Rattle.sample_lines.specs.FactsOfFlights.{IsOfFlight, samples_at}
+use Rattle.sample_lines.proofs.FactsOfFlights.{flight_sized}
 use Rattle.sample_lines.specs.Lines.{height_at, left_at, sample_of, top_at, width_at}
 use Rattle.filtered_rows.specs.Components.{HasSidesOf}
 

@@ -11,7 +11,7 @@ use Rattle.spec_decoded_pictures.specs.Decoded.{DecodedUnits}
 use Rattle.loop_filters.specs.Formats.{filters_of}
 use Rattle.spec_flights.specs.Phases.{horizontal_samples, offset_samples, phase_samples, vertical_samples}
 use Rattle.spec_flights.specs.Pictures.{PlannedFlight, folded_at}
-use Rattle.flight_facts.specs.Flights.{samples_at, samples_of}
+use Rattle.sample_lines.specs.FactsOfFlights.{samples_at, samples_of}
 use Rattle.filtered_rows.specs.Components.{IsFormatAt}
 
 module _ (f : PlannedFlight) (k : ℕ) (format : FilterFormat) (by : IsFormatAt f k format) (c : ℕ) where

@@ -13,7 +13,7 @@ use Rattle.flight_lines.specs.Numbers.{numbered_needs}
 use Rattle.line_words.specs.Passes.{writing_run}
 use Rattle.line_words.specs.Places.{UnitAt, number_at}
 use Rattle.line_words.proofs.Words.{next_still}
-use Rattle.flight_facts.specs.declared.flight_facts.FlightFacts.{FlightFacts}
+use Rattle.sample_lines.specs.FactsOfFlights.{FlightFacts}
 use Rattle.flight_waits.specs.Waits.{AreSeen, HasSameParts, HasWaited, HoldsUnit}
 
 module _ {F : Type 0} where

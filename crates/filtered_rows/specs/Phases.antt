@@ -14,8 +14,8 @@ use Rattle.sample_words.specs.Words.{line_number}
 use Rattle.progress_words.specs.declared.view.View.{View}
 use Rattle.progress_words.specs.Views.{seen_of}
 use Rattle.spec_flights.specs.Rows.{flight_rows}
-use Rattle.flight_facts.specs.declared.flight_facts.FlightFacts.{FlightFacts}
-use Rattle.flight_facts.specs.Facts.{flight_in}
+use Rattle.sample_lines.specs.FactsOfFlights.{FlightFacts}
+use Rattle.sample_lines.specs.FactsOfFlights.{flight_in}
 use Rattle.flight_waits.specs.Waits.{AreSeen}
 use Rattle.filtered_rows.specs.Components.{AreRowsCounted}
 

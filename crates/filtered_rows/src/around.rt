@@ -10,17 +10,16 @@ ghost use Rattle.sample_words.specs.Sizes.{rows};
 ghost use Rattle.sample_words.specs.Words.{IsLine, line_number};
 ghost use Rattle.progress_words.specs.Passes.{IsPassOf, Knows, view};
 ghost use Rattle.progress_words.specs.Views.{seen_of};
-ghost use Rattle.flight_facts.specs.Facts.{flight_in};
-ghost use Rattle.flight_facts.specs.Flights.{IsOfFlight, samples_at};
+ghost use Rattle.sample_lines.specs.FactsOfFlights.{flight_in};
+ghost use Rattle.sample_lines.specs.FactsOfFlights.{IsOfFlight, samples_at};
 ghost use Rattle.filtered_rows.specs.Components.{AreRowsCounted, HasSidesOf, IsPartOfRow};
 
 use crate::row_lines::row_top;
-use flight_facts::FlightFacts;
 use hv_base::{Line, Phase};
 use line_words::UnitPlace;
 use loop_filters::Component;
 use progress_words::{Board, Pass};
-use sample_lines::read_lines;
+use sample_lines::{FlightFacts, read_lines};
 use sample_words::Layout;
 
 /// Lines of a component, from one to before another.

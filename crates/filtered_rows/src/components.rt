@@ -16,21 +16,20 @@ ghost use Rattle.progress_words.specs.Views.{seen_of};
 ghost use Rattle.spec_flights.specs.Pictures.{folded_at};
 ghost use Rattle.line_words.specs.Passes.{writing_run};
 ghost use Rattle.line_words.specs.Places.{IsUnit, number_at};
-ghost use Rattle.flight_facts.specs.Boards.{flight_meaning};
-ghost use Rattle.flight_facts.specs.Facts.{flight_in};
-ghost use Rattle.flight_facts.specs.Flights.{IsOfFlight, samples_at};
+ghost use Rattle.sample_lines.specs.FactsOfFlights.{flight_meaning};
+ghost use Rattle.sample_lines.specs.FactsOfFlights.{flight_in};
+ghost use Rattle.sample_lines.specs.FactsOfFlights.{IsOfFlight, samples_at};
 ghost use Rattle.sample_lines.specs.Lines.{luma_height, luma_width};
 ghost use Rattle.filtered_rows.specs.Components.{AreRowsCounted, HasSidesOf, IsFormatAt};
 
 use crate::around::{read_rows_around, row_at};
 use crate::row_lines::row_top;
-use flight_facts::FlightFacts;
 use hv_base::{Line, Phase};
 use line_words::UnitPlace;
 use loop_filters::Component;
 use progress_words::{Board, Pass};
 use row_filters::{RowPlaces, horizontal_lines, offset_lines, vertical_lines};
-use sample_lines::{read_built_lines, write_lines};
+use sample_lines::{FlightFacts, read_built_lines, write_lines};
 use sample_words::Layout;
 
 /// The line of the row of a unit in a phase.

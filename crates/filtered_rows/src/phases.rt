@@ -13,9 +13,9 @@ ghost use Rattle.progress_words.specs.Views.{seen_of};
 ghost use Rattle.spec_flights.specs.Pictures.{folded_at};
 ghost use Rattle.line_words.specs.Passes.{writing_run};
 ghost use Rattle.line_words.specs.Places.{number_at, words_at};
-ghost use Rattle.flight_facts.specs.Boards.{flight_meaning};
-ghost use Rattle.flight_facts.specs.Facts.{flight_in};
-ghost use Rattle.flight_facts.specs.Flights.{IsOfFlight};
+ghost use Rattle.sample_lines.specs.FactsOfFlights.{flight_meaning};
+ghost use Rattle.sample_lines.specs.FactsOfFlights.{flight_in};
+ghost use Rattle.sample_lines.specs.FactsOfFlights.{IsOfFlight};
 ghost use Rattle.flight_waits.specs.Waits.{AreAllKnown};
 ghost use Rattle.sample_lines.specs.Lines.{luma_height, luma_width};
 ghost use Rattle.filtered_rows.specs.Components.{IsFormatAt};
@@ -24,13 +24,13 @@ ghost use Rattle.filtered_rows.specs.Phases.{AreSamplesSeen, IsAroundKnown, IsRe
 use crate::components::{horizontal_component, offset_component, vertical_component};
 use crate::row_lines::count_of;
 use filter_words::{lay_row_places, lay_row_units};
-use flight_facts::FlightFacts;
 use hv_base::{Line, Phase};
 use line_words::UnitPlace;
 use loop_filters::{Component, component_of};
 use plan_types::PicturePlan;
 use progress_words::{Board, Pass};
 use row_filters::RowPlaces;
+use sample_lines::FlightFacts;
 use sample_words::Layout;
 use spec_loop_filters::FilterFormat;
 

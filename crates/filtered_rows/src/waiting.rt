@@ -8,20 +8,20 @@ ghost use Rattle.progress_words.specs.Passes.{IsPassOf, view};
 ghost use Rattle.progress_words.specs.Views.{HasEnded};
 ghost use Rattle.line_words.specs.Places.{number_at};
 ghost use Rattle.spec_flights.specs.Rows.{flight_rows};
-ghost use Rattle.flight_facts.specs.Boards.{flight_meaning};
-ghost use Rattle.flight_facts.specs.Facts.{flight_in};
-ghost use Rattle.flight_facts.specs.Flights.{IsOfFlight};
+ghost use Rattle.sample_lines.specs.FactsOfFlights.{flight_meaning};
+ghost use Rattle.sample_lines.specs.FactsOfFlights.{flight_in};
+ghost use Rattle.sample_lines.specs.FactsOfFlights.{IsOfFlight};
 ghost use Rattle.flight_waits.specs.Frames.{frame_rows};
 ghost use Rattle.flight_waits.specs.Waits.{AreAllKnown, AreSeen, HasWaited, HoldsUnit};
 ghost use Rattle.filtered_rows.specs.Phases.{IsReady};
 
-use flight_facts::FlightFacts;
 use flight_plan::FlightPlan;
 use flight_waits::{wait_for_built_rows, wait_to_filter};
 use hv_base::Phase;
 use hv_io::Gate;
 use line_words::UnitPlace;
 use progress_words::{Board, Pass, Waited};
+use sample_lines::FlightFacts;
 use sample_words::Layout;
 use std::sync::Wait;
 

@@ -7,7 +7,7 @@ use Rattle.std.specs.List.{flat_map, range_with_len}
 use Rattle.header_types.specs.SequenceParameterSets.{height_in_ctbs, size_in_ctbs, width_in_ctbs}
 use Rattle.plan_types.specs.declared.picture_plan.PicturePlan.{PicturePlan}
 use Rattle.spec_picture_build.specs.References.{DecodedPicture}
-use Rattle.spec_decoder.specs.Decoder.{BufferPicture, is_among, kept_as, kept_from, pictures_in}
+use Rattle.flight_unit_laws.specs.SpecDecoder.{BufferPicture, is_among, kept_as, kept_from, pictures_in}
 use Rattle.flight_plan.specs.declared.row_range.Reference.{Reference}
 use Rattle.flight_plan.specs.declared.row_range.Reference.TheVariants.{Base}
 use Rattle.flight_plan.specs.Flight.{units_of}

@@ -7,8 +7,8 @@ use Rattle.spec_picture_trees.specs.Picture.{PictureBroken}
 use Rattle.spec_known_units.specs.Known.{KnownUnit, unit_read, units_known}
 use Rattle.breach_laws.proofs.Reading.{reading_breaks}
 use Rattle.spec_picture_build.specs.References.{DecodedPicture}
-use Rattle.known_picture_laws.specs.Decoded.{IsDecodedAsKnown, IsFirstBad}
-use Rattle.known_picture_laws.proofs.Reading.{as_known}
+use Rattle.flight_unit_laws.specs.KnownPictureLaws.{IsDecodedAsKnown, IsFirstBad}
+use Rattle.flight_unit_laws.proofs.KnownPictureLaws.{as_known}
 use Rattle.board_core.specs.Places.{IsPlaceOf}
 use Rattle.board_core.specs.Runs.{IsLeastBad}
 use Rattle.progress_words.specs.Core.{fault_in}

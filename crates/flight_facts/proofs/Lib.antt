@@ -3,3 +3,6 @@ pub mod Laid
 pub mod Told
 pub mod Holding
 pub mod Buffers
+pub mod FlightValueLaws
+pub mod FlightUnitLaws
+pub mod KnownPictureLaws

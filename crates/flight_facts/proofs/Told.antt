@@ -9,7 +9,7 @@ use Rattle.hv_base.specs.declared.line.Phase.TheVariants.{B}
 use Rattle.header_types.specs.SequenceParameterSets.{height_in_ctbs, size_in_ctbs, width_in_ctbs}
 use Rattle.plan_types.specs.declared.picture_plan.PicturePlan.{PicturePlan}
 use Rattle.spec_known_units.specs.Known.{KnownUnit, known_of, unit_read, units_known}
-use Rattle.known_unit_laws.proofs.Entries.{known_step}
+use Rattle.flight_unit_laws.proofs.KnownUnitLaws.{known_step}
 use Rattle.flight_plan.specs.Flight.{FlightRows, picture_at}
 use Rattle.board_core.specs.Places.{full_count, IsLine, IsPlaceOf, line_of, phase_start, phase_units, unit_of}
 use Rattle.board_core.specs.States.{IsBad}

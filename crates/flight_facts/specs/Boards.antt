@@ -8,7 +8,7 @@ use Rattle.hv_base.specs.declared.line.Phase.TheVariants.{B, V, H, S}
 use Rattle.header_types.specs.SequenceParameterSets.{width_in_ctbs}
 use Rattle.plan_types.specs.declared.picture_plan.PicturePlan.{PicturePlan}
 use Rattle.spec_picture_build.specs.References.{DecodedPicture}
-use Rattle.spec_decoder.specs.Decoder.{BufferPicture}
+use Rattle.flight_unit_laws.specs.SpecDecoder.{BufferPicture}
 use Rattle.sample_words.specs.declared.sizes.FlightSizes.{FlightSizes}
 use Rattle.spec_flights.specs.Pictures.{PlannedFlight}
 use Rattle.spec_flights.specs.Rows.{broken_at, flight_rows, is_sound}

@@ -3,7 +3,7 @@
 ghost use Rattle.std.specs.Prelude.{◌≡◌, ◌<◌, ℕ, List, Some, length, map, slice_get};
 ghost use Rattle.plan_types.specs.declared.picture_plan.PicturePlan.{PicturePlan};
 ghost use Rattle.spec_picture_build.specs.References.{DecodedPicture};
-ghost use Rattle.spec_decoder.specs.Decoder.{BufferPicture, pictures_in};
+ghost use Rattle.flight_unit_laws.specs.SpecDecoder.{BufferPicture, pictures_in};
 ghost use Rattle.progress_words.specs.Core.{IsReached};
 ghost use Rattle.progress_words.specs.Meanings.{IsLaid};
 ghost use Rattle.sample_words.specs.declared.sizes.FlightSizes.{FlightSizes};

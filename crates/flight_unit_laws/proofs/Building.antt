@@ -27,7 +27,7 @@ use Rattle.spec_picture_motion.specs.Slices.{collocated_entry}
 use Rattle.spec_picture_build.specs.Border.{has_sample, unit_side, width_of as samples_wide}
 use Rattle.spec_picture_build.specs.References.{DecodedPicture, motions_in, motions_of}
 use Rattle.spec_decoded_pictures.specs.Decoded.{DecodedUnits, decoded_by}
-use Rattle.spec_decoder.specs.Decoder.{BufferPicture, kept_as}
+use Rattle.spec_flights.specs.SpecDecoder.{BufferPicture, kept_as}
 use Rattle.locality_laws.specs.Beside.{SamplesAgreeBeside, is_at_border}
 use Rattle.locality_laws.specs.Motion.{MotionAgreesBeneath, MotionAgreesBeside}
 use Rattle.locality_laws.proofs.Motion.{some_places}

@@ -5,7 +5,7 @@ use Rattle.std.proofs.lemmas.List.Elements.{All-append, All-cons, All-map, All-n
 use Rattle.plan_types.specs.declared.picture_plan.PicturePlan.{PicturePlan}
 use Rattle.spec_picture_build.specs.References.{DecodedPicture}
 use Rattle.spec_decoded_pictures.specs.Decoded.{decoded_by}
-use Rattle.spec_decoder.specs.Decoder.{BufferPicture, is_among, kept_as, kept_from, pictures_in}
+use Rattle.spec_flights.specs.SpecDecoder.{BufferPicture, is_among, kept_as, kept_from, pictures_in}
 use Rattle.locality_laws.specs.Needed.{IsHalved}
 use Rattle.locality_laws.proofs.Widths.{halved}
 use Rattle.spec_flights.specs.Pictures.{PlannedFlight, buffer_before, buffer_behind, known_decoded, pictures_before}

@@ -13,3 +13,5 @@ pub mod Building
 pub mod Reaching
 pub mod Offsets
 pub mod Filtering
+pub mod KnownPictureLaws
+pub mod KnownUnitLaws

@@ -8,7 +8,7 @@ use Rattle.std.proofs.lemmas.List.{append_assoc, length-append, map-append}
 use Rattle.std.proofs.lemmas.List.Elements.{All-append, All-cons, All-map, All-nil}
 use Rattle.std.proofs.lemmas.Simd.{map-map}
 use Rattle.plan_types.specs.declared.picture_plan.PicturePlan.{PicturePlan}
-use Rattle.spec_decoder.specs.Decoder.{BufferPicture, is_among, kept_as, kept_from, pictures_in}
+use Rattle.spec_flights.specs.SpecDecoder.{BufferPicture, is_among, kept_as, kept_from, pictures_in}
 use Rattle.flight_plan.specs.Flight.{IsEarlier}
 use Rattle.flight_plan.specs.declared.row_range.Reference.{Reference}
 use Rattle.flight_plan.specs.declared.row_range.Reference.TheVariants.{Base, Flight}

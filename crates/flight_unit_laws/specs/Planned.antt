@@ -2,7 +2,7 @@
 use Rattle.std.specs.Prelude.{◌≡◌, ◌≤◌, ℕ, All, length, Some, slice_get}
 use Rattle.header_types.specs.SequenceParameterSets.{IsSps}
 use Rattle.plan_types.specs.declared.picture_plan.PicturePlan.{PicturePlan}
-use Rattle.spec_decoder.specs.Decoder.{BufferPicture}
+use Rattle.spec_flights.specs.SpecDecoder.{BufferPicture}
 use Rattle.locality_laws.specs.Needed.{IsHalved}
 use Rattle.spec_flights.specs.Pictures.{PlannedFlight}
 use Rattle.flight_unit_laws.specs.Stops.{HaveSegments}

@@ -4,6 +4,7 @@
 
 mod laws;
 
+pub use known_picture_laws::decoded_samples_are_of_the_last_phase;
 pub use laws::{
     filter_rows_are_made_from_what_they_use, known_units_are_built_from_what_they_use,
     least_bad_units_stop_decoding, names_stand_for_the_pictures_of_the_buffer,

@@ -20,8 +20,8 @@ use Rattle.spec_picture_motion.specs.Field.{Motions, motion_of, pointing_motion,
 use Rattle.spec_picture_motion.specs.Slices.{slice_motion}
 use Rattle.spec_picture_build.specs.References.{DecodedPicture, motions_of}
 use Rattle.spec_decoded_pictures.specs.Decoded.{DecodedUnits, units_folded}
-use Rattle.locality_laws.proofs.Motion.{place_is}
-use Rattle.locality_laws.proofs.Moved.{motion_is_its_step}
+use Rattle.known_picture_laws.proofs.LocalityLaws.{place_is}
+use Rattle.known_picture_laws.proofs.LocalityLaws.{motion_is_its_step}
 use Rattle.known_picture_laws.specs.Order.{IsInOrder}
 use Rattle.known_picture_laws.proofs.FilterData.{folded_motion}
 use Rattle.known_picture_laws.proofs.Order.{in_order}

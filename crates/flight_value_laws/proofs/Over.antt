@@ -19,8 +19,8 @@ use Rattle.spec_slice_data.specs.Segment.{qp_before, restarted, substream_of, th
 use Rattle.spec_picture_trees.specs.Picture.{SegmentAt}
 use Rattle.unit_trees.specs.declared.edges.Edge.{Edge}
 use Rattle.unit_trees.specs.Units.{then_next, unit_over}
-use Rattle.unit_tree_laws.specs.Agreement.{Agree, IsSameStep}
-use Rattle.unit_tree_laws.proofs.Units.{steps_same}
+use Rattle.known_picture_laws.specs.UnitTreeLaws.{Agree, IsSameStep}
+use Rattle.known_picture_laws.proofs.UnitTreeLaws.{steps_same}
 use Rattle.spec_known_units.specs.Known.{Entries, KnownUnit, behind_step, between_from, ctu_of, entries_before}
 use Rattle.spec_known_units.specs.Known.{picture_segments, read_in, read_uses, segment_having, unit_read}
 use Rattle.flight_value_laws.specs.Reading.{IsLeftBefore, IsLeftEdge, IsTopEdge, read_from, read_over, unit_left}

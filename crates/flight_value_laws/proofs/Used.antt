@@ -11,8 +11,8 @@ use Rattle.spec_slice_data.specs.Segment.{Between, begins_row, begins_substream,
 use Rattle.spec_slice_data.specs.Segment.{is_first, unit_step}
 use Rattle.spec_picture_trees.specs.Picture.{SegmentAt}
 use Rattle.unit_trees.specs.Edges.{bottom_of, right_of}
-use Rattle.unit_tree_laws.specs.Agreement.{Agree, begins_slice}
-use Rattle.unit_tree_laws.proofs.Units.{steps_same}
+use Rattle.known_picture_laws.specs.UnitTreeLaws.{Agree, begins_slice}
+use Rattle.known_picture_laws.proofs.UnitTreeLaws.{steps_same}
 use Rattle.spec_known_units.specs.Known.{Entries, KnownUnit, behind_step, between_from, contexts_behind, ctu_of}
 use Rattle.spec_known_units.specs.Known.{engine_behind, entries_before, goes_on, if_used, last_behind, picture_segments}
 use Rattle.spec_known_units.specs.Known.{read_in, read_uses, segment_having, takes_stored, unit_read}

@@ -41,7 +41,7 @@ use Rattle.spec_picture_build.specs.Format.{unit_format}
 use Rattle.spec_picture_build.specs.References.{DecodedPicture, motions_of}
 use Rattle.spec_decoded_pictures.specs.Decoded.{DecodedUnits, decoded_by}
 use Rattle.spec_decoded_pictures.proofs.OneFold.{one_fold}
-use Rattle.spec_decoder.specs.Decoder.{BufferPicture, is_among, kept_as, kept_from, pictures_in}
+use Rattle.spec_flights.specs.SpecDecoder.{BufferPicture, is_among, kept_as, kept_from, pictures_in}
 use Rattle.unit_laws.proofs.Pictures.{format-fits}
 use Rattle.sample_laws.proofs.Pictures.{built_below}
 use Rattle.sample_words.specs.Offsets.{IsSao}

@@ -19,8 +19,8 @@ use Rattle.spec_known_units.specs.Known.{Entries, KnownUnit, behind_step, betwee
 use Rattle.spec_known_units.specs.Known.{if_used}
 use Rattle.spec_known_units.specs.Known.{is_in, known_of, picture_segments, read_in, read_uses, segment_having}
 use Rattle.spec_known_units.specs.Known.{segments_from, takes_stored, unit_read, units_known}
-use Rattle.known_unit_laws.proofs.Beside.{first_of_two, second_of_two}
-use Rattle.known_unit_laws.proofs.Entries.{known_step}
+use Rattle.known_picture_laws.proofs.KnownUnitLaws.{first_of_two, second_of_two}
+use Rattle.known_picture_laws.proofs.KnownUnitLaws.{known_step}
 use Rattle.flight_plan.specs.Flight.{FlightRows, picture_at}
 use Rattle.board_core.specs.Places.{line_of, width_of}
 use Rattle.board_core.specs.Uses.{Above, Carried, Former, ReadingUses}

@@ -3,7 +3,7 @@ use Rattle.std.specs.Prelude.{◌≡◌, ℕ, ◌<◌, ◌^◌, List, length, Al
 use Rattle.hv_base.specs.declared.line.Phase.{Phase}
 use Rattle.plan_types.specs.declared.picture_plan.PicturePlan.{PicturePlan}
 use Rattle.plan_laws.specs.Plans.{IsPlan}
-use Rattle.spec_decoder.specs.Decoder.{BufferPicture}
+use Rattle.spec_flights.specs.SpecDecoder.{BufferPicture}
 use Rattle.cabac_contexts.specs.Packing.{unpacked}
 use Rattle.sample_words.specs.declared.carry.Carry.{Carry}
 use Rattle.sample_words.specs.declared.sizes.FlightSizes.{FlightSizes}

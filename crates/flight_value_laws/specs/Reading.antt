@@ -14,7 +14,7 @@ use Rattle.spec_picture_trees.specs.Picture.{SegmentAt}
 use Rattle.unit_trees.specs.declared.edges.Edge.{Edge}
 use Rattle.unit_trees.specs.Edges.{place_of}
 use Rattle.unit_trees.specs.Units.{unit_over}
-use Rattle.unit_tree_laws.specs.Agreement.{begins_slice}
+use Rattle.known_picture_laws.specs.UnitTreeLaws.{begins_slice}
 use Rattle.spec_known_units.specs.Known.{Entries, KnownUnit, contexts_behind, ctu_of, engine_behind, last_behind}
 use Rattle.spec_known_units.specs.Known.{units_known}
 use Rattle.board_core.specs.Places.{line_of}

@@ -12,7 +12,7 @@ ghost use Rattle.spec_picture_trees.specs.Places.{is_of_unit, unit_places};
 ghost use Rattle.spec_picture_trees.specs.Shapes.{picture_shape};
 ghost use Rattle.unit_trees.specs.declared.edges.Edge.{Edge};
 ghost use Rattle.unit_trees.specs.Edges.{bottom_of, place_of, right_of};
-ghost use Rattle.unit_tree_laws.specs.Agreement.{Agree};
+ghost use Rattle.known_picture_laws.specs.UnitTreeLaws.{Agree};
 ghost use Rattle.cabac_contexts.specs.Packing.{unpacked};
 ghost use Rattle.spec_known_units.specs.Known.{Entries, KnownUnit, between_from, contexts_behind, ctu_of};
 ghost use Rattle.spec_known_units.specs.Known.{entries_before};
@@ -20,7 +20,7 @@ ghost use Rattle.spec_known_units.specs.Known.{picture_segments, read_uses, segm
 ghost use Rattle.plan_laws.specs.Plans.{IsPlan};
 ghost use Rattle.spec_picture_motion.specs.Field.{motion_of};
 ghost use Rattle.spec_decoded_pictures.specs.Decoded.{DecodedUnits};
-ghost use Rattle.spec_decoder.specs.Decoder.{BufferPicture, pictures_in};
+ghost use Rattle.spec_flights.specs.SpecDecoder.{BufferPicture, pictures_in};
 ghost use Rattle.spec_flights.specs.Pictures.{PlannedFlight, folded_at, known_decoded};
 ghost use Rattle.spec_flights.specs.Words.{flight_sizes, values_in};
 ghost use Rattle.flight_value_laws.specs.Motion.{AreMotionsHeld, kept_motion, motion_where};

@@ -15,7 +15,7 @@ use Rattle.sample_words.specs.declared.sizes.FlightSizes.{FlightSizes}
 use Rattle.flight_lines.specs.Flights.{IsSized}
 use Rattle.spec_flights.specs.Pictures.{PlannedFlight}
 use Rattle.spec_flights.specs.Rows.{flight_rows, rows_in, rows_of}
-use Rattle.flight_unit_laws.proofs.Pictures.{as_many, rows_at}
+use Rattle.flight_facts.proofs.FlightUnitLaws.{as_many, rows_at}
 use Rattle.flight_waits.specs.Frames.{frame_rows, framed}
 
 abbrev AreEarlier : ℕ → List RowRange → Type 0

@@ -4,3 +4,4 @@ pub mod Needed
 pub mod Apart
 pub mod Waited
 pub mod Asked
+pub mod FactsOfFlights

@@ -18,9 +18,9 @@ use Rattle.board_core.specs.Uses.{UnitUses}
 use Rattle.spec_flights.specs.Pictures.{PlannedFlight, buffer_before, known_decoded, pictures_before}
 use Rattle.spec_flights.specs.References.{names_before, picture_named}
 use Rattle.spec_flights.specs.Rows.{flight_rows}
-use Rattle.flight_unit_laws.specs.Planned.{IsPlanned}
-use Rattle.flight_unit_laws.specs.Uses.{BuffersAgree, NamedAgree, PicturesAgree}
-use Rattle.flight_unit_laws.proofs.Names.{all_named}
+use Rattle.sample_lines.specs.FactsOfFlights.{IsPlanned}
+use Rattle.sample_lines.specs.FactsOfFlights.{BuffersAgree, NamedAgree, PicturesAgree}
+use Rattle.sample_lines.proofs.FactsOfFlights.{all_named}
 use Rattle.flight_windows.specs.Pictures.{base_picture, flight_picture, seen_picture, seen_pictures, seen_samples}
 use Rattle.flight_windows.specs.Pictures.{with_seen}
 use Rattle.flight_windows.specs.Seen.{SeenFlags, is_seen}

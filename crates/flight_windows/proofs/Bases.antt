@@ -11,11 +11,11 @@ use Rattle.spec_reconstruction.specs.Inter.{Pictures}
 use Rattle.spec_reconstruction.specs.Parameters.{depth_of}
 use Rattle.spec_decoder.specs.Decoder.{BufferPicture}
 use Rattle.inter_samples.specs.Inter.{AreSmall}
-use Rattle.picture_build.specs.Formats.{HasDepths}
+use Rattle.sample_lines.specs.FactsOfFlights.{HasDepths}
 use Rattle.flight_plan.specs.declared.row_range.Reference.{Reference}
 use Rattle.flight_plan.specs.declared.row_range.Reference.TheVariants.{Base}
-use Rattle.flight_facts.specs.declared.flight_facts.FlightFacts.{FlightFacts}
-use Rattle.flight_facts.specs.Facts.{flight_in}
+use Rattle.sample_lines.specs.FactsOfFlights.{FlightFacts}
+use Rattle.sample_lines.specs.FactsOfFlights.{flight_in}
 use Rattle.flight_windows.specs.Pictures.{base_picture, seen_picture}
 use Rattle.flight_windows.specs.Seen.{SeenFlags}
 use Rattle.flight_windows.specs.Windows.{FlightView, bases_in, references_in, sample_named}

@@ -6,7 +6,7 @@ use Rattle.progress_words.specs.declared.pass.Pass.{Pass}
 use Rattle.progress_words.specs.declared.view.View.{View}
 use Rattle.progress_words.specs.Passes.{Knows, view}
 use Rattle.progress_words.specs.Places.{Place}
-use Rattle.flight_facts.specs.declared.flight_facts.FlightFacts.{FlightFacts}
+use Rattle.sample_lines.specs.FactsOfFlights.{FlightFacts}
 use Rattle.flight_windows.specs.Reading.{Sees}
 use Rattle.flight_windows.specs.Seen.{AreFlagsSeen, SeenFlags}
 use Rattle.flight_windows.specs.Windows.{IsKnown}

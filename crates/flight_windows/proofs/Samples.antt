@@ -23,13 +23,13 @@ use Rattle.sample_words.specs.Words.{IsLine}
 use Rattle.spec_flights.specs.Pictures.{PlannedFlight, folded_at, folded_in, known_decoded}
 use Rattle.spec_flights.specs.Pictures.{pictures_before}
 use Rattle.spec_flights.specs.Words.{flight_sizes}
-use Rattle.known_picture_laws.proofs.Phases.{last_phase}
+use Rattle.sample_lines.proofs.FactsOfFlights.{last_phase}
 use Rattle.line_words.specs.Places.{HasSizes, UnitAt}
-use Rattle.flight_facts.specs.declared.flight_facts.FlightFacts.{FlightFacts}
-use Rattle.flight_facts.specs.Boards.{board_flight}
-use Rattle.flight_facts.specs.Facts.{flight_in}
-use Rattle.flight_facts.specs.Flights.{IsOfFlight, samples_at, samples_of}
-use Rattle.flight_facts.proofs.Laid.{board_sizes, each_there, picture_sizes}
+use Rattle.sample_lines.specs.FactsOfFlights.{FlightFacts}
+use Rattle.sample_lines.specs.FactsOfFlights.{board_flight}
+use Rattle.sample_lines.specs.FactsOfFlights.{flight_in}
+use Rattle.sample_lines.specs.FactsOfFlights.{IsOfFlight, samples_at, samples_of}
+use Rattle.sample_lines.proofs.FactsOfFlights.{board_sizes, each_there, picture_sizes}
 use Rattle.flight_windows.specs.Lines.{final_unit, height_in, width_in}
 use Rattle.flight_windows.specs.Pictures.{flight_picture, seen_picture, seen_samples, with_seen}
 use Rattle.flight_windows.specs.Seen.{SeenFlags, is_seen}

@@ -7,9 +7,9 @@ use Rattle.sample_words.specs.declared.sizes.FlightSizes.{FlightSizes}
 use Rattle.progress_words.specs.declared.pass.Pass.{Pass}
 use Rattle.progress_words.specs.Passes.{IsPassOf, view}
 use Rattle.progress_words.specs.Places.{Place}
-use Rattle.flight_facts.specs.declared.flight_facts.FlightFacts.{FlightFacts}
-use Rattle.flight_facts.specs.Facts.{flight_in}
-use Rattle.flight_facts.specs.Flights.{IsOfFlight}
+use Rattle.sample_lines.specs.FactsOfFlights.{FlightFacts}
+use Rattle.sample_lines.specs.FactsOfFlights.{flight_in}
+use Rattle.sample_lines.specs.FactsOfFlights.{IsOfFlight}
 use Rattle.flight_windows.specs.declared.final_rows.FinalRows.{FinalRows}
 use Rattle.flight_windows.specs.Pictures.{seen_picture}
 use Rattle.flight_windows.specs.Seen.{AreFlagsSeen, SeenFlags}

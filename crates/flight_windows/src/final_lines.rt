@@ -9,8 +9,8 @@ ghost use Rattle.sample_words.specs.Sizes.{samples_a_word};
 ghost use Rattle.spec_inter_prediction.specs.Taps.{clamped};
 ghost use Rattle.spec_picture_build.specs.References.{greatest_sample};
 ghost use Rattle.line_words.specs.Places.{number_at};
-ghost use Rattle.flight_facts.specs.Facts.{flight_in};
-ghost use Rattle.flight_facts.specs.Flights.{IsOfFlight};
+ghost use Rattle.sample_lines.specs.FactsOfFlights.{flight_in};
+ghost use Rattle.sample_lines.specs.FactsOfFlights.{IsOfFlight};
 ghost use Rattle.sample_lines.specs.Lines.{height_at, sample_of, width_at};
 ghost use Rattle.flight_windows.specs.Lines.{IsFinalRow, IsRowPlace, IsSpan};
 ghost use Rattle.flight_windows.specs.Reading.{SeesRows, flight_sample};
@@ -19,11 +19,10 @@ use crate::final_rows::{FinalRow, FinalRows};
 use crate::nothing::clear;
 use crate::row_places::RowPlace;
 use crate::spans::Span;
-use flight_facts::FlightFacts;
 use inter_pred::held_line;
 use line_words::UnitPlace;
 use progress_words::{Board, Pass};
-use sample_lines::read_samples;
+use sample_lines::{FlightFacts, read_samples};
 use sample_words::Layout;
 
 /// Samples of a line of a final row of a picture, held to a greatest one: those of a span; 0 where the row isn't seen.

@@ -8,10 +8,10 @@ ghost use Rattle.flight_windows.specs.Lines.{IsFinalRow, final_unit};
 ghost use Rattle.flight_windows.specs.Seen.{is_seen};
 
 use crate::seen_rows::SeenRows;
-use flight_facts::FlightFacts;
 use hv_base::{Line, Phase};
 use line_words::UnitPlace;
 use progress_words::Board;
+use sample_lines::FlightFacts;
 use sample_words::Layout;
 
 /// A row of coding tree blocks of a picture of the flight in its last phase.

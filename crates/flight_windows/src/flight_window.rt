@@ -14,9 +14,9 @@ use crate::final_lines::final_line;
 use crate::final_rows::{FinalRow, FinalRows};
 use crate::row_places::RowPlace;
 use crate::spans::Span;
-use flight_facts::FlightFacts;
 use inter_pred::Window;
 use progress_words::Pass;
+use sample_lines::FlightFacts;
 
 /// The samples of a line of component `c` of a picture of the flight from a column on, held to a greatest one.
 pub(crate) fn flight_row(

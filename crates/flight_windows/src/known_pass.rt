@@ -1,6 +1,6 @@
 //! What a pass knows, by a type.
 
-use flight_facts::FlightFacts;
+use sample_lines::FlightFacts;
 use std::marker::Brand;
 
 /// What a pass of a board knows, for contracts alone. Code that is generic over reference pictures tells of these their
@@ -8,7 +8,7 @@ use std::marker::Brand;
 /// `Brand`.
 pub trait KnownPass {
     ghost use Rattle.atomic_table.specs.Seated.{TableId};
-    ghost use Rattle.flight_facts.specs.declared.flight_facts.FlightFacts.{FlightFacts};
+    ghost use Rattle.sample_lines.specs.FactsOfFlights.{FlightFacts};
     ghost use Rattle.progress_words.specs.declared.view.View.{View};
 
     /// Its board.

@@ -2,13 +2,13 @@
 
 ghost use Rattle.std.specs.Prelude.{◌≡◌, ℕ};
 ghost use Rattle.inter_samples.specs.Inter.{AreSmall};
-ghost use Rattle.picture_build.specs.Formats.{HasDepths};
+ghost use Rattle.sample_lines.specs.FactsOfFlights.{HasDepths};
 ghost use Rattle.progress_words.specs.Passes.{IsPassOf, view};
 ghost use Rattle.spec_flights.specs.References.{names_before};
 ghost use Rattle.spec_picture_build.specs.References.{pictures_of};
 ghost use Rattle.spec_reconstruction.specs.declared.format.UnitFormat.{UnitFormat};
-ghost use Rattle.flight_facts.specs.Facts.{flight_in};
-ghost use Rattle.flight_facts.specs.Flights.{IsOfFlight};
+ghost use Rattle.sample_lines.specs.FactsOfFlights.{flight_in};
+ghost use Rattle.sample_lines.specs.FactsOfFlights.{IsOfFlight};
 ghost use Rattle.flight_windows.specs.Pictures.{seen_pictures};
 ghost use Rattle.flight_windows.specs.Seen.{AreFlagsSeen};
 ghost use Rattle.flight_windows.specs.Windows.{IsKnown, bases_in, references_in};
@@ -16,11 +16,11 @@ ghost use Rattle.flight_windows.specs.Windows.{IsKnown, bases_in, references_in}
 use crate::final_rows::FinalRows;
 use crate::known_pass::KnownPass;
 use crate::seen_rows::SeenRows;
-use flight_facts::FlightFacts;
 use flight_plan::Reference;
 use header_types::Sps;
 use inter_pred::RefWindow;
 use progress_words::{Board, Pass};
+use sample_lines::FlightFacts;
 use sample_words::Layout;
 use std::marker::{Model, PhantomData};
 

@@ -34,9 +34,9 @@ use Rattle.progress_words.specs.Places.{Place}
 use Rattle.progress_words.specs.Views.{AllSound, HasEnded, joined, kept_part, new_part, seen_of}
 use Rattle.progress_words.proofs.Counts.{greater_at}
 use Rattle.line_words.specs.Passes.{AreAllSound}
-use Rattle.flight_facts.specs.declared.flight_facts.FlightFacts.{FlightFacts}
-use Rattle.flight_facts.specs.Boards.{flight_meaning}
-use Rattle.flight_facts.specs.Facts.{flight_in}
+use Rattle.flight_waits.specs.FactsOfFlights.{FlightFacts}
+use Rattle.flight_waits.specs.FactsOfFlights.{flight_meaning}
+use Rattle.flight_waits.specs.FactsOfFlights.{flight_in}
 use Rattle.flight_workers.specs.Working.{IsDone, IsFresh, IsGathered, MayFan, MayWork}
 use Rattle.flight_workers.proofs.Steps.{no_job, own_on}
 
@@ -138,3 +138,16 @@ gathered {b} {p} {q} {r} {t} {u} kept new mine theirs {w} knows =
           ∙ (or_false (view t).opens ∙ (mine.opens ∙ opens)));
       whole = omega (arith, qs, qj, rs, rj, ws, wj, whole);
     }
+
+-- and has been split once more for each worker
+pub split_for : {X : Type 0} {b : Place FlightFacts} (p q : Pass FlightFacts) {r : Pass FlightFacts}
+    (t : Pass FlightFacts) {u : Pass FlightFacts} (w : Pass FlightFacts) (others : List X) {next : X} {rest : List X}
+    → others ≡ next ∷ rest → Knows p q (kept_part (view p)) → IsPassOf b r × (view r ≡ new_part (view p))
+    → IsDone b r u → (view t).splits ≡ (view q).splits + length rest → Knows t w (joined (view t) (view u))
+    → (view w).splits ≡ (view p).splits + length others
+split_for p q {r} t {u} w others {next} {rest} list kept new theirs mine knows =
+    let many : length others ≡ suc (length rest) = ap length list in
+    let kept_is : (view q).splits ≡ (view p).splits + 1 = ap (λ (x : View FlightFacts). x.splits) kept.1 in
+    let none : (view u).splits ≡ 0 = theirs.splits ∙ ap (λ (x : View FlightFacts). x.splits) new.1 in
+    let both : (view w).splits ≡ (view t).splits + (view u).splits = ap (λ (x : View FlightFacts). x.splits) knows.1 in
+    omega (arith, many, kept_is, none, both, mine)

@@ -30,9 +30,9 @@ use Rattle.progress_words.specs.Passes.{IsPassOf, Knows, view}
 use Rattle.progress_words.specs.Places.{Place}
 use Rattle.progress_words.specs.Views.{HasEnded, finding_none, holding, seen_of}
 use Rattle.line_words.specs.Passes.{AreAllSound}
-use Rattle.flight_facts.specs.declared.flight_facts.FlightFacts.{FlightFacts}
-use Rattle.flight_facts.specs.Boards.{flight_meaning}
-use Rattle.flight_facts.specs.Facts.{flight_in}
+use Rattle.flight_waits.specs.FactsOfFlights.{FlightFacts}
+use Rattle.flight_waits.specs.FactsOfFlights.{flight_meaning}
+use Rattle.flight_waits.specs.FactsOfFlights.{flight_in}
 use Rattle.flight_waits.specs.Waits.{AreAllKnown, HasSameParts}
 use Rattle.flight_workers.specs.Working.{HasEndedLine, HoldsLine, IsDone, IsFresh}
 

@@ -8,10 +8,10 @@ use Rattle.progress_words.specs.Passes.{IsPassOf, view}
 use Rattle.progress_words.specs.Places.{Place}
 use Rattle.progress_words.specs.Views.{HasEnded, seen_of}
 use Rattle.line_words.specs.Places.{UnitAt}
-use Rattle.flight_facts.specs.declared.flight_facts.FlightFacts.{FlightFacts}
-use Rattle.flight_facts.specs.Boards.{flight_meaning}
-use Rattle.flight_facts.specs.Facts.{flight_in}
-use Rattle.flight_facts.specs.Flights.{IsOfFlight}
+use Rattle.flight_waits.specs.FactsOfFlights.{FlightFacts}
+use Rattle.flight_waits.specs.FactsOfFlights.{flight_meaning}
+use Rattle.flight_waits.specs.FactsOfFlights.{flight_in}
+use Rattle.flight_waits.specs.FactsOfFlights.{IsOfFlight}
 use Rattle.flight_waits.specs.Waits.{AreAllKnown, HasSameParts, HoldsUnit}
 
 -- the first unit of a line

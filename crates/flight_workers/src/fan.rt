@@ -1,11 +1,13 @@
 //! All workers.
 
+ghost use Rattle.std.specs.Prelude.{◌≡◌, ◌+◌, length};
 ghost use Rattle.std.specs.Thread.{IsSync};
+ghost use Rattle.progress_words.specs.Passes.{view};
 ghost use Rattle.flight_workers.specs.Working.{IsDone, IsGathered, MayFan, MayWork};
 
 use crate::line_worker::LineWorker;
 use crate::work::work;
-use flight_facts::FlightFacts;
+use flight_waits::FlightFacts;
 use hv_io::Gate;
 use progress_words::{Board, Pass};
 use sample_words::Layout;
@@ -27,6 +29,7 @@ pub fn work_off<R: Threads + Wait + Sync, G: Gate + Sync, W: LineWorker + Send>(
 ) -> Pass<FlightFacts>
     requires may { MayFan W.stands board.now layout.now start first.old others.old }
     ensures gathered { IsGathered board.now start result }
+    ensures splits { (view result).splits ≡ (view start).splits + length others.old }
 {
     let Some((next, rest)) = others.split_first_mut() else {
         return work(rt, gate, board, layout, start, first);
@@ -38,7 +41,8 @@ pub fn work_off<R: Threads + Wait + Sync, G: Gate + Sync, W: LineWorker + Send>(
         || -> Pass<FlightFacts>
             requires { IsSync R.row × IsSync G.row
                 × MayFan W.stands board.now layout.now pass next.now rest.now }
-            ensures { IsGathered board.entry.now pass result }
+            ensures { IsGathered board.entry.now pass result
+                × ((view result).splits ≡ (view pass).splits + length rest.entry.now) }
         { work_off(rt, gate, board, layout, pass, next, rest) },
         || -> Pass<FlightFacts>
             requires { MayWork W.stands board.now layout.now other first.now }

@@ -1,14 +1,14 @@
 //! What works off lines.
 
 ghost use Rattle.std.specs.Prelude.{ℕ};
-ghost use Rattle.flight_facts.specs.declared.flight_facts.FlightFacts.{FlightFacts};
-ghost use Rattle.flight_facts.specs.Flights.{IsOfFlight};
+ghost use Rattle.flight_waits.specs.FactsOfFlights.{FlightFacts};
+ghost use Rattle.flight_waits.specs.FactsOfFlights.{IsOfFlight};
 ghost use Rattle.sample_words.specs.Words.{IsLine};
 ghost use Rattle.progress_words.specs.Passes.{view};
 ghost use Rattle.progress_words.specs.Views.{seen_of};
 ghost use Rattle.flight_workers.specs.Working.{HasEndedLine, HoldsLine};
 
-use flight_facts::FlightFacts;
+use flight_waits::FlightFacts;
 use hv_base::Line;
 use hv_io::Gate;
 use progress_words::{Board, Pass};

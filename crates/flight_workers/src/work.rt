@@ -3,7 +3,7 @@
 ghost use Rattle.flight_workers.specs.Working.{IsDone, MayWork};
 
 use crate::line_worker::LineWorker;
-use flight_facts::FlightFacts;
+use flight_waits::FlightFacts;
 use hv_io::Gate;
 use line_words::draw_line;
 use progress_words::{Board, Pass};

@@ -5,3 +5,6 @@ pub mod Segments
 pub mod Reading
 pub mod Steps
 pub mod Phases
+pub mod KnownUnitLaws
+pub mod LocalityLaws
+pub mod UnitTreeLaws

@@ -8,8 +8,8 @@ use Rattle.plan_types.specs.declared.picture_plan.PicturePlan.{PicturePlan}
 use Rattle.ctu_records.specs.Tree.{Ctu}
 use Rattle.spec_slice_data.specs.Segment.{Between, no_group, nothing_read, unit_of, unit_step}
 use Rattle.spec_picture_trees.specs.Picture.{Halt, Progress, SegmentAt, picture_read}
-use Rattle.unit_tree_laws.specs.Agreement.{AddsSame, Agree, IsSameStep}
-use Rattle.unit_tree_laws.proofs.Units.{steps_same}
+use Rattle.known_unit_laws.specs.UnitTreeLaws.{AddsSame, Agree, IsSameStep}
+use Rattle.known_unit_laws.proofs.UnitTreeLaws.{steps_same}
 use Rattle.spec_known_units.specs.InOrder.{IsAsInOrder}
 use Rattle.spec_known_units.specs.Known.{KnownUnit, behind_step, between_from, entries_before, picture_segments}
 use Rattle.spec_known_units.specs.Known.{read_in}

@@ -3,3 +3,4 @@ pub mod Decoded
 pub mod Reading
 pub mod FilterData
 pub mod Steps
+pub mod UnitTreeLaws

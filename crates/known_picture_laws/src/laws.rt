@@ -11,7 +11,7 @@ ghost use Rattle.spec_picture_trees.specs.Picture.{SegmentAt};
 ghost use Rattle.spec_picture_trees.specs.Shapes.{picture_shape};
 ghost use Rattle.spec_known_units.specs.Known.{KnownUnit, between_from, entries_before, known_units, picture_segments};
 ghost use Rattle.spec_known_units.specs.Known.{segment_having, unit_read, units_known};
-ghost use Rattle.unit_tree_laws.specs.Agreement.{Agree};
+ghost use Rattle.known_unit_laws.specs.UnitTreeLaws.{Agree};
 ghost use Rattle.spec_picture_build.specs.Border.{has_sample};
 ghost use Rattle.spec_picture_build.specs.References.{DecodedPicture};
 ghost use Rattle.spec_decoded_pictures.specs.Decoded.{DecodedUnits, picture_decoded, unit_decoded};

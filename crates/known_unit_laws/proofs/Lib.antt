@@ -2,3 +2,4 @@ pub mod Entries
 pub mod Lookup
 pub mod Beside
 pub mod Reading
+pub mod UnitTreeLaws

@@ -15,7 +15,7 @@ use spec_reconstruction::{ScalingFactors, UnitFormat};
 use std::alloc::{AllocError, Global};
 
 /// What all units of a picture depend on, with no offsets of a slice.
-pub(crate) fn common_format(alloc: Global, plan: &PicturePlan) -> Result<UnitFormat, AllocError>
+pub fn common_format(alloc: Global, plan: &PicturePlan) -> Result<UnitFormat, AllocError>
     ensures value { IfOk result (λ f. IsCommon plan.now.sps plan.now.pps f) }
     ensures format { IfOk result (λ f. IsFormat f) }
 {
@@ -71,7 +71,7 @@ fn pcm_bits(sps: &Sps) -> PcmBits
 }
 
 /// The units of this slice come.
-pub(crate) fn set_slice(format: &mut UnitFormat, pps: &Pps, slice: &SliceFields)
+pub fn set_slice(format: &mut UnitFormat, pps: &Pps, slice: &SliceFields)
     requires { IsFormat format.old }
     ensures value { format.new ≡ of_slice pps.now slice.now format.old }
     ensures format { IsFormat format.new }

@@ -16,4 +16,7 @@ mod references;
 mod spare;
 mod unit;
 
+pub use format::{common_format, set_slice};
 pub use picture::build_picture;
+pub use references::References;
+pub use spare::picture_parts;

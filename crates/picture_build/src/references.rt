@@ -18,16 +18,17 @@ use picture_buffer::{Bases, Picture, Planes};
 
 /// The pictures of the decoded picture buffer, by their places, for a picture that refers to them.
 #[derive(Clone, Copy)]
-pub(crate) struct References<'a> {
-    bases: &'a Bases,
+pub struct References<'a> {
+    /// The pictures of the buffer.
+    pub bases: &'a Bases,
     /// That picture's sequence parameter set.
-    sps: &'a Sps,
+    pub sps: &'a Sps,
 }
 
 impl<'a> References<'a> {
     /// Those of a buffer, for a picture of this sequence parameter set. Their samples are in the range of its bit
     /// depths.
-    pub(crate) fn new(bases: &'a Bases, sps: &'a Sps) -> References<'a>
+    pub fn new(bases: &'a Bases, sps: &'a Sps) -> References<'a>
         ensures value { result.bases.now ≡ bases.now }
         ensures sps { result.sps.now ≡ sps.now }
         ensures small { (format : UnitFormat) → HasDepths sps.now format

@@ -29,6 +29,25 @@ pub(crate) fn spare_parts(
     }
 }
 
+/// Planes and a field of a picture of this format: those of a spare picture of its size, else new ones. What stands in
+/// them tells nothing.
+pub fn picture_parts(
+    alloc: Global,
+    format: &PictureFormat,
+    spare: Option<Picture>,
+) -> Result<(Planes, MotionField), AllocError>
+    requires { IsPictureFormat format.now }
+    ensures sides { IfOk result
+        (λ parts. HasSides parts.0 format.now.pic_width_in_luma_samples format.now.pic_height_in_luma_samples) }
+    ensures places { IfOk result (λ parts. HasPlaces parts.1 (format.now.pic_width_in_luma_samples / 4)
+        (format.now.pic_height_in_luma_samples / 4)) }
+{
+    match parts_of_size(spare, format) {
+        Some(parts) => Ok(parts),
+        None => new_parts(alloc, format),
+    }
+}
+
 /// The parts of a spare picture, if it has this size.
 fn parts_of_size(spare: Option<Picture>, format: &PictureFormat) -> Option<(Planes, MotionField)>
     ensures sides { IfSome result

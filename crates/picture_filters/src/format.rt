@@ -10,7 +10,7 @@ use spec_loop_filters::FilterFormat;
 
 /// What the loop filters of a planned picture depend on, apart from its places and units.
 #[tactic(auto, unfolding(spec_picture_filters::specs::Filtered::filter_format))]
-pub(crate) fn filter_format(plan: &PicturePlan) -> FilterFormat
+pub fn filter_format(plan: &PicturePlan) -> FilterFormat
     ensures value { result ≡ filter_format plan.now }
     ensures in_range { IsSps plan.now.sps }
 {

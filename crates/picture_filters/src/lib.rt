@@ -14,5 +14,6 @@ mod planned;
 mod unit_rows;
 mod view;
 
+pub use format::filter_format;
 pub use given::{CodedBeside, UnitFilters, unit_filters};
 pub use picture::PictureFilters;

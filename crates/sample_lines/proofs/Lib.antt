@@ -8,3 +8,4 @@ pub mod Built
 pub mod PartWords
 pub mod UnitShapes
 pub mod WrittenWords
+pub mod FactsOfFlights

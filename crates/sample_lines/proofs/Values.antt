@@ -16,7 +16,7 @@ use Rattle.unit_words.proofs.Again.{some_a_word}
 use Rattle.unit_words.proofs.Parts.{same_lanes, there_below, there_is, value_there}
 use Rattle.spec_flights.specs.Pictures.{folded_at}
 use Rattle.spec_flights.specs.Words.{expected, values_in}
-use Rattle.flight_value_laws.proofs.Values.{values_fit}
+use Rattle.flight_facts.proofs.FlightValueLaws.{values_fit}
 use Rattle.line_words.specs.Places.{IsUnit, UnitAt, word_at}
 use Rattle.flight_facts.specs.declared.flight_facts.FlightFacts.{FlightFacts}
 use Rattle.flight_facts.specs.Facts.{flight_in}

@@ -3,3 +3,4 @@ pub mod References
 pub mod Phases
 pub mod Rows
 pub mod Words
+pub mod SpecDecoder

@@ -8,7 +8,7 @@ use Rattle.hv_base.specs.declared.line.Phase.TheVariants.{S}
 use Rattle.plan_types.specs.declared.picture_plan.PicturePlan.{PicturePlan}
 use Rattle.picture_buffer.specs.Motion.{FieldPlaces, HasPlaces, motions_of}
 use Rattle.picture_buffer.specs.Planes.{HasSides, PictureSamples, samples_of}
-use Rattle.picture_build.specs.Pictures.{decoded_of}
+use Rattle.sample_lines.specs.FactsOfFlights.{decoded_of}
 use Rattle.sample_words.specs.declared.sizes.FlightSizes.{FlightSizes}
 use Rattle.sample_words.specs.Contents.{component_side}
 use Rattle.sample_words.specs.Sizes.{IsFlight}
@@ -20,7 +20,7 @@ use Rattle.spec_flights.specs.Phases.{phase_samples}
 use Rattle.spec_flights.specs.Pictures.{PlannedFlight, folded_at, folded_in, known_decoded, known_folded}
 use Rattle.spec_flights.specs.Pictures.{pictures_before}
 use Rattle.spec_flights.specs.Words.{flight_sizes}
-use Rattle.flight_facts.specs.Flights.{samples_at, samples_of as samples_by}
+use Rattle.sample_lines.specs.FactsOfFlights.{samples_at, samples_of as samples_by}
 use Rattle.taken_pictures.specs.Pictures.{held_picture}
 use Rattle.taken_pictures.proofs.Outside.{none_held, none_kept, none_lies}
 

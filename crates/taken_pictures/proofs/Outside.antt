@@ -14,7 +14,7 @@ use Rattle.spec_picture_trees.specs.Picture.{TreeUnit}
 use Rattle.spec_picture_trees.specs.Places.{has_place}
 use Rattle.spec_picture_trees.specs.Shapes.{picture_shape}
 use Rattle.spec_known_units.specs.Known.{known_units}
-use Rattle.known_picture_laws.proofs.FilterData.{folded_motion}
+use Rattle.sample_lines.proofs.FactsOfFlights.{folded_motion}
 use Rattle.spec_flights.specs.Pictures.{PlannedFlight, folded_at, folded_in, pictures_before}
 use Rattle.sample_words.specs.Contents.{component_side}
 

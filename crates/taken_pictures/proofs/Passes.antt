@@ -8,7 +8,7 @@ use Rattle.progress_words.specs.Views.{seen_of}
 use Rattle.progress_words.specs.Meanings.{Meaning}
 use Rattle.line_words.specs.Passes.{AreAllSound}
 use Rattle.line_words.proofs.Words.{still_of}
-use Rattle.flight_facts.specs.declared.flight_facts.FlightFacts.{FlightFacts}
+use Rattle.sample_lines.specs.FactsOfFlights.{FlightFacts}
 
 module _ (p q : Pass FlightFacts) (knows : Knows p q (view p)) where
   pub stays_own : (b : Place FlightFacts) → IsPassOf b p → IsPassOf b q

@@ -15,10 +15,10 @@ use Rattle.sample_words.specs.Words.{IsLine, line_units}
 use Rattle.progress_words.specs.declared.view.View.{View}
 use Rattle.flight_lines.specs.Numbers.{unit_number}
 use Rattle.line_words.specs.Places.{UnitAt}
-use Rattle.flight_facts.specs.declared.flight_facts.FlightFacts.{FlightFacts}
-use Rattle.flight_facts.specs.Facts.{flight_in}
-use Rattle.flight_facts.specs.Flights.{IsOfFlight}
-use Rattle.flight_facts.proofs.Laid.{picture_sizes}
+use Rattle.sample_lines.specs.FactsOfFlights.{FlightFacts}
+use Rattle.sample_lines.specs.FactsOfFlights.{flight_in}
+use Rattle.sample_lines.specs.FactsOfFlights.{IsOfFlight}
+use Rattle.sample_lines.proofs.FactsOfFlights.{picture_sizes}
 use Rattle.taken_pictures.specs.Pictures.{IsPictureSeen, IsBuiltAndFinal}
 
 there_inside : {X : Type 0} (xs : List X) (k : ℕ) (x : X) → slice_get xs k ≡ Some x → k < length xs

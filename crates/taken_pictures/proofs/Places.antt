@@ -13,10 +13,10 @@ use Rattle.spec_picture_trees.specs.Shapes.{picture_shape}
 use Rattle.spec_flights.specs.Pictures.{folded_at}
 use Rattle.spec_flights.specs.Words.{flight_sizes}
 use Rattle.flight_value_laws.specs.Motion.{kept_motion}
-use Rattle.flight_facts.specs.declared.flight_facts.FlightFacts.{FlightFacts}
-use Rattle.flight_facts.specs.Facts.{flight_in}
-use Rattle.flight_facts.specs.Flights.{IsOfFlight}
-use Rattle.flight_facts.proofs.Laid.{board_sizes, picture_sizes}
+use Rattle.sample_lines.specs.FactsOfFlights.{FlightFacts}
+use Rattle.sample_lines.specs.FactsOfFlights.{flight_in}
+use Rattle.sample_lines.specs.FactsOfFlights.{IsOfFlight}
+use Rattle.sample_lines.proofs.FactsOfFlights.{board_sizes, picture_sizes}
 use Rattle.line_words.specs.Places.{UnitAt}
 use Rattle.taken_pictures.specs.declared.place_rows.PlaceRow.{PlaceRow}
 use Rattle.taken_pictures.specs.Kept.{kept_at, kept_by}

@@ -10,7 +10,7 @@ use Rattle.sample_words.specs.Contents.{component_side, first_column, unit_width
 use Rattle.sample_words.specs.Sizes.{IsFlight, ctb_size, height_of, rows}
 use Rattle.spec_flights.specs.Pictures.{PlannedFlight}
 use Rattle.line_words.specs.Places.{IsUnit, UnitAt}
-use Rattle.flight_facts.specs.Flights.{samples_at}
+use Rattle.sample_lines.specs.FactsOfFlights.{samples_at}
 use Rattle.sample_lines.specs.Lines.{height_at, sample_of, width_at}
 use Rattle.taken_pictures.specs.Rows.{first_line, is_line_of_row}
 use Rattle.taken_pictures.proofs.Lines.{part_inside, part_written, row_laid}

@@ -15,10 +15,10 @@ use Rattle.flight_lines.specs.Flights.{meaning_of}
 use Rattle.flight_lines.proofs.Numbered.{line_again}
 use Rattle.line_words.specs.Passes.{AreAllSound}
 use Rattle.spec_flights.specs.Rows.{is_sound}
-use Rattle.flight_facts.specs.declared.flight_facts.FlightFacts.{FlightFacts}
-use Rattle.flight_facts.specs.Boards.{flight_meaning}
-use Rattle.flight_facts.specs.Facts.{flight_in}
-use Rattle.flight_facts.specs.Flights.{IsOfFlight}
+use Rattle.sample_lines.specs.FactsOfFlights.{FlightFacts}
+use Rattle.sample_lines.specs.FactsOfFlights.{flight_meaning}
+use Rattle.sample_lines.specs.FactsOfFlights.{flight_in}
+use Rattle.sample_lines.specs.FactsOfFlights.{IsOfFlight}
 use Rattle.taken_pictures.specs.Pictures.{IsBuiltAndFinal, HasSeenMore}
 
 module _ {F : Type 0} where

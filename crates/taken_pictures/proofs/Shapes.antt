@@ -16,8 +16,8 @@ use Rattle.sample_words.specs.Words.{line_units}
 use Rattle.spec_flights.specs.Rows.{is_sound, is_sound_in, is_sound_of}
 use Rattle.spec_flights.specs.Words.{flight_sizes}
 use Rattle.flight_value_laws.proofs.Rows.{in_picture}
-use Rattle.flight_facts.specs.declared.flight_facts.FlightFacts.{FlightFacts}
-use Rattle.flight_facts.specs.Facts.{flight_in}
+use Rattle.sample_lines.specs.FactsOfFlights.{FlightFacts}
+use Rattle.sample_lines.specs.FactsOfFlights.{flight_in}
 use Rattle.line_words.specs.Places.{UnitAt}
 use Rattle.taken_pictures.specs.Places.{IsTreeUnit, address_at}
 use Rattle.taken_pictures.specs.Rows.{side_places}

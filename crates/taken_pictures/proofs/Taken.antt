@@ -17,9 +17,9 @@ use Rattle.picture_buffer.specs.declared.place_motion.PlaceMotion.{PlaceMotion}
 use Rattle.spec_picture_build.specs.Border.{Samples}
 use Rattle.spec_flights.specs.Pictures.{PlannedFlight, folded_at}
 use Rattle.line_words.specs.Places.{UnitAt}
-use Rattle.flight_facts.specs.declared.flight_facts.FlightFacts.{FlightFacts}
-use Rattle.flight_facts.specs.Facts.{flight_in}
-use Rattle.flight_facts.specs.Flights.{samples_at}
+use Rattle.sample_lines.specs.FactsOfFlights.{FlightFacts}
+use Rattle.sample_lines.specs.FactsOfFlights.{flight_in}
+use Rattle.sample_lines.specs.FactsOfFlights.{samples_at}
 use Rattle.taken_pictures.specs.Rows.{first_line, is_line_of_row, is_place_of_row, side_places}
 use Rattle.taken_pictures.proofs.Sides.{column_before_end}
 use Rattle.taken_pictures.proofs.Tests.{part_all, part_more}

@@ -10,9 +10,9 @@ use Rattle.row_above_laws.specs.Above.{content_in}
 use Rattle.spec_flights.specs.Pictures.{PlannedFlight}
 use Rattle.spec_flights.specs.Rows.{is_sound}
 use Rattle.line_words.specs.Places.{IsUnit, UnitAt}
-use Rattle.flight_facts.specs.declared.flight_facts.FlightFacts.{FlightFacts}
-use Rattle.flight_facts.specs.Facts.{flight_in}
-use Rattle.flight_facts.specs.Flights.{IsOfFlight}
+use Rattle.sample_lines.specs.FactsOfFlights.{FlightFacts}
+use Rattle.sample_lines.specs.FactsOfFlights.{flight_in}
+use Rattle.sample_lines.specs.FactsOfFlights.{IsOfFlight}
 use Rattle.taken_pictures.specs.declared.place_words.PlaceWords.{PlaceWords}
 use Rattle.taken_pictures.specs.declared.place_rows.PlaceRow.{PlaceRow}
 use Rattle.taken_pictures.specs.Rows.{side_places}

@@ -4,7 +4,7 @@ ghost use Rattle.std.specs.Prelude.{◌≡◌, ℕ, ◌+◌, ◌/◌, ◌<◌, S
 ghost use Rattle.plan_types.specs.declared.picture_plan.PicturePlan.{PicturePlan};
 ghost use Rattle.picture_buffer.specs.Motion.{FieldPlaces, HasPlaces, motions_of};
 ghost use Rattle.picture_buffer.specs.Planes.{HasSides, PictureSamples, samples_of};
-ghost use Rattle.picture_build.specs.Pictures.{decoded_of};
+ghost use Rattle.sample_lines.specs.FactsOfFlights.{decoded_of};
 ghost use Rattle.hv_base.specs.declared.line.Phase.TheVariants.{S};
 ghost use Rattle.sample_words.specs.declared.unit_content.UnitContent.TheVariants.{Modes, Vectors};
 ghost use Rattle.sample_words.specs.declared.sizes.FlightSizes.{FlightSizes};
@@ -12,17 +12,18 @@ ghost use Rattle.sample_words.specs.Contents.{component_side};
 ghost use Rattle.sample_words.specs.Sizes.{height_of, width_of};
 ghost use Rattle.spec_flights.specs.Pictures.{folded_at, known_decoded, pictures_before};
 ghost use Rattle.line_words.specs.Places.{UnitAt};
-ghost use Rattle.flight_facts.specs.declared.flight_facts.FlightFacts.{FlightFacts};
-ghost use Rattle.flight_facts.specs.Facts.{flight_in};
-ghost use Rattle.flight_facts.specs.Flights.{IsOfFlight, samples_at};
+ghost use Rattle.sample_lines.specs.FactsOfFlights.{FlightFacts};
+ghost use Rattle.sample_lines.specs.FactsOfFlights.{flight_in};
+ghost use Rattle.sample_lines.specs.FactsOfFlights.{IsOfFlight, samples_at};
 ghost use Rattle.taken_pictures.specs.Kept.{kept_by};
 ghost use Rattle.taken_pictures.specs.Pictures.{held_picture};
 ghost use Rattle.taken_pictures.specs.Places.{IsTreeUnit, address_at, column_at, row_at, word_in};
 
-use flight_facts::pictures_have_the_sizes_of_their_flight;
 use flight_value_laws::{references_come_back, values_fit_their_words};
-use known_picture_laws::decoded_samples_are_of_the_last_phase;
 use row_above_laws::expected_words_are_of_their_places;
+use sample_lines::{
+    decoded_samples_are_of_the_last_phase, pictures_have_the_sizes_of_their_flight,
+};
 use sample_words::motion_is_unpacked;
 
 /// The two words that a flight expects of a place of a sound coding tree unit tell the motion that its picture keeps

@@ -7,14 +7,14 @@ ghost use Rattle.progress_words.specs.Passes.{IsPassOf, Knows, view};
 ghost use Rattle.progress_words.specs.Views.{seen_of};
 ghost use Rattle.line_words.specs.Places.{number_at, word_at, words_at};
 ghost use Rattle.spec_flights.specs.Words.{expected};
-ghost use Rattle.flight_facts.specs.Facts.{flight_in};
-ghost use Rattle.flight_facts.specs.Flights.{IsOfFlight};
+ghost use Rattle.sample_lines.specs.FactsOfFlights.{flight_in};
+ghost use Rattle.sample_lines.specs.FactsOfFlights.{IsOfFlight};
 ghost use Rattle.taken_pictures.specs.Places.{ArePlaceWords, word_in};
 
 use crate::place_words::PlaceWords;
-use flight_facts::{FlightFacts, pictures_have_the_sizes_of_their_flight};
 use line_words::{UnitPlace, read_run};
 use progress_words::{Board, Pass};
+use sample_lines::{FlightFacts, pictures_have_the_sizes_of_their_flight};
 
 /// Words of a unit that the pass has seen counted, from one of them on: they are those that the flight expects.
 fn read_words(

@@ -10,9 +10,9 @@ ghost use Rattle.progress_words.specs.Passes.{IsPassOf, Knows, view};
 ghost use Rattle.progress_words.specs.Views.{seen_of};
 ghost use Rattle.line_words.specs.Passes.{AreAllSound};
 ghost use Rattle.line_words.specs.Places.{number_at};
-ghost use Rattle.flight_facts.specs.Boards.{flight_meaning};
-ghost use Rattle.flight_facts.specs.Facts.{flight_in};
-ghost use Rattle.flight_facts.specs.Flights.{IsOfFlight};
+ghost use Rattle.sample_lines.specs.FactsOfFlights.{flight_meaning};
+ghost use Rattle.sample_lines.specs.FactsOfFlights.{flight_in};
+ghost use Rattle.sample_lines.specs.FactsOfFlights.{IsOfFlight};
 ghost use Rattle.taken_pictures.specs.Places.{ArePlaceWords, IsPlaceRow, IsTreeUnit};
 ghost use Rattle.taken_pictures.specs.Rows.{is_place_of_row};
 
@@ -21,13 +21,13 @@ use crate::laws::words_tell_the_motion_of_their_places;
 use crate::place_rows::{PlaceRow, lay_row};
 use crate::place_words::PlaceWords;
 use crate::reading::{read_modes, read_vectors};
-use flight_facts::FlightFacts;
 use hv_base::Line;
 use line_words::UnitPlace;
 use picture_buffer::MotionField;
 use picture_layout::{CodingTreeUnit, Layout as PictureLayout};
 use plan_types::PicturePlan;
 use progress_words::{Board, Pass};
+use sample_lines::FlightFacts;
 use sample_words::Layout;
 
 /// Takes the motion of the places of a row of coding tree units, all of which the pass has seen counted, into a field

@@ -7,15 +7,14 @@ ghost use Rattle.sample_words.specs.Contents.{component_side};
 ghost use Rattle.progress_words.specs.Passes.{IsPassOf, Knows, view};
 ghost use Rattle.progress_words.specs.Views.{seen_of};
 ghost use Rattle.line_words.specs.Places.{number_at};
-ghost use Rattle.flight_facts.specs.Facts.{flight_in};
-ghost use Rattle.flight_facts.specs.Flights.{IsOfFlight, samples_at};
+ghost use Rattle.sample_lines.specs.FactsOfFlights.{flight_in};
+ghost use Rattle.sample_lines.specs.FactsOfFlights.{IsOfFlight, samples_at};
 ghost use Rattle.taken_pictures.specs.Rows.{is_line_of_row};
 
-use flight_facts::FlightFacts;
 use line_words::UnitPlace;
 use picture_buffer::Planes;
 use progress_words::{Board, Pass};
-use sample_lines::read_lines;
+use sample_lines::{FlightFacts, read_lines};
 use sample_words::Layout;
 
 /// Takes the samples of a row behind all loop filters, which the pass has seen counted, into planes of the picture's

@@ -11,17 +11,17 @@ ghost use Rattle.progress_words.specs.Passes.{IsPassOf, view};
 ghost use Rattle.progress_words.specs.Views.{seen_of};
 ghost use Rattle.flight_lines.specs.Numbers.{unit_number};
 ghost use Rattle.line_words.specs.Passes.{AreAllSound};
-ghost use Rattle.flight_facts.specs.Boards.{flight_meaning};
-ghost use Rattle.flight_facts.specs.Facts.{flight_in};
-ghost use Rattle.flight_facts.specs.Flights.{IsOfFlight};
+ghost use Rattle.sample_lines.specs.FactsOfFlights.{flight_meaning};
+ghost use Rattle.sample_lines.specs.FactsOfFlights.{flight_in};
+ghost use Rattle.sample_lines.specs.FactsOfFlights.{IsOfFlight};
 ghost use Rattle.taken_pictures.specs.Pictures.{HasSeenMore, IsPictureSeen, IsBuiltAndFinal};
 
 use crate::picture_lines::{built_line, final_line};
-use flight_facts::FlightFacts;
 use flight_lines::{line_number, unit_number};
 use hv_base::{Line, UnitNumber};
 use hv_io::Gate;
 use progress_words::{Board, Pass, Waited};
+use sample_lines::FlightFacts;
 use sample_words::Layout;
 use std::sync::Wait;
 

@@ -3,24 +3,24 @@
 ghost use Rattle.std.specs.Prelude.{◌≡◌, ◌/◌, Some, slice_get};
 ghost use Rattle.picture_buffer.specs.Motion.{HasPlaces};
 ghost use Rattle.picture_buffer.specs.Planes.{HasSides};
-ghost use Rattle.picture_build.specs.Pictures.{decoded_of};
+ghost use Rattle.sample_lines.specs.FactsOfFlights.{decoded_of};
 ghost use Rattle.spec_flights.specs.Pictures.{known_decoded, pictures_before};
 ghost use Rattle.progress_words.specs.Passes.{IsPassOf, Knows, view};
 ghost use Rattle.line_words.specs.Passes.{AreAllSound};
-ghost use Rattle.flight_facts.specs.Boards.{flight_meaning};
-ghost use Rattle.flight_facts.specs.Facts.{flight_in};
-ghost use Rattle.flight_facts.specs.Flights.{IsOfFlight};
+ghost use Rattle.sample_lines.specs.FactsOfFlights.{flight_meaning};
+ghost use Rattle.sample_lines.specs.FactsOfFlights.{flight_in};
+ghost use Rattle.sample_lines.specs.FactsOfFlights.{IsOfFlight};
 ghost use Rattle.taken_pictures.specs.Pictures.{IsPictureSeen, held_picture};
 
 use crate::laws::planes_and_fields_hold_their_pictures;
 use crate::picture_lines::{built_line, final_line};
 use crate::row_motion::take_row_motion;
 use crate::row_samples::take_row_samples;
-use flight_facts::{FlightFacts, pictures_have_the_sizes_of_their_flight};
 use line_words::UnitPlace;
 use picture_buffer::{MotionField, Planes};
 use plan_types::PicturePlan;
 use progress_words::{Board, Pass};
+use sample_lines::{FlightFacts, pictures_have_the_sizes_of_their_flight};
 use sample_words::Layout;
 
 /// Takes a decoded picture of the flight into planes and a motion field of its size: its samples behind all loop

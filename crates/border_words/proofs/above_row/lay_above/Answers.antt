@@ -6,8 +6,8 @@ use Rattle.spec_slice_data.specs.Residual.{samples_of_place}
 use Rattle.spec_flights.specs.Pictures.{folded_at}
 use Rattle.line_words.specs.Places.{number_at}
 use Rattle.line_words.proofs.Words.{knows_as_much}
-use Rattle.flight_facts.specs.Facts.{flight_in}
-use Rattle.flight_facts.specs.Flights.{IsOfFlight}
+use Rattle.sample_lines.specs.FactsOfFlights.{flight_in}
+use Rattle.sample_lines.specs.FactsOfFlights.{IsOfFlight}
 use Rattle.border_words.proofs.Laying.{line_kept, places_kept, same_above, shape_stays}
 use Rattle.border_words.proofs.Passes.{stays_own, stays_seen}
 use Rattle.border_words.proofs.above_row.lay_above.Goals as goal

@@ -8,7 +8,7 @@ use Rattle.spec_picture_build.specs.References.{motions_of}
 use Rattle.spec_flights.specs.Pictures.{pictures_before}
 use Rattle.spec_flights.specs.References.{named}
 use Rattle.row_borders.specs.Building.{IsBeneath}
-use Rattle.flight_facts.specs.Facts.{flight_in}
+use Rattle.sample_lines.specs.FactsOfFlights.{flight_in}
 use Rattle.border_words.proofs.beneath.lay_beneath.Goals as goal
 
 pub lay_named-requires-clause-seen : goal.lay_named-requires-clause-seen

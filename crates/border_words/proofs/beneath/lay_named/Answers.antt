@@ -2,7 +2,7 @@ use Rattle.std.proofs.Common.{Some, ap, sym, ◌∙◌, subst, refl, slice_get, 
 use Rattle.flight_plan.specs.declared.row_range.Reference.{Reference}
 use Rattle.spec_picture_motion.specs.Field.{Motions}
 use Rattle.row_borders.specs.Building.{IsBeneath}
-use Rattle.flight_facts.specs.Facts.{flight_in}
+use Rattle.sample_lines.specs.FactsOfFlights.{flight_in}
 use Rattle.border_words.proofs.Named.{no_name, reference_name}
 use Rattle.border_words.proofs.beneath.lay_named.Goals as goal
 

@@ -16,8 +16,8 @@ use Rattle.spec_flights.specs.Rows.{is_sound}
 use Rattle.progress_words.specs.Passes.{view}
 use Rattle.progress_words.specs.Views.{seen_of}
 use Rattle.row_borders.specs.Building.{IsBeneath}
-use Rattle.flight_facts.specs.Facts.{flight_in}
-use Rattle.flight_facts.proofs.Laid.{picture_sizes}
+use Rattle.sample_lines.specs.FactsOfFlights.{flight_in}
+use Rattle.sample_lines.proofs.FactsOfFlights.{picture_sizes}
 use Rattle.border_words.specs.Beneath.{flight_motions}
 use Rattle.border_words.proofs.Laying.{width_is}
 use Rattle.border_words.proofs.Shapes.{columns_is, row_there, same_side}

@@ -1,7 +1,7 @@
 use Rattle.std.proofs.Common.{sym, subst}
 use Rattle.flight_plan.specs.declared.row_range.Reference.{Reference}
 use Rattle.row_borders.specs.Building.{IsBeneath}
-use Rattle.flight_facts.specs.Facts.{flight_in}
+use Rattle.sample_lines.specs.FactsOfFlights.{flight_in}
 use Rattle.border_words.specs.Beneath.{named_motions}
 use Rattle.border_words.proofs.beneath.lay_reference.Goals as goal
 

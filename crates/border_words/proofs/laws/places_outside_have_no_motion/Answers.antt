@@ -1,7 +1,7 @@
 use Rattle.std.proofs.Common.{◌/◌, ◌≤◌, arith, ap, ◌∙◌, subst, length}
 use Rattle.sample_words.specs.declared.sizes.FlightSizes.{FlightSizes}
 use Rattle.sample_words.specs.Sizes.{columns, height_of, width_of}
-use Rattle.flight_facts.specs.Facts.{flight_in}
+use Rattle.sample_lines.specs.FactsOfFlights.{flight_in}
 use Rattle.border_words.specs.Units.{column_at, row_at}
 use Rattle.border_words.proofs.Outside.{none_below, none_right}
 use Rattle.border_words.proofs.Shapes.{across_is, down_is, past_columns}

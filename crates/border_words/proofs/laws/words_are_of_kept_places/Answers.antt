@@ -5,7 +5,7 @@ use Rattle.sample_words.specs.declared.unit_content.UnitContent.TheVariants.{Mod
 use Rattle.sample_words.specs.Sizes.{height_of, width_of}
 use Rattle.row_above_laws.specs.Above.{content_in}
 use Rattle.spec_flights.specs.Words.{flight_sizes}
-use Rattle.flight_facts.specs.Facts.{flight_in}
+use Rattle.sample_lines.specs.FactsOfFlights.{flight_in}
 use Rattle.border_words.specs.Units.{address_at, column_at, row_at, word_in}
 use Rattle.border_words.proofs.Places.{address_inside, column_inside, known_there, place_is}
 use Rattle.border_words.proofs.laws.words_are_of_kept_places.Goals as goal

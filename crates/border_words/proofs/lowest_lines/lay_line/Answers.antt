@@ -11,9 +11,9 @@ use Rattle.spec_picture_trees.specs.Shapes.{picture_shape}
 use Rattle.spec_slice_data.specs.Segment.{PictureShape}
 use Rattle.spec_flights.specs.Pictures.{folded_at}
 use Rattle.row_borders.proofs.Laid.{line_stays}
-use Rattle.flight_facts.specs.Facts.{flight_in}
-use Rattle.flight_facts.specs.Flights.{IsOfFlight}
-use Rattle.flight_facts.proofs.Laid.{picture_sizes}
+use Rattle.sample_lines.specs.FactsOfFlights.{flight_in}
+use Rattle.sample_lines.specs.FactsOfFlights.{IsOfFlight}
+use Rattle.sample_lines.proofs.FactsOfFlights.{picture_sizes}
 use Rattle.border_words.proofs.Built.{whole_height}
 use Rattle.border_words.proofs.Lines.{few_samples, some_lines}
 use Rattle.border_words.proofs.Lowest.{line_fits, line_laid}

@@ -7,7 +7,7 @@ use Rattle.spec_flights.specs.Pictures.{folded_at}
 use Rattle.row_borders.specs.Next.{HasLine}
 use Rattle.line_words.specs.Places.{number_at}
 use Rattle.line_words.proofs.Words.{knows_as_much}
-use Rattle.flight_facts.specs.Facts.{flight_in}
+use Rattle.sample_lines.specs.FactsOfFlights.{flight_in}
 use Rattle.border_words.proofs.Laying.{same_lines, shape_stays, three}
 use Rattle.border_words.proofs.Passes.{stays_own, stays_seen}
 use Rattle.border_words.proofs.lowest_lines.lay_lines_above.Goals as goal

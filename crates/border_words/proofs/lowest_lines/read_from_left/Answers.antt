@@ -1,6 +1,6 @@
 use Rattle.std.proofs.Common.{◌≡◌, ◌+◌, ◌*◌, ◌∙◌, ap, arith}
 use Rattle.sample_words.specs.Sizes.{samples_a_word}
-use Rattle.flight_facts.specs.Facts.{flight_in}
+use Rattle.sample_lines.specs.FactsOfFlights.{flight_in}
 use Rattle.sample_lines.specs.Lines.{sample_of}
 use Rattle.border_words.proofs.lowest_lines.read_from_left.Goals as goal
 

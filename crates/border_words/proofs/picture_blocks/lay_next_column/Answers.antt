@@ -4,7 +4,7 @@ use Rattle.spec_picture_trees.specs.Places.{unit_places}
 use Rattle.spec_picture_trees.specs.Shapes.{picture_shape}
 use Rattle.spec_flights.specs.Pictures.{folded_at}
 use Rattle.row_borders.specs.Borders.{block_beneath}
-use Rattle.flight_facts.specs.Facts.{flight_in}
+use Rattle.sample_lines.specs.FactsOfFlights.{flight_in}
 use Rattle.border_words.specs.Beneath.{HasColumn}
 use Rattle.border_words.proofs.picture_blocks.lay_next_column.Goals as goal
 

@@ -10,7 +10,7 @@ use Rattle.progress_words.specs.Passes.{view}
 use Rattle.row_borders.specs.Borders.{Bordering}
 use Rattle.line_words.specs.Places.{UnitAt}
 use Rattle.line_words.proofs.Words.{knows_as_much}
-use Rattle.flight_facts.specs.Facts.{flight_in}
+use Rattle.sample_lines.specs.FactsOfFlights.{flight_in}
 use Rattle.border_words.proofs.Blocks.{same_beneath, two_units}
 use Rattle.border_words.proofs.Passes.{stays_counted, stays_own}
 use Rattle.border_words.proofs.Trees.{column_of_blocks, has_unit, side_of_blocks, tree_at, unit_seen}

@@ -4,7 +4,7 @@ use Rattle.spec_picture_trees.specs.Shapes.{picture_shape}
 use Rattle.spec_flights.specs.Pictures.{folded_at}
 use Rattle.progress_words.specs.Passes.{view}
 use Rattle.line_words.specs.Places.{UnitAt}
-use Rattle.flight_facts.specs.Facts.{flight_in}
+use Rattle.sample_lines.specs.FactsOfFlights.{flight_in}
 use Rattle.border_words.proofs.Trees.{column_of_blocks, has_unit, tree_at, unit_seen}
 use Rattle.border_words.proofs.picture_blocks.lay_unit_column.Goals as goal
 

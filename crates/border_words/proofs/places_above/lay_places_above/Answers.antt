@@ -9,8 +9,8 @@ use Rattle.spec_decoded_pictures.specs.Decoded.{DecodedUnits}
 use Rattle.spec_flights.specs.Pictures.{folded_at}
 use Rattle.sample_words.specs.declared.unit_content.UnitContent.TheVariants.{Modes}
 use Rattle.row_borders.specs.Next.{HasPlaces}
-use Rattle.flight_facts.specs.Facts.{flight_in}
-use Rattle.flight_facts.proofs.Laid.{picture_sizes}
+use Rattle.sample_lines.specs.FactsOfFlights.{flight_in}
+use Rattle.sample_lines.proofs.FactsOfFlights.{picture_sizes}
 use Rattle.border_words.specs.Units.{address_at, word_in}
 use Rattle.border_words.proofs.Above.{is_above, place_moved}
 use Rattle.border_words.proofs.Laying.{lowest_row, places_end, places_fit, width_is}

@@ -1,6 +1,6 @@
 use Rattle.std.proofs.Common.{rules, ◌+◌, ◌*◌, ◌∙◌}
 use Rattle.sample_words.specs.declared.unit_content.UnitContent.TheVariants.{Modes}
-use Rattle.flight_facts.specs.Facts.{flight_in}
+use Rattle.sample_lines.specs.FactsOfFlights.{flight_in}
 use Rattle.border_words.proofs.Words.{row_fits, modes_at, modes_fit, modes_inside, word_is}
 use Rattle.border_words.proofs.reading.read_modes.Goals as goal
 

@@ -1,6 +1,6 @@
 use Rattle.std.proofs.Common.{rules, ◌+◌, ◌∙◌, arith}
 use Rattle.sample_words.specs.declared.unit_content.UnitContent.TheVariants.{Offsets}
-use Rattle.flight_facts.specs.Facts.{flight_in}
+use Rattle.sample_lines.specs.FactsOfFlights.{flight_in}
 use Rattle.border_words.proofs.Words.{offsets_at, offsets_inside, word_is}
 use Rattle.border_words.proofs.reading.read_offsets.Goals as goal
 

@@ -2,7 +2,7 @@ use Rattle.std.proofs.Common.{rules, ◌+◌, ◌*◌, ◌∙◌}
 use Rattle.sample_words.specs.declared.unit_content.UnitContent.TheVariants.{Modes, Vectors}
 use Rattle.line_words.specs.Places.{number_at}
 use Rattle.line_words.proofs.Words.{knows_as_much}
-use Rattle.flight_facts.specs.Facts.{flight_in}
+use Rattle.sample_lines.specs.FactsOfFlights.{flight_in}
 use Rattle.border_words.proofs.Passes.{stays_own, stays_seen}
 use Rattle.border_words.proofs.Words.{first_at, first_fits, first_inside, offset_fits, row_fits, second_at}
 use Rattle.border_words.proofs.Words.{second_fits, second_inside, word_is}

@@ -1,6 +1,6 @@
 use Rattle.std.proofs.Common.{ap, refl, arith}
 use Rattle.spec_flights.specs.Pictures.{folded_at}
-use Rattle.flight_facts.specs.Facts.{flight_in}
+use Rattle.sample_lines.specs.FactsOfFlights.{flight_in}
 use Rattle.border_words.specs.Units.{address_at, column_at, row_at}
 use Rattle.border_words.specs.declared.kept_places.KeptPlace.{KeptPlace}
 use Rattle.border_words.proofs.Above.{place_moved}

@@ -1,6 +1,6 @@
 use Rattle.std.proofs.Common.{◌+◌}
 use Rattle.line_words.specs.Places.{number_at, words_at}
-use Rattle.flight_facts.proofs.Laid.{board_sizes}
+use Rattle.flight_waits.proofs.FactsOfFlights.{board_sizes}
 use Rattle.done_units.proofs.Passes.{counted_then, ends}
 use Rattle.done_units.proofs.finishing.finish_unit.Goals as goal
 

@@ -1,5 +1,5 @@
 use Rattle.std.proofs.Common.{arith, rules, ◌+◌, length, refl}
-use Rattle.flight_facts.proofs.Laid.{board_sizes}
+use Rattle.flight_waits.proofs.FactsOfFlights.{board_sizes}
 use Rattle.done_units.proofs.Passes.{has_written}
 use Rattle.done_units.proofs.Standing.{expected_there, index_fits, size_is}
 use Rattle.done_units.proofs.writing.write_words.Goals as goal

@@ -5,8 +5,8 @@ use Rattle.sample_words.specs.Words.{IsLine, line_number, line_units}
 use Rattle.progress_words.specs.Passes.{view}
 use Rattle.progress_words.specs.Views.{seen_of}
 use Rattle.line_words.specs.Places.{UnitAt, number_at}
-use Rattle.flight_facts.specs.Facts.{flight_in}
-use Rattle.flight_facts.specs.Flights.{samples_at}
+use Rattle.sample_lines.specs.FactsOfFlights.{flight_in}
+use Rattle.sample_lines.specs.FactsOfFlights.{samples_at}
 use Rattle.sample_lines.specs.Lines.{height_at, sample_of, width_at}
 use Rattle.filtered_rows.proofs.Beside.{lines_inside, lines_room, lines_told}
 use Rattle.filtered_rows.proofs.Laying.{part_count, part_inside, part_laid, part_size}

@@ -2,8 +2,8 @@ use Rattle.std.proofs.Common.{◌≡◌, ℕ, ◌-◌, ◌∙◌, refl, arith, a
 use Rattle.line_words.proofs.Words.{knows_as_much}
 use Rattle.deblock.specs.Windows.{at}
 use Rattle.row_filters.specs.Lines.{end_line, first_line}
-use Rattle.flight_facts.specs.Facts.{flight_in}
-use Rattle.flight_facts.specs.Flights.{samples_at}
+use Rattle.sample_lines.specs.FactsOfFlights.{flight_in}
+use Rattle.sample_lines.specs.FactsOfFlights.{samples_at}
 use Rattle.filtered_rows.specs.Components.{AreRowsCounted}
 use Rattle.filtered_rows.proofs.Beside.{lower_part, own_part, upper_part}
 use Rattle.filtered_rows.proofs.Laying.{all_laid}

@@ -3,8 +3,8 @@ use Rattle.std.specs.Prelude.{min}
 use Rattle.hv_base.specs.declared.line.Phase.{Phase}
 use Rattle.hv_base.specs.declared.line.Phase.TheVariants.{B}
 use Rattle.row_filters.specs.Lines.{HoldLines}
-use Rattle.flight_facts.specs.Facts.{flight_in}
-use Rattle.flight_facts.specs.Flights.{samples_at}
+use Rattle.sample_lines.specs.FactsOfFlights.{flight_in}
+use Rattle.sample_lines.specs.FactsOfFlights.{samples_at}
 use Rattle.filtered_rows.proofs.Own.{built_held, built_inside, built_room}
 use Rattle.filtered_rows.proofs.Sides.{in_range}
 use Rattle.filtered_rows.proofs.components.read_built_row.Goals as goal

@@ -9,8 +9,8 @@ use Rattle.progress_words.specs.Passes.{view}
 use Rattle.progress_words.specs.Rule.{IsNext}
 use Rattle.progress_words.specs.Views.{seen_of}
 use Rattle.line_words.specs.Places.{number_at}
-use Rattle.flight_facts.specs.Boards.{flight_meaning}
-use Rattle.flight_facts.specs.Facts.{flight_in}
+use Rattle.sample_lines.specs.FactsOfFlights.{flight_meaning}
+use Rattle.sample_lines.specs.FactsOfFlights.{flight_in}
 use Rattle.filtered_rows.proofs.Filtered.{read_bounded, read_then_written, row_inside, vertical_row}
 use Rattle.filtered_rows.proofs.Formats.{is_format, sides_of}
 use Rattle.filtered_rows.proofs.Sides.{row_there, vertical_other}

@@ -3,7 +3,7 @@ use Rattle.std.specs.Prelude.{min}
 use Rattle.hv_base.specs.declared.line.Line.{Line}
 use Rattle.sample_words.specs.Sizes.{rows}
 use Rattle.line_words.specs.Places.{UnitAt}
-use Rattle.flight_facts.specs.Facts.{flight_in}
+use Rattle.sample_lines.specs.FactsOfFlights.{flight_in}
 use Rattle.sample_lines.specs.Lines.{height_at, sample_of, width_at}
 use Rattle.filtered_rows.proofs.Own.{own_held, own_inside, own_size, own_told, own_whole}
 use Rattle.filtered_rows.proofs.Sides.{at_is, in_range, row_there}

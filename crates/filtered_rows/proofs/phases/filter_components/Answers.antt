@@ -10,8 +10,8 @@ use Rattle.progress_words.specs.Passes.{Knows, view}
 use Rattle.progress_words.specs.Views.{seen_of}
 use Rattle.line_words.specs.Passes.{writing_run}
 use Rattle.line_words.specs.Places.{number_at, words_at}
-use Rattle.flight_facts.specs.Boards.{flight_meaning}
-use Rattle.flight_facts.specs.Facts.{flight_in}
+use Rattle.sample_lines.specs.FactsOfFlights.{flight_meaning}
+use Rattle.sample_lines.specs.FactsOfFlights.{flight_in}
 use Rattle.sample_lines.specs.Lines.{luma_height, luma_width}
 use Rattle.sample_lines.proofs.WrittenWords.{component_next, components_all, knows_more}
 use Rattle.filtered_rows.specs.Components.{IsFormatAt}

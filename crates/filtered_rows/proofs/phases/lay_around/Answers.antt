@@ -5,7 +5,7 @@ use Rattle.row_filters.specs.Around.{place_in, unit_in}
 use Rattle.row_filters.specs.Known.{AreKept, ArePlaces, AreUnits}
 use Rattle.progress_words.specs.Passes.{view}
 use Rattle.spec_flights.specs.Pictures.{folded_at}
-use Rattle.flight_facts.specs.Facts.{flight_in}
+use Rattle.sample_lines.specs.FactsOfFlights.{flight_in}
 use Rattle.filtered_rows.specs.Phases.{IsAroundKnown}
 use Rattle.filtered_rows.proofs.Seen.{horizontal_rows, offset_rows, vertical_rows}
 use Rattle.filtered_rows.proofs.phases.lay_around.Goals as goal

@@ -9,9 +9,9 @@ use Rattle.progress_words.specs.Views.{AllSound, counting, seen_of}
 use Rattle.spec_flights.specs.Pictures.{folded_at}
 use Rattle.line_words.specs.Passes.{writing_run}
 use Rattle.line_words.specs.Places.{HasSizes, number_at, words_at}
-use Rattle.flight_facts.specs.Boards.{board_flight, flight_meaning}
-use Rattle.flight_facts.specs.Facts.{flight_in}
-use Rattle.flight_facts.proofs.Laid.{board_sizes}
+use Rattle.sample_lines.specs.FactsOfFlights.{board_flight, flight_meaning}
+use Rattle.sample_lines.specs.FactsOfFlights.{flight_in}
+use Rattle.sample_lines.proofs.FactsOfFlights.{board_sizes}
 use Rattle.filtered_rows.specs.Phases.{IsAroundKnown, IsReady}
 use Rattle.filtered_rows.proofs.Counted.{ready_next, unit_is}
 use Rattle.filtered_rows.proofs.Formats.{is_format}

@@ -2,7 +2,7 @@ use Rattle.progress_words.specs.Passes.{view}
 use Rattle.board_core.specs.Needs.{filter_needs}
 use Rattle.spec_flights.specs.Rows.{flight_rows}
 use Rattle.line_words.specs.Places.{number_at}
-use Rattle.flight_facts.specs.Facts.{flight_in}
+use Rattle.sample_lines.specs.FactsOfFlights.{flight_in}
 use Rattle.filtered_rows.proofs.Views.{holds_still, seen_more, waited_both}
 use Rattle.filtered_rows.proofs.waiting.wait_for_row.Goals as goal
 

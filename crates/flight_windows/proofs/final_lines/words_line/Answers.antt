@@ -7,7 +7,7 @@ use Rattle.inter_pred.specs.Passes.{at}
 use Rattle.sample_words.specs.Sizes.{samples_a_word}
 use Rattle.spec_flights.specs.Pictures.{PlannedFlight}
 use Rattle.spec_inter_prediction.specs.Taps.{clamped}
-use Rattle.flight_facts.specs.Facts.{flight_in}
+use Rattle.sample_lines.specs.FactsOfFlights.{flight_in}
 use Rattle.sample_lines.specs.Lines.{sample_of}
 use Rattle.flight_windows.proofs.Covering.{held_among}
 use Rattle.flight_windows.proofs.final_lines.words_line.Goals as goal

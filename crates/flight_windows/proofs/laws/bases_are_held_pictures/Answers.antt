@@ -1,7 +1,7 @@
 use Rattle.std.proofs.Common.{List, ap}
 use Rattle.spec_picture_build.specs.References.{DecodedPicture, pictures_of}
-use Rattle.picture_build.specs.Pictures.{buffer_of}
-use Rattle.flight_facts.proofs.Buffers.{bases_again}
+use Rattle.sample_lines.specs.FactsOfFlights.{buffer_of}
+use Rattle.sample_lines.proofs.FactsOfFlights.{bases_again}
 use Rattle.flight_windows.proofs.laws.bases_are_held_pictures.Goals as goal
 
 pub returns : goal.returns

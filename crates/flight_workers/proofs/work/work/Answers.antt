@@ -1,4 +1,4 @@
-use Rattle.flight_facts.proofs.Laid.{board_sizes}
+use Rattle.flight_waits.proofs.FactsOfFlights.{board_sizes}
 use Rattle.flight_workers.proofs.work.work.Goals as goal
 
 pub draw_line-requires-clause-flight : goal.draw_line-requires-clause-flight

@@ -1,4 +1,4 @@
-use Rattle.flight_facts.specs.Facts.{flight_in}
+use Rattle.sample_lines.specs.FactsOfFlights.{flight_in}
 use Rattle.spec_flights.specs.Pictures.{pictures_before}
 use Rattle.taken_pictures.proofs.Held.{held_is}
 use Rattle.taken_pictures.proofs.Places.{sizes_of}

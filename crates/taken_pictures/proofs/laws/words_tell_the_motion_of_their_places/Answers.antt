@@ -8,7 +8,7 @@ use Rattle.spec_picture_trees.specs.Places.{unit_places}
 use Rattle.spec_picture_trees.specs.Shapes.{picture_shape}
 use Rattle.spec_flights.specs.Pictures.{folded_at}
 use Rattle.spec_flights.specs.Words.{flight_sizes, values_in}
-use Rattle.flight_facts.specs.Facts.{flight_in}
+use Rattle.sample_lines.specs.FactsOfFlights.{flight_in}
 use Rattle.taken_pictures.specs.Places.{address_at, word_in}
 use Rattle.taken_pictures.specs.Rows.{side_places}
 use Rattle.taken_pictures.proofs.Places.{told_by}

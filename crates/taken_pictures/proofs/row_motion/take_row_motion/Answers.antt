@@ -7,7 +7,7 @@ use Rattle.progress_words.specs.Passes.{view}
 use Rattle.progress_words.specs.Views.{seen_of}
 use Rattle.line_words.specs.Places.{UnitAt, number_at}
 use Rattle.line_words.proofs.Words.{knows_as_much}
-use Rattle.flight_facts.specs.Facts.{flight_in}
+use Rattle.sample_lines.specs.FactsOfFlights.{flight_in}
 use Rattle.taken_pictures.specs.Places.{IsTreeUnit}
 use Rattle.taken_pictures.proofs.Passes.{stays_own, stays_seen}
 use Rattle.taken_pictures.proofs.Places.{sizes_of}

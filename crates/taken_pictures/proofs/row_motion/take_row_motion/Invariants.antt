@@ -2,7 +2,7 @@ use Rattle.std.proofs.Common.{◌≡◌, ℕ, ◌*◌, ◌/◌, ◌<◌, ◌&&�
 use Rattle.picture_buffer.specs.Motion.{HasPlaces, motions_of}
 use Rattle.spec_flights.specs.Pictures.{folded_at}
 use Rattle.progress_words.specs.Passes.{Knows, view}
-use Rattle.flight_facts.specs.Facts.{flight_in}
+use Rattle.sample_lines.specs.FactsOfFlights.{flight_in}
 use Rattle.taken_pictures.specs.Rows.{is_place_of_row, side_places}
 use Rattle.taken_pictures.proofs.row_motion.take_row_motion.Given as goal
 

@@ -6,8 +6,8 @@ use Rattle.picture_buffer.specs.Motion.{motions_of}
 use Rattle.spec_flights.specs.Pictures.{folded_at}
 use Rattle.line_words.specs.Places.{number_at}
 use Rattle.line_words.proofs.Words.{knows_as_much}
-use Rattle.flight_facts.specs.Facts.{flight_in}
-use Rattle.flight_facts.specs.Flights.{IsOfFlight}
+use Rattle.sample_lines.specs.FactsOfFlights.{flight_in}
+use Rattle.sample_lines.specs.FactsOfFlights.{IsOfFlight}
 use Rattle.taken_pictures.specs.Places.{address_at}
 use Rattle.taken_pictures.specs.Rows.{side_places}
 use Rattle.taken_pictures.proofs.Passes.{stays_own, stays_seen}

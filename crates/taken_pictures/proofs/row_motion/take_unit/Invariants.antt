@@ -2,7 +2,7 @@ use Rattle.std.proofs.Common.{◌≡◌, ℕ, ◌+◌, ◌/◌, ◌&&◌, cond, 
 use Rattle.picture_buffer.specs.Motion.{HasPlaces, motions_of}
 use Rattle.spec_flights.specs.Pictures.{folded_at}
 use Rattle.progress_words.specs.Passes.{Knows, view}
-use Rattle.flight_facts.specs.Facts.{flight_in}
+use Rattle.sample_lines.specs.FactsOfFlights.{flight_in}
 use Rattle.taken_pictures.specs.Kept.{IsOfSegment}
 use Rattle.taken_pictures.specs.Places.{column_at, row_at}
 use Rattle.taken_pictures.proofs.row_motion.take_unit.Given as goal

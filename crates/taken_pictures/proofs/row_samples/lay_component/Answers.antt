@@ -1,6 +1,6 @@
 use Rattle.std.proofs.Common.{ℕ, ◌+◌, ◌*◌, ◌∙◌}
 use Rattle.std.proofs.lemmas.List.Edits.{length-between}
-use Rattle.flight_facts.specs.Facts.{flight_in}
+use Rattle.sample_lines.specs.FactsOfFlights.{flight_in}
 use Rattle.taken_pictures.proofs.RowSamples.{are_part, part_count, part_ends, part_lines, part_room, part_value}
 use Rattle.taken_pictures.proofs.row_samples.lay_component.Goals as goal
 

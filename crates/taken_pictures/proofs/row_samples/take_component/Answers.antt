@@ -2,8 +2,8 @@ use Rattle.std.proofs.Common.{rules, ◌≡◌, ◌*◌, length, ap, ◌∙◌, 
 use Rattle.hv_base.specs.declared.line.Phase.TheVariants.{S}
 use Rattle.picture_buffer.specs.Planes.{plane_samples}
 use Rattle.picture_buffer.proofs.Lent.{others_stay}
-use Rattle.flight_facts.specs.Facts.{flight_in}
-use Rattle.flight_facts.specs.Flights.{samples_at}
+use Rattle.sample_lines.specs.FactsOfFlights.{flight_in}
+use Rattle.sample_lines.specs.FactsOfFlights.{samples_at}
 use Rattle.taken_pictures.specs.Rows.{is_line_of_row}
 use Rattle.taken_pictures.proofs.Taken.{given_at, plane_high, plane_wide, stood_at}
 use Rattle.taken_pictures.proofs.row_samples.take_component.Goals as goal

@@ -4,8 +4,8 @@ use Rattle.picture_buffer.specs.Planes.{samples_of}
 use Rattle.sample_words.specs.Contents.{component_side}
 use Rattle.line_words.specs.Places.{number_at}
 use Rattle.line_words.proofs.Words.{knows_as_much}
-use Rattle.flight_facts.specs.Facts.{flight_in}
-use Rattle.flight_facts.specs.Flights.{samples_at}
+use Rattle.sample_lines.specs.FactsOfFlights.{flight_in}
+use Rattle.sample_lines.specs.FactsOfFlights.{samples_at}
 use Rattle.taken_pictures.specs.Rows.{is_line_of_row}
 use Rattle.taken_pictures.proofs.Passes.{stays_own, stays_seen}
 use Rattle.taken_pictures.proofs.Taken.{components_all}

@@ -3,8 +3,8 @@ use Rattle.hv_base.specs.declared.line.Phase.TheVariants.{S}
 use Rattle.picture_buffer.specs.Planes.{HasSides, samples_of}
 use Rattle.sample_words.specs.Contents.{component_side}
 use Rattle.progress_words.specs.Passes.{Knows, view}
-use Rattle.flight_facts.specs.Facts.{flight_in}
-use Rattle.flight_facts.specs.Flights.{samples_at}
+use Rattle.sample_lines.specs.FactsOfFlights.{flight_in}
+use Rattle.sample_lines.specs.FactsOfFlights.{samples_at}
 use Rattle.taken_pictures.specs.Rows.{is_line_of_row}
 use Rattle.taken_pictures.proofs.row_samples.take_row_samples.Given as goal
 

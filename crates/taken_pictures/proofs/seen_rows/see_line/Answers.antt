@@ -1,6 +1,6 @@
 use Rattle.progress_words.specs.Passes.{view}
-use Rattle.flight_facts.specs.Boards.{flight_meaning}
-use Rattle.flight_facts.specs.Facts.{flight_in}
+use Rattle.sample_lines.specs.FactsOfFlights.{flight_meaning}
+use Rattle.sample_lines.specs.FactsOfFlights.{flight_in}
 use Rattle.taken_pictures.proofs.Seen.{line_below, sees_more, sound_on}
 use Rattle.taken_pictures.proofs.seen_rows.see_line.Goals as goal
 

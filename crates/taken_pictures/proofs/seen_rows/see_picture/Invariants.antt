@@ -1,8 +1,8 @@
 use Rattle.std.proofs.Common.{ℕ, ◌<◌}
 use Rattle.progress_words.specs.Passes.{IsPassOf, view}
 use Rattle.line_words.specs.Passes.{AreAllSound}
-use Rattle.flight_facts.specs.Boards.{flight_meaning}
-use Rattle.flight_facts.specs.Facts.{flight_in}
+use Rattle.sample_lines.specs.FactsOfFlights.{flight_meaning}
+use Rattle.sample_lines.specs.FactsOfFlights.{flight_in}
 use Rattle.taken_pictures.specs.Pictures.{IsBuiltAndFinal, HasSeenMore}
 use Rattle.taken_pictures.proofs.seen_rows.see_picture.Given as goal
 

@@ -11,9 +11,9 @@ use Rattle.progress_words.specs.Passes.{view}
 use Rattle.progress_words.specs.Views.{seen_of}
 use Rattle.line_words.specs.Places.{UnitAt, number_at}
 use Rattle.line_words.proofs.Words.{knows_as_much}
-use Rattle.flight_facts.specs.Boards.{flight_meaning}
-use Rattle.flight_facts.specs.Facts.{flight_in}
-use Rattle.flight_facts.specs.Flights.{samples_at}
+use Rattle.sample_lines.specs.FactsOfFlights.{flight_meaning}
+use Rattle.sample_lines.specs.FactsOfFlights.{flight_in}
+use Rattle.sample_lines.specs.FactsOfFlights.{samples_at}
 use Rattle.taken_pictures.specs.Rows.{first_line, side_places}
 use Rattle.taken_pictures.proofs.Passes.{stays_known, stays_own}
 use Rattle.taken_pictures.proofs.Pictures.{final_unit, picture_inside, picture_line, places_in, places_out, row_seen}

@@ -5,8 +5,8 @@ use Rattle.picture_buffer.specs.Planes.{HasSides, samples_of}
 use Rattle.sample_words.specs.Contents.{component_side}
 use Rattle.spec_flights.specs.Pictures.{folded_at}
 use Rattle.progress_words.specs.Passes.{Knows, view}
-use Rattle.flight_facts.specs.Facts.{flight_in}
-use Rattle.flight_facts.specs.Flights.{samples_at}
+use Rattle.sample_lines.specs.FactsOfFlights.{flight_in}
+use Rattle.sample_lines.specs.FactsOfFlights.{samples_at}
 use Rattle.taken_pictures.specs.Rows.{first_line, side_places}
 use Rattle.taken_pictures.proofs.whole_pictures.take_picture.Given as goal
 

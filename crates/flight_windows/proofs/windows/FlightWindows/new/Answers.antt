@@ -1,7 +1,7 @@
 use Rattle.std.proofs.Common.{List, ap}
 use Rattle.flight_plan.specs.declared.row_range.Reference.{Reference}
 use Rattle.spec_picture_build.specs.References.{pictures_of}
-use Rattle.flight_facts.specs.Facts.{flight_in}
+use Rattle.sample_lines.specs.FactsOfFlights.{flight_in}
 use Rattle.flight_windows.specs.Pictures.{pictures_named}
 use Rattle.flight_windows.proofs.Bases.{small_pictures}
 use Rattle.flight_windows.proofs.windows.FlightWindows.new.Goals as goal

@@ -1,5 +1,5 @@
 use Rattle.std.proofs.Common.{rules, ◌≤◌, ◌+◌, ◌*◌, pos, ◌+ℤ◌, ◌∙◌, arith}
-use Rattle.flight_facts.specs.Facts.{flight_in}
+use Rattle.sample_lines.specs.FactsOfFlights.{flight_in}
 use Rattle.flight_windows.proofs.Samples.{no_component}
 use Rattle.flight_windows.proofs.windows.FlightWindows.window_of_flight.Goals as goal
 

@@ -1,7 +1,0 @@
-use Rattle.built_rows.proofs.Rows.{earlier_reach}
-use Rattle.built_rows.proofs.reach.wait_for_reach.Goals as goal
-
-pub returns-else-source-le-LAST_ROW-clause-ready : goal.returns-else-source-le-LAST_ROW-clause-ready
-returns-else-source-le-LAST_ROW-clause-ready g c ready i d less =
-    earlier_reach c.args.picture.now.layout.now c.wait_for_earlier_pictures.new.seen c.args.at.now.line.picture
-    c.args.source.now _ (c.wait_for_earlier_pictures.ensures.ready ready) (c.requires.earlier i d less)

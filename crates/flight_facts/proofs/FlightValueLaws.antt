@@ -1,0 +1,4 @@
+-- Names of flight_value_laws that crates above take from here.
+pub use Rattle.flight_value_laws.proofs.Known.{contexts_fit, last_fits}
+pub use Rattle.flight_value_laws.proofs.Rows.{in_picture}
+pub use Rattle.flight_value_laws.proofs.Values.{values_fit}

@@ -1,0 +1,5 @@
+pub mod Alike
+pub mod Sides
+pub mod Planned
+pub mod Formats
+pub mod Viewed

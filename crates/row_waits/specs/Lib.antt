@@ -1,0 +1,3 @@
+pub mod Pictures
+pub mod Seen
+pub mod Told
