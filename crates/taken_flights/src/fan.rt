@@ -18,7 +18,9 @@ use std::thread::{Threads, join_mut};
 
 /// A pass that is back from taking pictures of a flight, and how many were taken.
 pub struct Taken {
+    /// The pass that was given, to which all that were split off are joined.
     pub pass: Pass<FlightFacts>,
+    /// How many pictures were taken, from the first on.
     pub count: u32,
 }
 
