@@ -1,5 +1,6 @@
 -- Why the first line that is left can go on.
-use Rattle.std.proofs.Common.{Bool, true, false, nat_eq, if◌then◌else◌, ℕ, ◌≡◌, ◌+◌, ◌-◌, ◌<◌, ◌≤◌, ◌⊎◌, List, [], ◌∷◌}
+use Rattle.std.proofs.Common.{Bool, true, false, nat_eq, if◌then◌else◌, ℕ, ◌≡◌, ◌+◌, ◌-◌, ◌<◌, ◌≤◌, ◌⊎◌, List, []}
+use Rattle.std.proofs.Common.{◌∷◌}
 use Rattle.std.proofs.Common.{Option, Some, None, inl, inr, length, get_or, min, arith, refl, sym, ap, subst, All}
 use Rattle.std.proofs.Common.{slice_index_or}
 use Rattle.std.proofs.lemmas.Bool.{cases_lt, eqb-false}
@@ -13,7 +14,8 @@ use Rattle.flight_plan.specs.declared.row_range.Reference.{Reference}
 use Rattle.flight_plan.specs.declared.row_range.Reference.TheVariants.{Base, Flight}
 use Rattle.flight_plan.specs.declared.row_range.RowRange.{RowRange}
 use Rattle.board_core.specs.declared.event.Event.TheVariants.{Fault}
-use Rattle.board_core.specs.Places.{delay, full_count, IsLine, line_of, lines_of, ticket_of, turn_of, unit_of, width_of}
+use Rattle.board_core.specs.Places.{delay, full_count, IsLine, line_of, lines_of, ticket_of, turn_of, unit_of}
+use Rattle.board_core.specs.Places.{width_of}
 use Rattle.board_core.specs.Needs.{build_needs, collocated_of, phase_needs, range_needs, reach_needs, read_needs}
 use Rattle.board_core.specs.Needs.{reference_needs, row_needs, rows_needs, unit_in_picture}
 use Rattle.board_core.specs.States.{CoreState, AreCounted, IsBad, IsBefore, IsBuildable, IsFilterable, IsNext}
@@ -21,7 +23,8 @@ use Rattle.board_core.specs.States.{IsReadable, IsReady, count_of, is_parsed}
 use Rattle.board_core.specs.Runs.{IsEnded, IsUnfinished}
 use Rattle.board_core.specs.Progress.{AreDone, IsLeft}
 use Rattle.board_core.proofs.Counting.{both_all, build_above, build_all, one_all, pieces_all, rows_all}
-use Rattle.board_core.proofs.Order.{earlier_phase, earlier_row, earlier_ticket, earlier_turn, earlier_unit, line_inside}
+use Rattle.board_core.proofs.Order.{earlier_phase, earlier_row, earlier_ticket, earlier_turn, earlier_unit}
+use Rattle.board_core.proofs.Order.{line_inside}
 use Rattle.board_core.proofs.Order.{same_ticket, ticket_inside}
 use Rattle.board_core.proofs.Steps.{one_unit}
 

@@ -7,8 +7,8 @@ use Rattle.std.proofs.lemmas.Int.{ints, clamps}
 use Rattle.std.proofs.lemmas.List.{get_or-map, length-map}
 use Rattle.std.specs.Int.{int_shr}
 use Rattle.std.specs.List.{Contains}
-use Rattle.block_geometry.specs.Rows.{line_in}
-use Rattle.block_geometry.proofs.Rows.{taps_between}
+use Rattle.spec_inter_prediction.specs.BlockGeometry.{line_in}
+use Rattle.spec_inter_prediction.proofs.BlockGeometryLemmas.{taps_between}
 use Rattle.board_core.specs.declared.predicted_blocks.LumaLines.{LumaLines}
 use Rattle.board_core.specs.declared.predicted_blocks.PredictedBlock.{PredictedBlock}
 use Rattle.board_core.specs.Reach.{IsLumaLines, ReadsRow, Luma, Chroma, range_of, row_of_chroma_line}

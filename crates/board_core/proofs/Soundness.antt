@@ -1,5 +1,6 @@
 -- What is counted is sound.
-use Rattle.std.proofs.Common.{ℕ, ◌≡◌, ◌+◌, ◌<◌, ◌≤◌, Bool, true, List, [], ◌∷◌, inl, inr, get_or, arith, sym, ap, subst}
+use Rattle.std.proofs.Common.{ℕ, ◌≡◌, ◌+◌, ◌<◌, ◌≤◌, Bool, true, List, [], ◌∷◌, inl, inr, get_or, arith, sym, ap}
+use Rattle.std.proofs.Common.{subst}
 use Rattle.std.proofs.Common.{◌∙◌, Option, Some, None, IfSome, min}
 use Rattle.std.proofs.lemmas.Bool.{cases_lt}
 use Rattle.flight_plan.specs.Flight.{FlightRows, IsFlight}

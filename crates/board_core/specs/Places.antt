@@ -36,14 +36,15 @@ picture_lines p = 4 * p.rows
 abbrev pub lines_of : FlightRows → ℕ
 lines_of plan = sum_by picture_lines plan.pictures
 
--- by how many rows a phase comes behind B
+-- by how many rows a phase comes behind B: whoever draws a row to filter it mostly finds it built, while the rows below
+-- are still being built
 abbrev pub delay : Phase → ℕ
 delay B = 0
-delay V = 1
-delay H = 2
-delay S = 3
+delay V = 8
+delay H = 9
+delay S = 10
 
--- the turn of a line in its picture: turn k has B(k), V(k-1), H(k-2) and S(k-3), those that exist
+-- the turn of a line in its picture: turn k has B(k), V(k-8), H(k-9) and S(k-10), those that exist
 abbrev pub turn_of : Line → ℕ
 turn_of l = l.row + delay l.phase
 
@@ -64,9 +65,9 @@ phase_lines_before rows turn d other = min rows (turn + (if nat_lt other d then 
 unfoldable pub lines_before : ℕ → ℕ → ℕ → ℕ
 lines_before rows turn d =
     phase_lines_before rows turn d 0
-    + phase_lines_before rows turn d 1
-    + phase_lines_before rows turn d 2
-    + phase_lines_before rows turn d 3
+    + phase_lines_before rows turn d 8
+    + phase_lines_before rows turn d 9
+    + phase_lines_before rows turn d 10
 
 -- a line's ticket is the number of lines that are drawn before it
 abbrev pub ticket_of : FlightRows → Line → ℕ

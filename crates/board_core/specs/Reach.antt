@@ -2,7 +2,7 @@
 use Rattle.std.specs.Prelude.{ℕ, ◌≡◌, ◌+◌, ◌*◌, ◌/◌, ◌^◌, ◌<◌, ◌≤◌, ℤ, pos, ◌+ℤ◌, ◌-ℤ◌, List, [], map, length}
 use Rattle.std.specs.Prelude.{slice_index_or}
 use Rattle.std.specs.Int.{int_shr}
-use Rattle.block_geometry.specs.Rows.{line_in, row_of_line, tap_line}
+use Rattle.spec_inter_prediction.specs.BlockGeometry.{line_in, row_of_line, tap_line}
 use Rattle.spec_inter_prediction.specs.Chroma.{chroma_first}
 use Rattle.flight_plan.specs.Flight.{FlightRows, picture_at}
 use Rattle.flight_plan.specs.declared.row_range.RowRange.{RowRange}

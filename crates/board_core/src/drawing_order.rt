@@ -8,13 +8,13 @@ use hv_base::{Line, Phase};
 /// By how many rows a phase comes behind B.
 pub fn delay_of(phase: Phase) -> u32
     ensures value { result ≡ delay phase }
-    ensures small { result ≤ 3 }
+    ensures small { result ≤ 10 }
 {
     match phase {
         Phase::B => 0,
-        Phase::V => 1,
-        Phase::H => 2,
-        Phase::S => 3,
+        Phase::V => 8,
+        Phase::H => 9,
+        Phase::S => 10,
     }
 }
 
@@ -38,9 +38,9 @@ pub fn count_before(rows: u32, turn: u32, behind: u32) -> u32
     ensures small { result ≤ 4 * rows }
 {
     phase_lines(rows, turn, behind, 0)
-        + phase_lines(rows, turn, behind, 1)
-        + phase_lines(rows, turn, behind, 2)
-        + phase_lines(rows, turn, behind, 3)
+        + phase_lines(rows, turn, behind, 8)
+        + phase_lines(rows, turn, behind, 9)
+        + phase_lines(rows, turn, behind, 10)
 }
 
 /// The line of a picture of so many rows before which `within` of the picture's lines are drawn.
@@ -64,12 +64,12 @@ pub fn line_in(picture: u32, rows: u32, within: u32) -> Line
 fn turn_at(rows: u32, within: u32) -> u32
     requires rows { rows ≤ 512 }
     requires inside { within < 4 * rows }
-    ensures turn { result < rows + 3 }
+    ensures turn { result < rows + 10 }
     ensures from { lines_before rows result 0 ≤ within }
-    ensures below { within < lines_before rows result 4 }
+    ensures below { within < lines_before rows result 11 }
 {
     let mut low = 0;
-    let mut high = rows + 3;
+    let mut high = rows + 10;
     while high - low > 1 {
         let middle = low + (high - low) / 2;
         if count_before(rows, middle, 0) <= within {
@@ -82,19 +82,20 @@ fn turn_at(rows: u32, within: u32) -> u32
 }
 
 /// The phase of that line.
+#[tactic(auto, using(crate::proofs::Drawing::next_phase))]
 fn phase_at(rows: u32, turn: u32, within: u32) -> Phase
     requires rows { rows ≤ 512 }
-    requires turn { turn < rows + 3 }
+    requires turn { turn < rows + 10 }
     requires from { lines_before rows turn 0 ≤ within }
-    requires below { within < lines_before rows turn 4 }
+    requires below { within < lines_before rows turn 11 }
     ensures from { lines_before rows turn (delay result) ≤ within }
     ensures below { within < lines_before rows turn (delay result + 1) }
 {
-    if within < count_before(rows, turn, 1) {
+    if within < count_before(rows, turn, 8) {
         Phase::B
-    } else if within < count_before(rows, turn, 2) {
+    } else if within < count_before(rows, turn, 9) {
         Phase::V
-    } else if within < count_before(rows, turn, 3) {
+    } else if within < count_before(rows, turn, 10) {
         Phase::H
     } else {
         Phase::S

@@ -3,8 +3,8 @@
 ghost use Rattle.std.specs.Prelude.{◌≡◌, ◌↔◌, IsTrue, IfOk, All};
 ghost use Rattle.board_core.specs.Reach.{IsBlock, IsLumaLines, range_of, reach_of};
 
-use block_geometry::needed_rows;
 use flight_plan::{Reference, RowRange, RowRanges};
+use spec_inter_prediction::needed_rows;
 use std::alloc::{AllocError, Global};
 
 /// The luma lines of the pictures of a flight, which are all of one size.

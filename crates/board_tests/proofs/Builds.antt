@@ -1,5 +1,6 @@
 -- What a unit's steps ask, and the values that they give.
-use Rattle.std.proofs.Common.{◌≡◌, ◌⊎◌, ℕ, zero, suc, ◌+◌, ◌-◌, ◌*◌, ◌%◌, ◌^◌, ◌<◌, ◌≤◌, List, min, get_or, Some, true}
+use Rattle.std.proofs.Common.{◌≡◌, ◌⊎◌, ℕ, zero, suc, ◌+◌, ◌-◌, ◌*◌, ◌%◌, ◌^◌, ◌<◌, ◌≤◌, List, min, get_or, Some}
+use Rattle.std.proofs.Common.{true}
 use Rattle.std.proofs.Common.{refl, sym, ap, ◌∙◌, subst, inl, inr, arith, mod-eq_of_lt, nat_lt, nat_eq}
 use Rattle.std.proofs.Math.Nat.{mod-lt}
 use Rattle.std.proofs.lemmas.Bool.Decides.{nat_tests}
@@ -10,7 +11,8 @@ use Rattle.progress_words.specs.Views.{seen_of, writing, counting, AllSound, Has
 use Rattle.progress_words.specs.Rule.{IsNext, IsNextWord, IsNextBad}
 use Rattle.progress_words.specs.Passes.{IsSeen}
 use Rattle.progress_words.proofs.Held.{same_job}
-use Rattle.board_tests.specs.Sums.{value, left_of, above_of, word_of, place, meaning_of, sound_units, fed_units, fed_by}
+use Rattle.board_tests.specs.Sums.{value, left_of, above_of, word_of, place, meaning_of, sound_units, fed_units}
+use Rattle.board_tests.specs.Sums.{fed_by}
 use Rattle.board_tests.specs.Sums.{rule_if}
 use Rattle.board_tests.specs.Lawful.{units_are}
 use Rattle.board_tests.specs.Steps.{IsAt, IsReady}

@@ -1,5 +1,6 @@
 -- No sound unit is bad, and a bad unit is one of the flight.
-use Rattle.std.specs.Prelude.{ℕ, zero, suc, ◌≡◌, ◌<◌, ◌≤◌, List, Some, None, refl, Option, Bool, true, false, ◌&&◌, min}
+use Rattle.std.specs.Prelude.{ℕ, zero, suc, ◌≡◌, ◌<◌, ◌≤◌, List, Some, None, refl, Option, Bool, true, false, ◌&&◌}
+use Rattle.std.specs.Prelude.{min}
 use Rattle.std.specs.Prelude.{slice_index, nat_lt, nat_eq}
 use Rattle.std.proofs.Common.{subst, sym, ap, ◌∙◌, arith}
 use Rattle.std.proofs.lemmas.Bool.Decides.{nat_tests}

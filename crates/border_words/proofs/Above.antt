@@ -7,7 +7,7 @@ use Rattle.plan_types.specs.declared.picture_plan.PicturePlan.{PicturePlan}
 use Rattle.spec_known_units.specs.Known.{ctu_of, units_known}
 use Rattle.spec_picture_trees.specs.Places.{unit_places}
 use Rattle.spec_picture_trees.specs.Shapes.{picture_shape}
-use Rattle.spec_decoded_pictures.specs.Decoded.{DecodedUnits}
+use Rattle.spec_flights.specs.SpecDecodedPictures.{DecodedUnits}
 use Rattle.sample_words.specs.declared.sizes.FlightSizes.{FlightSizes}
 use Rattle.sample_words.specs.declared.unit_content.UnitContent.{UnitContent}
 use Rattle.sample_words.specs.declared.unit_content.UnitContent.TheVariants.{Modes, Offsets}

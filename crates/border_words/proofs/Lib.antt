@@ -11,3 +11,7 @@ pub mod Blocks
 pub mod Trees
 pub mod Outside
 pub mod Named
+pub mod FlightValueLawsLemmas
+pub mod FlightUnitLawsLemmas
+pub mod RowBordersLemmas
+pub mod FlightFactsLemmas

@@ -2,7 +2,7 @@
 use Rattle.std.proofs.Common.{◌≡◌, ℕ, ◌+◌, ◌-◌, ◌*◌, ◌/◌, ◌%◌, ◌<◌, ◌≤◌, Bool, true, false, if◌then◌else◌}
 use Rattle.std.proofs.Common.{min, arith, ap, ◌∙◌, subst}
 use Rattle.std.specs.Prelude.{◌==◌}
-use Rattle.spec_decoded_pictures.specs.Decoded.{DecodedUnits}
+use Rattle.spec_flights.specs.SpecDecodedPictures.{DecodedUnits}
 use Rattle.spec_slice_data.specs.Residual.{samples_of_place}
 use Rattle.spec_slice_data.specs.Segment.{PictureShape}
 use Rattle.sample_words.specs.Contents.{component_side}

@@ -7,7 +7,7 @@ use Rattle.plan_types.specs.declared.picture_plan.PicturePlan.{PicturePlan}
 use Rattle.spec_picture_build.specs.Border.{unit_side, width_of as picture_width}
 use Rattle.spec_picture_trees.specs.Places.{unit_places}
 use Rattle.spec_picture_trees.specs.Shapes.{picture_shape}
-use Rattle.spec_decoded_pictures.specs.Decoded.{DecodedUnits}
+use Rattle.spec_flights.specs.SpecDecodedPictures.{DecodedUnits}
 use Rattle.spec_slice_data.specs.Residual.{samples_of_place}
 use Rattle.spec_slice_data.specs.Segment.{PictureShape}
 use Rattle.sample_words.specs.declared.sizes.FlightSizes.{FlightSizes}

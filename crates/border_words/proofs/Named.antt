@@ -7,8 +7,8 @@ use Rattle.picture_buffer.specs.Pictures.{HeldPicture}
 use Rattle.sample_lines.specs.FactsOfFlights.{buffer_of, decoded_of}
 use Rattle.spec_picture_build.specs.References.{DecodedPicture, motions_in}
 use Rattle.spec_picture_motion.specs.Field.{Motions, no_motions}
-use Rattle.spec_decoded_pictures.specs.Decoded.{decoded_by}
-use Rattle.spec_decoder.specs.Decoder.{BufferPicture, kept_as}
+use Rattle.spec_flights.specs.SpecDecodedPictures.{decoded_by}
+use Rattle.spec_flights.specs.SpecDecoderDecoder.{BufferPicture, kept_as}
 use Rattle.flight_plan.specs.declared.row_range.Reference.{Reference}
 use Rattle.flight_plan.specs.declared.row_range.Reference.TheVariants.{Base, Flight}
 use Rattle.spec_flights.specs.Pictures.{PlannedFlight, buffer_before, folded_at, folded_in, known_decoded}

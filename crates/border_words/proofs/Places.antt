@@ -13,12 +13,12 @@ use Rattle.sample_words.specs.declared.modes.PlaceModes.{PlaceModes}
 use Rattle.sample_words.specs.declared.sizes.FlightSizes.{FlightSizes}
 use Rattle.sample_words.specs.Sizes.{columns, rows}
 use Rattle.sample_words.specs.Words.{line_units}
-use Rattle.unit_words.specs.Above.{ArePlace}
+use Rattle.row_above_laws.specs.UnitWords.{ArePlace}
 use Rattle.spec_flights.specs.Pictures.{PlannedFlight, folded_at}
 use Rattle.spec_flights.specs.Rows.{is_sound, is_sound_in, is_sound_of}
 use Rattle.spec_flights.specs.Words.{flight_sizes, modes_at, values_in}
-use Rattle.flight_value_laws.specs.Motion.{kept_in, kept_motion, motion_where}
-use Rattle.flight_value_laws.proofs.Rows.{in_picture}
+use Rattle.row_above_laws.specs.FlightValueLaws.{kept_in, kept_motion, motion_where}
+use Rattle.row_above_laws.proofs.FlightValueLawsLemmas.{in_picture}
 use Rattle.sample_lines.specs.FactsOfFlights.{FlightFacts}
 use Rattle.sample_lines.specs.FactsOfFlights.{flight_in}
 use Rattle.line_words.specs.Places.{UnitAt}

@@ -8,7 +8,7 @@ use Rattle.picture_buffer.specs.declared.place_motion.PlaceMotion.{PlaceMotion}
 use Rattle.spec_picture_motion.specs.Field.{motion_of, pointing_motion}
 use Rattle.spec_picture_motion.specs.Slices.{slice_motion}
 use Rattle.sample_words.specs.declared.modes.PlaceModes.{PlaceModes}
-use Rattle.unit_words.specs.Above.{ArePlace}
+use Rattle.row_above_laws.specs.UnitWords.{ArePlace}
 use Rattle.border_words.specs.declared.kept_places.SegmentMotion.{SegmentMotion}
 
 -- what the motion of the unit at an address depends on, in the slice of a segment, where the plan has that

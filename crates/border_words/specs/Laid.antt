@@ -1,7 +1,7 @@
 -- What is laid above a row of coding tree units, place by place.
 use Rattle.std.specs.Prelude.{ℕ, ◌+◌, ◌<◌, List, slice_index}
 use Rattle.plan_types.specs.declared.picture_plan.PicturePlan.{PicturePlan}
-use Rattle.spec_decoded_pictures.specs.Decoded.{DecodedUnits}
+use Rattle.spec_flights.specs.SpecDecodedPictures.{DecodedUnits}
 use Rattle.border_words.specs.Kept.{AreOfPlace}
 
 -- words are those of so many places of a row, from a column on, as units make the picture

@@ -2,3 +2,12 @@ pub mod Kept
 pub mod Units
 pub mod Laid
 pub mod Beneath
+pub mod FlightValueLaws
+pub mod FlightFacts
+pub mod UnitTrees
+pub mod RowBorders
+pub mod PictureFilters
+pub mod UnitBuild
+pub mod PictureBuild
+pub mod FlightUnitLaws
+pub mod UnitWords

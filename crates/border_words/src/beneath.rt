@@ -31,13 +31,11 @@ use flight_plan::Reference;
 use hv_base::{Line, Phase};
 use picture_buffer::Bases;
 use picture_layout::slice_of;
-use picture_motion::collocated_entry;
 use plan_types::{PicturePlan, SegmentPlan};
 use progress_words::{Board, Pass};
-use row_borders::RowBorder;
+use row_borders::{Beside, RowBorder, collocated_entry};
 use sample_lines::{FlightFacts, names_stand_for_the_pictures_of_the_buffer};
 use sample_words::Layout;
-use unit_build::Beside;
 
 /// Lays the motion of the collocated picture of a segment's slice beneath a border's unit: none where the slice has no
 /// such picture, that of a decoded one, or of one of the flight out of its words, of which the pass has seen those of

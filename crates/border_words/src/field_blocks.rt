@@ -8,8 +8,7 @@ ghost use Rattle.row_borders.specs.Building.{IsBeneath};
 ghost use Rattle.spec_picture_trees.specs.Places.{first_column, first_row, unit_places};
 
 use picture_buffer::MotionField;
-use row_borders::RowBorder;
-use unit_build::Beside;
+use row_borders::{Beside, RowBorder};
 
 /// Lays the motion of a picture beneath a border's unit.
 pub(crate) fn lay_field(field: &MotionField, border: &mut RowBorder)

@@ -7,10 +7,10 @@ ghost use Rattle.spec_picture_trees.specs.Shapes.{picture_shape};
 
 use picture_buffer::PlaceMotion;
 use picture_layout::CodingTreeUnit;
-use picture_motion::{pointing_motion, slice_motion};
 use plan_types::PicturePlan;
+use row_above_laws::unpack_place;
+use row_borders::{pointing_motion, slice_motion};
 use spec_motion::{Motion, SliceMotion};
-use unit_words::unpack_place;
 
 /// What the motion of a unit's places depends on, in the slice of one segment of its picture.
 #[derive(Clone, Copy)]

@@ -17,8 +17,9 @@ ghost use Rattle.spec_flights.specs.Pictures.{folded_at};
 ghost use Rattle.spec_picture_trees.specs.Places.{unit_places};
 ghost use Rattle.spec_picture_trees.specs.Shapes.{picture_shape};
 
-use flight_value_laws::references_come_back;
-use row_above_laws::{expected_words_are_of_their_places, words_above_are_of_their_units};
+use row_above_laws::{
+    expected_words_are_of_their_places, references_come_back, words_above_are_of_their_units,
+};
 use sample_lines::pictures_have_the_sizes_of_their_flight;
 
 /// The two words that a flight expects of a place of a sound coding tree unit are those of a place of which its picture

@@ -21,4 +21,7 @@ mod unit_blocks;
 pub use above_row::lay_above;
 pub use beneath::lay_beneath;
 pub use reference_pictures::ReferencePictures;
+pub use row_above_laws::{DoneUnit, Edge};
+pub use row_borders::{BuiltUnit, RowBorder, Scratch, UnitSource, derive_in_row, fill_in_row};
+pub use sample_lines::{FlightFacts, set_slice};
 pub use unit_above::UnitAbove;

@@ -5,7 +5,7 @@ ghost use Rattle.border_words.specs.Laid.{AreOfPlaces};
 ghost use Rattle.row_borders.specs.Borders.{with_above};
 ghost use Rattle.row_borders.specs.Next.{HasPlaces};
 ghost use Rattle.row_borders.specs.Strips.{with_places};
-ghost use Rattle.spec_decoded_pictures.specs.Decoded.{DecodedUnits};
+ghost use Rattle.spec_flights.specs.SpecDecodedPictures.{DecodedUnits};
 ghost use Rattle.spec_picture_trees.specs.Places.{unit_places};
 ghost use Rattle.spec_picture_trees.specs.Shapes.{picture_shape};
 
@@ -13,9 +13,8 @@ use crate::kept_places::{SegmentMotion, keep_place};
 use crate::unit_above::UnitAbove;
 use picture_layout::CodingTreeUnit;
 use plan_types::PicturePlan;
-use row_borders::RowBorder;
+use row_borders::{Beside, RowBorder};
 use sample_words::unpack_modes;
-use unit_build::Beside;
 
 /// Lays the motion and the coded flags of a unit's lowest places above the row below the unit, from a column of the
 /// picture on, by the words of the places.

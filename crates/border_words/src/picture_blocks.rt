@@ -26,10 +26,9 @@ use hv_base::Line;
 use line_words::UnitPlace;
 use plan_types::PicturePlan;
 use progress_words::{Board, Pass};
-use row_borders::RowBorder;
+use row_borders::{Beside, RowBorder};
 use sample_lines::FlightFacts;
 use sample_words::Layout;
-use unit_build::Beside;
 
 /// Lays the motion of a picture of the flight beneath a border's unit: of the unit at the same place, and of the one
 /// behind it. All units of its row are sound, and the pass has seen them counted.

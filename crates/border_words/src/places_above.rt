@@ -26,10 +26,9 @@ use crate::unit_above::UnitAbove;
 use line_words::UnitPlace;
 use plan_types::PicturePlan;
 use progress_words::{Board, Pass};
-use row_borders::RowBorder;
+use row_borders::{Beside, RowBorder};
 use sample_lines::FlightFacts;
 use sample_words::Layout;
-use unit_build::Beside;
 
 /// The words of the lowest places of a unit, and of its sample adaptive offset.
 fn read_lowest(

@@ -2,18 +2,18 @@
 
 ghost use Rattle.std.specs.Prelude.{◌≡◌, ℕ, ◌+◌, ◌*◌, ◌<◌, Some, slice_get};
 ghost use Rattle.border_words.specs.Units.{IsAboveOf};
-ghost use Rattle.flight_value_laws.specs.Ranges.{IsInRange};
+ghost use Rattle.row_above_laws.specs.FlightValueLaws.{IsInRange};
 ghost use Rattle.header_types.specs.SequenceParameterSets.{height_in_ctbs, width_in_ctbs};
 ghost use Rattle.plan_types.specs.declared.picture_plan.PicturePlan.{PicturePlan};
 ghost use Rattle.spec_flights.specs.Pictures.{PlannedFlight};
 ghost use Rattle.spec_known_units.specs.Known.{ctu_of, units_known};
 ghost use Rattle.spec_picture_trees.specs.Places.{unit_places};
 ghost use Rattle.spec_picture_trees.specs.Shapes.{picture_shape};
-ghost use Rattle.unit_trees.specs.Edges.{bottom_of};
+ghost use Rattle.row_above_laws.specs.UnitTrees.{bottom_of};
 
-use row_above_laws::{expected_words_are_of_their_places, words_above_are_of_their_units};
-use unit_trees::Edge;
-use unit_words::unpack_bottom;
+use row_above_laws::{
+    Edge, expected_words_are_of_their_places, unpack_bottom, words_above_are_of_their_units,
+};
 
 /// Words of a unit that has another one below it: of the modes of its lowest places of 4x4 luma samples, from the left
 /// one on, and of its sample adaptive offset.

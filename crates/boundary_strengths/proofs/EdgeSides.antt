@@ -1,6 +1,6 @@
 -- The strength of an edge, from what is known on both sides.
 use Rattle.std.proofs.Common.{◌≡◌, ℕ, Bool, true, false, ◌&&◌, ◌||◌, refl, sym, ◌∙◌, Option, ℤ, if◌then◌else◌}
-use Rattle.picture_buffer.specs.declared.place_motion.PlaceMotion.{PlaceMotion}
+use Rattle.spec_boundary_strengths.specs.PictureBuffer.{PlaceMotion}
 use Rattle.spec_boundary_strengths.specs.declared.place.UnitPlace.{UnitPlace}
 use Rattle.spec_boundary_strengths.specs.Strengths.{strength}
 

@@ -4,8 +4,7 @@ ghost use Rattle.std.specs.Prelude.{◌≡◌, ◌≤◌};
 ghost use Rattle.spec_boundary_strengths.specs.Motion.{are_apart, differ, differ_by_two, motion_strength, one_apart};
 ghost use Rattle.spec_boundary_strengths.specs.Motion.{same_picture, vectors};
 
-use picture_buffer::{PlaceMotion, PlaceVector};
-use spec_boundary_strengths::Vectors;
+use spec_boundary_strengths::{PlaceMotion, PlaceVector, Vectors};
 
 /// bS by motion alone.
 #[tactic(auto, unfolding(spec_boundary_strengths::specs::Motion::motion_strength))]

@@ -2,7 +2,7 @@
 
 ghost use Rattle.std.specs.Prelude.{◌≡◌, ℕ, ◌+◌, ◌<◌, ◌≤◌, Bool, ◌&&◌, ◌||◌, List, Option};
 ghost use Rattle.ctu_records.specs.declared.item.Item.{Item};
-ghost use Rattle.picture_buffer.specs.declared.place_motion.PlaceMotion.{PlaceMotion};
+ghost use Rattle.spec_boundary_strengths.specs.PictureBuffer.{PlaceMotion};
 ghost use Rattle.spec_boundary_strengths.specs.Strengths.{coded_around, is_filtered, left_strength, strength};
 ghost use Rattle.spec_boundary_strengths.specs.Strengths.{top_strength};
 ghost use Rattle.boundary_strengths.specs.Held.{AreMarked, beside_of};
@@ -11,7 +11,7 @@ use crate::apart::motion_strength;
 use crate::marks::Marks;
 use crate::motions::PlaceMotions;
 use crate::sides::UnitSides;
-use picture_buffer::PlaceMotion;
+use spec_boundary_strengths::PlaceMotion;
 
 /// bS of the left side of a place of this motion.
 pub(crate) fn left_strength<V: PlaceMotions>(

@@ -14,3 +14,4 @@ pub use apart::motion_strength;
 pub use motions::PlaceMotions;
 pub use places::unit_places;
 pub use sides::UnitSides;
+pub use spec_boundary_strengths::UnitPlace;

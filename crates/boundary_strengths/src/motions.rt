@@ -1,9 +1,9 @@
 //! The motion of places.
 
 ghost use Rattle.std.specs.Prelude.{◌≡◌, ◌≤◌, ℕ, Option};
-ghost use Rattle.picture_buffer.specs.declared.place_motion.PlaceMotion.{PlaceMotion};
+ghost use Rattle.spec_boundary_strengths.specs.PictureBuffer.{PlaceMotion};
 
-use picture_buffer::PlaceMotion;
+use spec_boundary_strengths::PlaceMotion;
 
 /// The motion of a coding tree unit and beside it.
 pub trait PlaceMotions {

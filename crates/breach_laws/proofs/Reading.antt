@@ -5,7 +5,7 @@ use Rattle.std.specs.List.{list_all}
 use Rattle.hv_base.specs.declared.breach.Breach.{Breach}
 use Rattle.hv_base.specs.declared.breach.Breach.TheVariants as breach
 use Rattle.hv_base.specs.declared.fault.FaultKind.TheVariants as rule
-use Rattle.plan_types.specs.declared.picture_plan.PicturePlan.{PicturePlan}
+use Rattle.spec_known_units.specs.PlanTypes.{PicturePlan}
 use Rattle.ctu_records.specs.Tree.{Ctu}
 use Rattle.spec_cabac.specs.Engine.{Engine}
 use Rattle.spec_cabac.specs.Bins.{State, data_end, read}
@@ -13,7 +13,7 @@ use Rattle.spec_slice_data.specs.declared.syntax.End.{End}
 use Rattle.spec_slice_data.specs.Segment.{Between, PictureShape, before_unit, begins_substream, behind_unit}
 use Rattle.spec_slice_data.specs.Segment.{contexts_before, judged_end, qp_before, read_unit, restarted}
 use Rattle.spec_slice_data.specs.Segment.{then_unit, unit_at, unit_step}
-use Rattle.spec_picture_trees.specs.Picture.{SegmentAt}
+use Rattle.spec_known_units.specs.SpecPictureTrees.{SegmentAt}
 use Rattle.spec_known_units.specs.Known.{Entries, KnownUnit, behind_step, between_from}
 use Rattle.spec_known_units.specs.Known.{entries_before, picture_segments}
 use Rattle.spec_known_units.specs.Known.{read_in, read_uses, segment_having, unit_read}

@@ -2,9 +2,9 @@
 
 ghost use Rattle.std.specs.Prelude.{◌≡◌, ℕ, Err, Some};
 ghost use Rattle.hv_base.specs.declared.breach.Breach.{Breach};
-ghost use Rattle.plan_types.specs.declared.picture_plan.PicturePlan.{PicturePlan};
+ghost use Rattle.spec_known_units.specs.PlanTypes.{PicturePlan};
 ghost use Rattle.spec_slice_data.specs.Segment.{Between, unit_step};
-ghost use Rattle.spec_picture_trees.specs.Picture.{SegmentAt};
+ghost use Rattle.spec_known_units.specs.SpecPictureTrees.{SegmentAt};
 ghost use Rattle.spec_known_units.specs.Known.{Entries, unit_read};
 ghost use Rattle.rule_numbers.specs.Rules.{IsDataRule};
 

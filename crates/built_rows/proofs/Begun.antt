@@ -1,13 +1,13 @@
 -- A builder that stands at a unit of a row.
 use Rattle.std.proofs.Common.{◌≡◌, ◌<◌, sym, subst, arith}
 use Rattle.header_types.specs.SequenceParameterSets.{width_in_ctbs}
-use Rattle.picture_build.specs.Formats.{IsCommon}
+use Rattle.border_words.specs.PictureBuild.{IsCommon}
 use Rattle.spec_reconstruction.specs.Sound.{IsFormat}
-use Rattle.row_trees.specs.Reading.{OfSegment, StandsBefore}
+use Rattle.row_waits.specs.RowTrees.{OfSegment, StandsBefore}
 use Rattle.progress_words.specs.declared.view.View.{View}
 use Rattle.line_words.specs.Places.{UnitAt, number_at}
-use Rattle.flight_facts.specs.declared.flight_facts.FlightFacts.{FlightFacts}
-use Rattle.flight_waits.specs.Waits.{AreAllKnown, HasWaited, HoldsUnit}
+use Rattle.border_words.specs.FlightFacts.{FlightFacts}
+use Rattle.done_units.specs.FlightWaits.{AreAllKnown, HasWaited, HoldsUnit}
 use Rattle.row_waits.specs.declared.picture_view.PictureView.{PictureView}
 use Rattle.row_waits.specs.Pictures.{IsPictureOf, IsUnitOf, address_in}
 use Rattle.row_waits.specs.Seen.{HasSeenFlags}

@@ -15,10 +15,10 @@ use Rattle.progress_words.specs.Passes.{Knows, view}
 use Rattle.progress_words.specs.Places.{Place}
 use Rattle.progress_words.specs.Views.{seen_of}
 use Rattle.line_words.specs.Places.{IsUnit, UnitAt}
-use Rattle.row_trees.specs.declared.row_reader.RowReader.{RowReader}
-use Rattle.row_trees.specs.Reading.{BeginsAlone, CarriesBehind, OfSegment, StandsBefore}
-use Rattle.flight_facts.specs.declared.flight_facts.FlightFacts.{FlightFacts}
-use Rattle.flight_facts.specs.Facts.{flight_in}
+use Rattle.row_waits.specs.RowTrees.{RowReader}
+use Rattle.row_waits.specs.RowTrees.{BeginsAlone, CarriesBehind, OfSegment, StandsBefore}
+use Rattle.border_words.specs.FlightFacts.{FlightFacts}
+use Rattle.border_words.specs.FlightFacts.{flight_in}
 use Rattle.row_waits.specs.declared.picture_view.PictureView.{PictureView}
 use Rattle.row_waits.specs.Pictures.{address_in}
 use Rattle.built_rows.specs.declared.row_builder.RowBuilder.{RowBuilder}

@@ -8,7 +8,7 @@ use Rattle.plan_types.specs.declared.segment_plan.SegmentPlan.{SegmentPlan}
 use Rattle.ctu_records.specs.Tree.{Ctu}
 use Rattle.ctu_motion.specs.Held.{held}
 use Rattle.picture_layout.specs.declared.coding_tree_unit.CodingTreeUnit.{CodingTreeUnit}
-use Rattle.picture_filters.specs.Filtering.{IsUnit as IsUnitIn}
+use Rattle.border_words.specs.PictureFilters.{IsUnit as IsUnitIn}
 use Rattle.picture_buffer.specs.Motion.{FieldPlaces}
 use Rattle.spec_motion.specs.Units.{IsPlacedItem}
 use Rattle.spec_slice_data.specs.Segment.{PictureShape, row_of}
@@ -22,20 +22,20 @@ use Rattle.spec_picture_build.specs.References.{motions_of}
 use Rattle.spec_decoded_pictures.specs.Decoded.{DecodedUnits}
 use Rattle.spec_reconstruction.specs.declared.format.UnitFormat.{UnitFormat}
 use Rattle.spec_reconstruction.specs.Sound.{IsFormat}
-use Rattle.picture_build.specs.Formats.{IsCommon, of_slice}
+use Rattle.border_words.specs.PictureBuild.{IsCommon, of_slice}
 use Rattle.board_core.specs.Needs.{collocated_of, row_needs}
 use Rattle.spec_flights.specs.Pictures.{pictures_before}
 use Rattle.spec_flights.specs.Rows.{flight_rows}
-use Rattle.row_borders.specs.Borders.{Bordering, at_unit, with_beneath}
-use Rattle.row_borders.specs.Building.{IsAbove, IsAtLeft, IsBeneath, IsBeside, IsDerived, tree_unit}
-use Rattle.row_borders.specs.Next.{IsLaid}
-use Rattle.row_borders.proofs.Laid.{laid_above}
-use Rattle.unit_build.specs.declared.built.BuiltUnit.{BuiltUnit}
+use Rattle.border_words.specs.RowBorders.{Bordering, at_unit, with_beneath}
+use Rattle.border_words.specs.RowBorders.{IsAbove, IsAtLeft, IsBeneath, IsBeside, IsDerived, tree_unit}
+use Rattle.border_words.specs.RowBorders.{IsLaid}
+use Rattle.border_words.proofs.RowBordersLemmas.{laid_above}
+use Rattle.border_words.specs.UnitBuild.{BuiltUnit}
 use Rattle.progress_words.specs.declared.view.View.{View}
 use Rattle.line_words.specs.Places.{IsUnit, UnitAt}
-use Rattle.flight_facts.specs.declared.flight_facts.FlightFacts.{FlightFacts}
-use Rattle.flight_facts.specs.Facts.{flight_in}
-use Rattle.flight_waits.specs.Waits.{AreSeen}
+use Rattle.border_words.specs.FlightFacts.{FlightFacts}
+use Rattle.border_words.specs.FlightFacts.{flight_in}
+use Rattle.done_units.specs.FlightWaits.{AreSeen}
 use Rattle.row_waits.specs.declared.picture_view.PictureView.{PictureView}
 use Rattle.row_waits.specs.Pictures.{IsPictureOf, IsUnitOf, address_in}
 use Rattle.built_rows.specs.declared.row_builder.RowBuilder.{RowBuilder}

@@ -15,9 +15,9 @@ use Rattle.progress_words.specs.Passes.{HasStopped, IsPassOf, Knows, view}
 use Rattle.progress_words.specs.Places.{Place}
 use Rattle.progress_words.specs.Views.{seen_of}
 use Rattle.line_words.specs.Places.{UnitAt}
-use Rattle.flight_facts.specs.declared.flight_facts.FlightFacts.{FlightFacts}
-use Rattle.flight_facts.specs.Boards.{rule_at, rule_in, rule_of}
-use Rattle.flight_waits.specs.Waits.{AreAllKnown, HasSameParts}
+use Rattle.border_words.specs.FlightFacts.{FlightFacts}
+use Rattle.border_words.specs.FlightFacts.{rule_at, rule_in, rule_of}
+use Rattle.done_units.specs.FlightWaits.{AreAllKnown, HasSameParts}
 use Rattle.row_waits.specs.declared.picture_view.PictureView.{PictureView}
 use Rattle.row_waits.specs.Pictures.{address_in}
 use Rattle.row_waits.proofs.Rows.{rows_stay}

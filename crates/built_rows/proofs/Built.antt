@@ -14,16 +14,16 @@ use Rattle.board_core.specs.Uses.{UnitUses}
 use Rattle.spec_flights.specs.Pictures.{PlannedFlight, folded_at}
 use Rattle.spec_flights.specs.References.{given_at}
 use Rattle.spec_flights.specs.Rows.{flight_rows}
-use Rattle.flight_unit_laws.specs.Planned.{IsPlanned}
-use Rattle.flight_unit_laws.specs.Uses.{AgreeWhereUsed, BuffersAgree}
-use Rattle.flight_unit_laws.proofs.Reaching.{built_from_uses}
-use Rattle.flight_unit_laws.proofs.Halves.{halves_before}
-use Rattle.flight_packing_laws.proofs.Agreeing.{also_held}
-use Rattle.flight_windows.specs.Pictures.{seen_pictures}
-use Rattle.flight_windows.specs.Seen.{SeenFlags, is_seen}
-use Rattle.flight_windows.proofs.Agreeing.{seen_agree}
-use Rattle.row_borders.specs.Building.{HoldsUnit}
-use Rattle.unit_build.specs.declared.built.BuiltUnit.{BuiltUnit}
+use Rattle.border_words.specs.FlightUnitLaws.{IsPlanned}
+use Rattle.border_words.specs.FlightUnitLaws.{AgreeWhereUsed, BuffersAgree}
+use Rattle.border_words.proofs.FlightUnitLawsLemmas.{built_from_uses}
+use Rattle.border_words.proofs.FlightUnitLawsLemmas.{halves_before}
+use Rattle.done_units.proofs.FlightPackingLawsLemmas.{also_held}
+use Rattle.row_waits.specs.FlightWindows.{seen_pictures}
+use Rattle.row_waits.specs.FlightWindows.{SeenFlags, is_seen}
+use Rattle.row_waits.proofs.FlightWindowsLemmas.{seen_agree}
+use Rattle.border_words.specs.RowBorders.{HoldsUnit}
+use Rattle.border_words.specs.UnitBuild.{BuiltUnit}
 use Rattle.ctu_records.specs.Tree.{Ctu}
 use Rattle.spec_picture_build.specs.Format.{unit_format}
 use Rattle.spec_picture_build.specs.References.{motions_of}
@@ -34,11 +34,11 @@ use Rattle.spec_picture_trees.specs.Shapes.{slice_start}
 use Rattle.spec_reconstruction.specs.declared.format.UnitFormat.{UnitFormat}
 use Rattle.spec_reconstruction.specs.Sound.{AreSound}
 use Rattle.spec_flights.specs.Pictures.{pictures_before}
-use Rattle.row_borders.specs.Building.{IsBeneath, IsBeside, tree_unit}
+use Rattle.border_words.specs.RowBorders.{IsBeneath, IsBeside, tree_unit}
 use Rattle.progress_words.specs.declared.view.View.{View}
 use Rattle.line_words.specs.Places.{IsUnit, UnitAt}
-use Rattle.flight_facts.specs.declared.flight_facts.FlightFacts.{FlightFacts}
-use Rattle.flight_facts.specs.Facts.{flight_in}
+use Rattle.border_words.specs.FlightFacts.{FlightFacts}
+use Rattle.border_words.specs.FlightFacts.{flight_in}
 use Rattle.row_waits.specs.declared.picture_view.PictureView.{PictureView}
 use Rattle.row_waits.specs.Pictures.{IsPictureOf, IsUnitOf, address_in}
 use Rattle.built_rows.specs.declared.row_builder.RowBuilder.{RowBuilder}

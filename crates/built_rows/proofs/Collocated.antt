@@ -16,9 +16,9 @@ use Rattle.line_words.specs.Places.{IsUnit, UnitAt}
 use Rattle.spec_flights.specs.References.{collocated_by, names_before, segment_of}
 use Rattle.spec_flights.specs.Rows.{flight_rows, is_sound}
 use Rattle.picture_layout.specs.declared.coding_tree_unit.CodingTreeUnit.{CodingTreeUnit}
-use Rattle.flight_facts.specs.declared.flight_facts.FlightFacts.{FlightFacts}
-use Rattle.flight_facts.specs.Facts.{flight_in}
-use Rattle.flight_waits.specs.Waits.{AreAllKnown, AreSeen}
+use Rattle.border_words.specs.FlightFacts.{FlightFacts}
+use Rattle.border_words.specs.FlightFacts.{flight_in}
+use Rattle.done_units.specs.FlightWaits.{AreAllKnown, AreSeen}
 use Rattle.row_waits.specs.declared.picture_view.PictureView.{PictureView}
 use Rattle.row_waits.specs.Pictures.{IsPictureOf, IsUnitOf, address_in}
 use Rattle.row_waits.proofs.CollocatedRows.{collocated_earlier, collocated_is, row_counted, row_sound}

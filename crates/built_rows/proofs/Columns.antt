@@ -6,9 +6,9 @@ use Rattle.progress_words.specs.Passes.{IsPassOf, view}
 use Rattle.progress_words.specs.Places.{Place}
 use Rattle.progress_words.specs.Views.{HasEnded}
 use Rattle.line_words.specs.Places.{UnitAt}
-use Rattle.flight_facts.specs.declared.flight_facts.FlightFacts.{FlightFacts}
-use Rattle.flight_facts.specs.Boards.{flight_meaning}
-use Rattle.flight_facts.specs.Facts.{flight_in}
+use Rattle.border_words.specs.FlightFacts.{FlightFacts}
+use Rattle.border_words.specs.FlightFacts.{flight_meaning}
+use Rattle.border_words.specs.FlightFacts.{flight_in}
 use Rattle.row_waits.specs.declared.picture_view.PictureView.{PictureView}
 use Rattle.built_rows.specs.declared.row_builder.RowBuilder.{RowBuilder}
 use Rattle.built_rows.specs.Stages.{GoesOn, IsWorking, StandsAt, next_of, unit_in}

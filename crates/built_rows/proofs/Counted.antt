@@ -24,16 +24,16 @@ use Rattle.flight_lines.specs.Flights.{meaning_of}
 use Rattle.flight_lines.specs.Numbers.{numbered_needs}
 use Rattle.flight_lines.proofs.Numbered.{line_again, number_of_words, units_are}
 use Rattle.line_words.specs.Places.{IsUnit, UnitAt, number_at}
-use Rattle.row_borders.specs.Borders.{with_left}
+use Rattle.border_words.specs.RowBorders.{with_left}
 use Rattle.spec_known_units.specs.Known.{units_known}
 use Rattle.spec_flights.specs.Pictures.{PlannedFlight}
 use Rattle.spec_flights.specs.Rows.{flight_rows, is_sound, is_sound_in, is_sound_of}
-use Rattle.flight_facts.specs.declared.flight_facts.FlightFacts.{FlightFacts}
-use Rattle.flight_facts.specs.Boards.{flight_meaning}
-use Rattle.flight_facts.specs.Facts.{flight_in}
-use Rattle.flight_facts.specs.Flights.{IsOfFlight}
-use Rattle.flight_waits.specs.Waits.{AreAllKnown, AreSeen, HasSameParts, HoldsUnit}
-use Rattle.flight_waits.proofs.Waited.{line_there, sized}
+use Rattle.border_words.specs.FlightFacts.{FlightFacts}
+use Rattle.border_words.specs.FlightFacts.{flight_meaning}
+use Rattle.border_words.specs.FlightFacts.{flight_in}
+use Rattle.border_words.specs.FlightFacts.{IsOfFlight}
+use Rattle.done_units.specs.FlightWaits.{AreAllKnown, AreSeen, HasSameParts, HoldsUnit}
+use Rattle.done_units.proofs.FlightWaitsLemmas.{line_there, sized}
 use Rattle.row_waits.specs.declared.picture_view.PictureView.{PictureView}
 use Rattle.row_waits.specs.Pictures.{IsPictureOf, IsUnitOf, address_in}
 use Rattle.row_waits.proofs.Rows.{rows_stay}

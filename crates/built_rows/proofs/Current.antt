@@ -8,7 +8,7 @@ use Rattle.flight_plan.specs.Flight.{IsNoneOrEarlier}
 use Rattle.spec_flights.specs.References.{collocated_by}
 use Rattle.progress_words.specs.declared.view.View.{View}
 use Rattle.line_words.specs.Places.{IsUnit, UnitAt}
-use Rattle.flight_facts.specs.declared.flight_facts.FlightFacts.{FlightFacts}
+use Rattle.border_words.specs.FlightFacts.{FlightFacts}
 use Rattle.row_waits.specs.declared.picture_view.PictureView.{PictureView}
 use Rattle.row_waits.specs.Pictures.{IsPictureOf, IsUnitOf, address_in}
 use Rattle.built_rows.specs.declared.row_builder.RowBuilder.{RowBuilder}

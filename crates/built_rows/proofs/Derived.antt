@@ -3,9 +3,9 @@ use Rattle.std.proofs.Common.{◌≡◌, ℕ, ◌<◌, ◌≤◌, true, All, Som
 use Rattle.hv_base.specs.declared.line.Phase.TheVariants.{B}
 use Rattle.plan_types.specs.declared.segment_plan.SegmentPlan.{SegmentPlan}
 use Rattle.ctu_motion.specs.Held.{held}
-use Rattle.picture_build.specs.Formats.{of_slice}
-use Rattle.picture_build.specs.Pictures.{buffer_of}
-use Rattle.picture_filters.specs.Filtering.{IsUnit as IsUnitIn}
+use Rattle.border_words.specs.PictureBuild.{of_slice}
+use Rattle.border_words.specs.PictureBuild.{buffer_of}
+use Rattle.border_words.specs.PictureFilters.{IsUnit as IsUnitIn}
 use Rattle.spec_motion.specs.Units.{IsPlacedItem}
 use Rattle.spec_slice_data.specs.Segment.{row_of}
 use Rattle.spec_picture_trees.specs.Shapes.{slice_start}
@@ -23,18 +23,18 @@ use Rattle.sample_words.specs.Words.{line_number}
 use Rattle.spec_flights.specs.Pictures.{pictures_before}
 use Rattle.spec_flights.specs.References.{collocated_by, names_before, segment_of}
 use Rattle.spec_flights.specs.Rows.{flight_rows, is_sound}
-use Rattle.row_borders.specs.Borders.{Bordering, with_beneath}
-use Rattle.row_borders.specs.Building.{IsBeneath, IsBeside, IsDerived, tree_unit}
-use Rattle.unit_build.specs.declared.built.BuiltUnit.{BuiltUnit}
+use Rattle.border_words.specs.RowBorders.{Bordering, with_beneath}
+use Rattle.border_words.specs.RowBorders.{IsBeneath, IsBeside, IsDerived, tree_unit}
+use Rattle.border_words.specs.UnitBuild.{BuiltUnit}
 use Rattle.progress_words.specs.declared.pass.Pass.{Pass}
 use Rattle.progress_words.specs.declared.view.View.{View}
 use Rattle.progress_words.specs.Passes.{IsPassOf, Knows, view}
 use Rattle.progress_words.specs.Places.{Place}
 use Rattle.progress_words.specs.Views.{seen_of}
 use Rattle.line_words.specs.Places.{IsUnit, UnitAt}
-use Rattle.flight_facts.specs.declared.flight_facts.FlightFacts.{FlightFacts}
-use Rattle.flight_facts.specs.Facts.{flight_in}
-use Rattle.flight_waits.specs.Waits.{AreSeen}
+use Rattle.border_words.specs.FlightFacts.{FlightFacts}
+use Rattle.border_words.specs.FlightFacts.{flight_in}
+use Rattle.done_units.specs.FlightWaits.{AreSeen}
 use Rattle.border_words.specs.Beneath.{AreReferences}
 use Rattle.border_words.specs.declared.reference_pictures.ReferencePictures.{ReferencePictures}
 use Rattle.row_waits.specs.declared.picture_view.PictureView.{PictureView}

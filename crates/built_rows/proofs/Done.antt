@@ -3,14 +3,14 @@ use Rattle.std.proofs.Common.{◌≡◌, ℕ, ◌+◌, ◌*◌, ◌<◌, Some, a
 use Rattle.header_types.specs.SequenceParameterSets.{height_in_ctbs, width_in_ctbs}
 use Rattle.plan_types.specs.declared.picture_plan.PicturePlan.{PicturePlan}
 use Rattle.spec_known_units.specs.Known.{KnownUnit, units_known}
-use Rattle.unit_words.specs.declared.done_unit.DoneUnit.{DoneUnit}
-use Rattle.row_trees.specs.Reading.{IsReadAs}
-use Rattle.row_borders.specs.Building.{HoldsUnit}
+use Rattle.border_words.specs.UnitWords.{DoneUnit}
+use Rattle.row_waits.specs.RowTrees.{IsReadAs}
+use Rattle.border_words.specs.RowBorders.{HoldsUnit}
 use Rattle.spec_flights.specs.Pictures.{folded_at}
-use Rattle.flight_packing_laws.specs.Done.{unit_address}
+use Rattle.done_units.specs.FlightPackingLaws.{unit_address}
 use Rattle.line_words.specs.Places.{IsUnit, UnitAt}
-use Rattle.flight_facts.specs.declared.flight_facts.FlightFacts.{FlightFacts}
-use Rattle.flight_facts.specs.Facts.{flight_in}
+use Rattle.border_words.specs.FlightFacts.{FlightFacts}
+use Rattle.border_words.specs.FlightFacts.{flight_in}
 use Rattle.done_units.specs.Done.{IsDoneAt}
 use Rattle.row_waits.specs.declared.picture_view.PictureView.{PictureView}
 use Rattle.row_waits.specs.Pictures.{IsPictureOf, IsUnitOf, address_in}

@@ -19,11 +19,11 @@ use Rattle.sample_words.specs.declared.carry.Carry.{Carry}
 use Rattle.spec_flights.specs.Pictures.{PlannedFlight}
 use Rattle.spec_flights.specs.Rows.{is_sound, is_sound_of}
 use Rattle.spec_flights.specs.Words.{carried_behind}
-use Rattle.flight_value_laws.proofs.Within.{shape_of}
-use Rattle.unit_trees.specs.declared.edges.Edge.{Edge}
-use Rattle.unit_trees.specs.declared.units.UnitReader.{UnitReader}
-use Rattle.row_trees.specs.Reading.{BeginsAlone, CarriesBehind, OfSegment, StandsBefore, known_to}
-use Rattle.row_borders.specs.Borders.{Bordering}
+use Rattle.border_words.proofs.FlightValueLawsLemmas.{shape_of}
+use Rattle.border_words.specs.UnitTrees.{Edge}
+use Rattle.border_words.specs.UnitTrees.{UnitReader}
+use Rattle.row_waits.specs.RowTrees.{BeginsAlone, CarriesBehind, OfSegment, StandsBefore, known_to}
+use Rattle.border_words.specs.RowBorders.{Bordering}
 use Rattle.built_rows.specs.Stages.{IsLeftOf, IsStored}
 
 -- no place is on the left of the first column

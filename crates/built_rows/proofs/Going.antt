@@ -5,8 +5,8 @@ use Rattle.progress_words.specs.declared.view.View.{View}
 use Rattle.progress_words.specs.Passes.{IsPassOf, Knows, view}
 use Rattle.progress_words.specs.Places.{Place}
 use Rattle.progress_words.specs.Views.{seen_of}
-use Rattle.flight_facts.specs.declared.flight_facts.FlightFacts.{FlightFacts}
-use Rattle.flight_waits.specs.Waits.{AreAllKnown, HasSameParts, HasWaited}
+use Rattle.border_words.specs.FlightFacts.{FlightFacts}
+use Rattle.done_units.specs.FlightWaits.{AreAllKnown, HasSameParts, HasWaited}
 use Rattle.row_waits.specs.declared.picture_view.PictureView.{PictureView}
 use Rattle.built_rows.specs.declared.row_builder.RowBuilder.{RowBuilder}
 use Rattle.built_rows.specs.Stages.{GoesOn, IsReadyFor}

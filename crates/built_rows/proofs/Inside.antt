@@ -2,7 +2,8 @@
 use Rattle.std.proofs.Common.{◌≡◌, ℕ, ◌<◌, ◌≤◌, Some, length, slice_get, refl, ap, sym, subst, ◌∙◌, arith}
 use Rattle.hv_base.specs.declared.line.Phase.{Phase}
 use Rattle.hv_base.specs.declared.line.Phase.TheVariants.{B}
-use Rattle.header_types.specs.SequenceParameterSets.{IsSps, blocks_across, height_in_ctbs, size_in_ctbs, width_in_ctbs}
+use Rattle.header_types.specs.SequenceParameterSets.{IsSps, blocks_across, height_in_ctbs, size_in_ctbs}
+use Rattle.header_types.specs.SequenceParameterSets.{width_in_ctbs}
 use Rattle.plan_types.specs.declared.picture_plan.PicturePlan.{PicturePlan}
 use Rattle.picture_layout.specs.Shape.{IsShape}
 use Rattle.picture_layout.proofs.Sizes.{shape_is}
@@ -15,13 +16,13 @@ use Rattle.sample_words.specs.Words.{IsLine, line_units}
 use Rattle.sample_words.proofs.Bounds.{few_columns}
 use Rattle.sample_words.proofs.Extents.{some_columns}
 use Rattle.spec_flights.specs.Words.{flight_sizes}
-use Rattle.flight_value_laws.proofs.Rows.{in_picture}
+use Rattle.border_words.proofs.FlightValueLawsLemmas.{in_picture}
 use Rattle.line_words.specs.Places.{IsUnit, UnitAt}
-use Rattle.flight_facts.specs.declared.flight_facts.FlightFacts.{FlightFacts}
-use Rattle.flight_facts.specs.Facts.{flight_in}
-use Rattle.flight_facts.specs.Flights.{IsOfFlight}
-use Rattle.flight_facts.proofs.Laid.{picture_sizes}
-use Rattle.flight_waits.proofs.Waited.{sized}
+use Rattle.border_words.specs.FlightFacts.{FlightFacts}
+use Rattle.border_words.specs.FlightFacts.{flight_in}
+use Rattle.border_words.specs.FlightFacts.{IsOfFlight}
+use Rattle.border_words.proofs.FlightFactsLemmas.{picture_sizes}
+use Rattle.done_units.proofs.FlightWaitsLemmas.{sized}
 use Rattle.row_waits.specs.declared.picture_view.PictureView.{PictureView}
 use Rattle.row_waits.specs.Pictures.{IsPictureOf, IsUnitOf, address_in}
 use Rattle.built_rows.specs.Stages.{shape_of}

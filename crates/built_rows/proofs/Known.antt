@@ -8,12 +8,12 @@ use Rattle.spec_picture_trees.specs.Picture.{SegmentAt}
 use Rattle.spec_picture_build.specs.Format.{unit_format}
 use Rattle.spec_reconstruction.specs.Sound.{AreSound}
 use Rattle.spec_known_units.specs.Known.{KnownUnit, picture_segments, segment_having, units_known}
-use Rattle.flight_unit_laws.proofs.Having.{unit_has_segment}
-use Rattle.flight_value_laws.proofs.Known.{IsKnownFit, known_fit}
-use Rattle.flight_value_laws.proofs.Segments.{few_units, rise_few}
-use Rattle.row_trees.specs.Reading.{OfSegment}
+use Rattle.border_words.proofs.FlightUnitLawsLemmas.{unit_has_segment}
+use Rattle.border_words.proofs.FlightValueLawsLemmas.{IsKnownFit, known_fit}
+use Rattle.border_words.proofs.FlightValueLawsLemmas.{few_units, rise_few}
+use Rattle.row_waits.specs.RowTrees.{OfSegment}
 use Rattle.line_words.specs.Places.{IsUnit, UnitAt}
-use Rattle.flight_facts.specs.declared.flight_facts.FlightFacts.{FlightFacts}
+use Rattle.border_words.specs.FlightFacts.{FlightFacts}
 use Rattle.row_waits.specs.declared.picture_view.PictureView.{PictureView}
 use Rattle.row_waits.specs.Pictures.{IsPictureOf, IsUnitOf, address_in}
 use Rattle.built_rows.proofs.Inside.{address_inside, sps_is}

@@ -6,8 +6,8 @@ use Rattle.spec_slice_data.specs.Residual.{samples_of_place}
 use Rattle.spec_slice_data.specs.Segment.{PictureShape}
 use Rattle.spec_picture_trees.specs.Places.{unit_places}
 use Rattle.spec_decoded_pictures.specs.Decoded.{DecodedUnits}
-use Rattle.row_borders.specs.Next.{IsLaid}
-use Rattle.row_borders.specs.Strips.{StripPlaces}
+use Rattle.border_words.specs.RowBorders.{IsLaid}
+use Rattle.border_words.specs.RowBorders.{StripPlaces}
 use Rattle.board_core.specs.Needs.{read_needs}
 use Rattle.board_core.specs.Places.{line_of}
 use Rattle.sample_words.specs.Words.{line_number}
@@ -15,9 +15,9 @@ use Rattle.spec_flights.specs.Rows.{flight_rows, is_sound}
 use Rattle.progress_words.specs.declared.view.View.{View}
 use Rattle.progress_words.specs.Views.{seen_of}
 use Rattle.line_words.specs.Places.{IsUnit, UnitAt}
-use Rattle.flight_facts.specs.declared.flight_facts.FlightFacts.{FlightFacts}
-use Rattle.flight_facts.specs.Facts.{flight_in}
-use Rattle.flight_waits.specs.Waits.{AreSeen}
+use Rattle.border_words.specs.FlightFacts.{FlightFacts}
+use Rattle.border_words.specs.FlightFacts.{flight_in}
+use Rattle.done_units.specs.FlightWaits.{AreSeen}
 use Rattle.row_waits.specs.declared.picture_view.PictureView.{PictureView}
 use Rattle.row_waits.specs.Pictures.{IsPictureOf}
 use Rattle.built_rows.specs.declared.row_builder.RowBuilder.{RowBuilder}

@@ -24,3 +24,4 @@ pub mod Next
 pub mod Counted
 pub mod Columns
 pub mod Done
+pub mod FlightWindowsLemmas

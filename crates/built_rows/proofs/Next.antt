@@ -12,15 +12,15 @@ use Rattle.progress_words.specs.declared.view.View.{View}
 use Rattle.progress_words.specs.Views.{AllSound, counting, seen_of}
 use Rattle.progress_words.proofs.Counts.{put_other, put_same}
 use Rattle.line_words.specs.Places.{UnitAt, number_at}
-use Rattle.flight_value_laws.proofs.Within.{shape_of as segment_shape}
-use Rattle.row_trees.specs.Reading.{StandsBefore}
-use Rattle.row_borders.specs.Borders.{at_unit, with_left}
-use Rattle.row_borders.specs.Next.{HasColumn, IsLaid}
-use Rattle.row_borders.proofs.Next.{is_at_left}
-use Rattle.flight_facts.specs.declared.flight_facts.FlightFacts.{FlightFacts}
-use Rattle.flight_facts.specs.Boards.{flight_meaning}
-use Rattle.flight_facts.specs.Facts.{flight_in}
-use Rattle.flight_waits.specs.Waits.{AreAllKnown}
+use Rattle.border_words.proofs.FlightValueLawsLemmas.{shape_of as segment_shape}
+use Rattle.row_waits.specs.RowTrees.{StandsBefore}
+use Rattle.border_words.specs.RowBorders.{at_unit, with_left}
+use Rattle.border_words.specs.RowBorders.{HasColumn, IsLaid}
+use Rattle.border_words.proofs.RowBordersLemmas.{is_at_left}
+use Rattle.border_words.specs.FlightFacts.{FlightFacts}
+use Rattle.border_words.specs.FlightFacts.{flight_meaning}
+use Rattle.border_words.specs.FlightFacts.{flight_in}
+use Rattle.done_units.specs.FlightWaits.{AreAllKnown}
 use Rattle.row_waits.specs.declared.picture_view.PictureView.{PictureView}
 use Rattle.built_rows.specs.declared.row_builder.RowBuilder.{RowBuilder}
 use Rattle.row_waits.specs.Pictures.{address_in}

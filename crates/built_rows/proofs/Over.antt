@@ -12,13 +12,13 @@ use Rattle.spec_picture_trees.specs.Picture.{SegmentAt}
 use Rattle.spec_picture_trees.specs.Places.{unit_places}
 use Rattle.spec_picture_trees.specs.Shapes.{picture_shape}
 use Rattle.spec_known_units.specs.Known.{ctu_of, units_known}
-use Rattle.unit_trees.specs.declared.edges.Edge.{Edge}
-use Rattle.unit_trees.specs.declared.units.UnitReader.{UnitReader}
-use Rattle.unit_trees.specs.Edges.{bottom_of}
-use Rattle.flight_value_laws.specs.Reading.{IsTopEdge}
-use Rattle.flight_value_laws.proofs.Sides.{bottom_is}
-use Rattle.flight_value_laws.proofs.Within.{shape_of}
-use Rattle.row_trees.specs.Reading.{IsReadByKnown, IsUnder, OfSegment, Reads, StandsBefore, known_to}
+use Rattle.border_words.specs.UnitTrees.{Edge}
+use Rattle.border_words.specs.UnitTrees.{UnitReader}
+use Rattle.border_words.specs.UnitTrees.{bottom_of}
+use Rattle.border_words.specs.FlightValueLaws.{IsTopEdge}
+use Rattle.border_words.proofs.FlightValueLawsLemmas.{bottom_is}
+use Rattle.border_words.proofs.FlightValueLawsLemmas.{shape_of}
+use Rattle.row_waits.specs.RowTrees.{IsReadByKnown, IsUnder, OfSegment, Reads, StandsBefore, known_to}
 use Rattle.built_rows.specs.Stages.{IsStored}
 
 module _ (p : PicturePlan) (row x : ℕ) (inside : x < width_in_ctbs p.sps)

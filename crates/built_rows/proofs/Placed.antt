@@ -12,10 +12,10 @@ use Rattle.spec_picture_trees.specs.Shapes.{picture_shape}
 use Rattle.spec_known_units.specs.Known.{KnownUnit, units_known}
 use Rattle.spec_picture_build.specs.Format.{unit_format}
 use Rattle.spec_flights.specs.References.{segment_of}
-use Rattle.row_trees.specs.Reading.{OfSegment}
-use Rattle.row_borders.proofs.Sound.{all_placed}
+use Rattle.row_waits.specs.RowTrees.{OfSegment}
+use Rattle.border_words.proofs.RowBordersLemmas.{all_placed}
 use Rattle.line_words.specs.Places.{IsUnit, UnitAt}
-use Rattle.flight_facts.specs.declared.flight_facts.FlightFacts.{FlightFacts}
+use Rattle.border_words.specs.FlightFacts.{FlightFacts}
 use Rattle.row_waits.specs.declared.picture_view.PictureView.{PictureView}
 use Rattle.row_waits.specs.Pictures.{IsPictureOf, IsUnitOf, address_in}
 use Rattle.built_rows.specs.Stages.{shape_of}

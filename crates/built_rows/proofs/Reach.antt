@@ -22,17 +22,17 @@ use Rattle.sample_words.specs.declared.sizes.FlightSizes.{FlightSizes}
 use Rattle.sample_words.specs.Sizes.{ctb_size}
 use Rattle.spec_flights.specs.Pictures.{pictures_before}
 use Rattle.spec_flights.specs.Rows.{flight_rows, luma_lines}
-use Rattle.flight_value_laws.proofs.Values.{folded_is}
-use Rattle.unit_reach.specs.declared.reach.ReachSource.{ReachSource}
-use Rattle.unit_build.specs.declared.built.BuiltUnit.{BuiltUnit}
-use Rattle.row_borders.specs.Building.{tree_unit}
+use Rattle.border_words.proofs.FlightValueLawsLemmas.{folded_is}
+use Rattle.row_waits.specs.UnitReach.{ReachSource}
+use Rattle.border_words.specs.UnitBuild.{BuiltUnit}
+use Rattle.border_words.specs.RowBorders.{tree_unit}
 use Rattle.progress_words.specs.declared.view.View.{View}
 use Rattle.line_words.specs.Places.{IsUnit, UnitAt}
-use Rattle.flight_facts.specs.declared.flight_facts.FlightFacts.{FlightFacts}
-use Rattle.flight_facts.specs.Facts.{flight_in}
-use Rattle.flight_facts.proofs.Laid.{picture_sizes}
-use Rattle.flight_waits.specs.Waits.{AreSeen}
-use Rattle.flight_windows.specs.Seen.{SeenFlags, is_seen}
+use Rattle.border_words.specs.FlightFacts.{FlightFacts}
+use Rattle.border_words.specs.FlightFacts.{flight_in}
+use Rattle.border_words.proofs.FlightFactsLemmas.{picture_sizes}
+use Rattle.done_units.specs.FlightWaits.{AreSeen}
+use Rattle.row_waits.specs.FlightWindows.{SeenFlags, is_seen}
 use Rattle.border_words.proofs.Shapes.{side_is}
 use Rattle.row_waits.specs.declared.picture_view.PictureView.{PictureView}
 use Rattle.row_waits.specs.Pictures.{IsPictureOf, IsUnitOf, address_in}

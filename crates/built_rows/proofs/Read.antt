@@ -3,21 +3,21 @@ use Rattle.std.proofs.Common.{◌≡◌, ◌+◌, ◌-◌, ◌*◌, ◌<◌, min
 use Rattle.header_types.specs.SequenceParameterSets.{width_in_ctbs}
 use Rattle.spec_picture_trees.specs.Places.{unit_places}
 use Rattle.picture_layout.specs.declared.coding_tree_unit.CodingTreeUnit.{CodingTreeUnit}
-use Rattle.picture_build.specs.Formats.{IsCommon}
+use Rattle.border_words.specs.PictureBuild.{IsCommon}
 use Rattle.spec_reconstruction.specs.Sound.{IsFormat}
 use Rattle.spec_known_units.specs.Known.{picture_segments, segment_having}
 use Rattle.board_core.specs.Needs.{read_needs}
 use Rattle.spec_flights.specs.Rows.{flight_rows}
-use Rattle.row_trees.specs.Reading.{IsReadByKnown, IsReadKnown, OfSegment, StandsBefore}
-use Rattle.row_trees.specs.declared.row_reader.RowReader.{RowReader}
-use Rattle.row_borders.specs.Borders.{Bordering, at_unit, with_above}
-use Rattle.row_borders.specs.Building.{IsAtLeft}
-use Rattle.row_borders.specs.Next.{IsLaid}
+use Rattle.row_waits.specs.RowTrees.{IsReadByKnown, IsReadKnown, OfSegment, StandsBefore}
+use Rattle.row_waits.specs.RowTrees.{RowReader}
+use Rattle.border_words.specs.RowBorders.{Bordering, at_unit, with_above}
+use Rattle.border_words.specs.RowBorders.{IsAtLeft}
+use Rattle.border_words.specs.RowBorders.{IsLaid}
 use Rattle.progress_words.specs.declared.view.View.{View}
 use Rattle.line_words.specs.Places.{IsUnit, UnitAt}
-use Rattle.flight_facts.specs.declared.flight_facts.FlightFacts.{FlightFacts}
-use Rattle.flight_facts.specs.Facts.{flight_in}
-use Rattle.flight_waits.specs.Waits.{AreSeen}
+use Rattle.border_words.specs.FlightFacts.{FlightFacts}
+use Rattle.border_words.specs.FlightFacts.{flight_in}
+use Rattle.done_units.specs.FlightWaits.{AreSeen}
 use Rattle.border_words.specs.Units.{IsAboveOf}
 use Rattle.row_waits.specs.declared.picture_view.PictureView.{PictureView}
 use Rattle.built_rows.specs.declared.row_builder.RowBuilder.{RowBuilder}

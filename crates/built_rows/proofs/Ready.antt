@@ -5,10 +5,10 @@ use Rattle.sample_words.specs.declared.sizes.FlightSizes.{FlightSizes}
 use Rattle.sample_words.specs.Sizes.{rows}
 use Rattle.spec_slice_data.specs.Segment.{PictureShape}
 use Rattle.progress_words.specs.declared.view.View.{View}
-use Rattle.flight_facts.specs.declared.flight_facts.FlightFacts.{FlightFacts}
-use Rattle.flight_facts.specs.Boards.{sizes_in}
-use Rattle.flight_facts.specs.Facts.{flight_in}
-use Rattle.flight_windows.specs.Seen.{HasRows, is_seen}
+use Rattle.border_words.specs.FlightFacts.{FlightFacts}
+use Rattle.border_words.specs.FlightFacts.{sizes_in}
+use Rattle.border_words.specs.FlightFacts.{flight_in}
+use Rattle.row_waits.specs.FlightWindows.{HasRows, is_seen}
 use Rattle.row_waits.specs.declared.picture_view.PictureView.{PictureView}
 use Rattle.row_waits.specs.Pictures.{IsPictureOf}
 use Rattle.built_rows.specs.declared.row_builder.RowBuilder.{RowBuilder}

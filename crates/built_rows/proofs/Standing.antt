@@ -2,7 +2,7 @@
 use Rattle.std.proofs.Common.{◌≡◌, ℕ, ◌<◌, ◌≤◌, List, arith, ap, sym, subst, ◌∙◌}
 use Rattle.std.proofs.lemmas.List.Elements.{All-weaker}
 use Rattle.picture_layout.specs.declared.coding_tree_unit.CodingTreeUnit.{CodingTreeUnit}
-use Rattle.row_borders.specs.Borders.{Bordering, at_unit}
+use Rattle.border_words.specs.RowBorders.{Bordering, at_unit}
 use Rattle.progress_words.specs.declared.view.View.{View}
 use Rattle.progress_words.specs.declared.pass.Pass.{Pass}
 use Rattle.progress_words.specs.Core.{AreMet}
@@ -11,10 +11,10 @@ use Rattle.progress_words.specs.Passes.{IsPassOf, view}
 use Rattle.progress_words.specs.Places.{Place}
 use Rattle.progress_words.specs.Views.{seen_of}
 use Rattle.line_words.specs.Places.{UnitAt, number_at}
-use Rattle.flight_facts.specs.declared.flight_facts.FlightFacts.{FlightFacts}
-use Rattle.flight_facts.specs.Boards.{flight_meaning}
-use Rattle.flight_facts.specs.Facts.{flight_in}
-use Rattle.flight_waits.specs.Waits.{AreAllKnown, HasWaited}
+use Rattle.border_words.specs.FlightFacts.{FlightFacts}
+use Rattle.border_words.specs.FlightFacts.{flight_meaning}
+use Rattle.border_words.specs.FlightFacts.{flight_in}
+use Rattle.done_units.specs.FlightWaits.{AreAllKnown, HasWaited}
 use Rattle.row_waits.specs.declared.picture_view.PictureView.{PictureView}
 use Rattle.row_waits.specs.Pictures.{address_in}
 use Rattle.built_rows.specs.declared.row_builder.RowBuilder.{RowBuilder}

@@ -17,14 +17,14 @@ use Rattle.progress_words.specs.Views.{seen_of}
 use Rattle.line_words.specs.Places.{IsUnit, UnitAt, number_at}
 use Rattle.spec_flights.specs.Pictures.{PlannedFlight}
 use Rattle.spec_flights.specs.Rows.{flight_rows, is_sound}
-use Rattle.flight_value_laws.specs.Reading.{AreUsesSound}
-use Rattle.flight_unit_laws.proofs.Having.{unit_has_segment}
-use Rattle.flight_unit_laws.proofs.Pictures.{sync_is, width_is}
-use Rattle.row_trees.specs.Reading.{IsReadByKnown}
-use Rattle.flight_facts.specs.declared.flight_facts.FlightFacts.{FlightFacts}
-use Rattle.flight_facts.specs.Facts.{flight_in}
-use Rattle.flight_facts.specs.Flights.{IsOfFlight}
-use Rattle.flight_waits.specs.Waits.{AreAllKnown, AreSeen}
+use Rattle.border_words.specs.FlightValueLaws.{AreUsesSound}
+use Rattle.border_words.proofs.FlightUnitLawsLemmas.{unit_has_segment}
+use Rattle.border_words.proofs.FlightUnitLawsLemmas.{sync_is, width_is}
+use Rattle.row_waits.specs.RowTrees.{IsReadByKnown}
+use Rattle.border_words.specs.FlightFacts.{FlightFacts}
+use Rattle.border_words.specs.FlightFacts.{flight_in}
+use Rattle.border_words.specs.FlightFacts.{IsOfFlight}
+use Rattle.done_units.specs.FlightWaits.{AreAllKnown, AreSeen}
 use Rattle.done_units.specs.Seen.{HasReached, IsSeenUnit}
 use Rattle.done_units.proofs.Reached.{read_uses_seen, read_uses_sound}
 use Rattle.row_waits.specs.declared.picture_view.PictureView.{PictureView}

@@ -3,8 +3,8 @@ use Rattle.std.proofs.Common.{ap, sym, subst, ◌∙◌}
 use Rattle.spec_slice_data.specs.Segment.{PictureShape}
 use Rattle.progress_words.specs.declared.view.View.{View}
 use Rattle.line_words.specs.Places.{UnitAt, number_at}
-use Rattle.flight_facts.specs.declared.flight_facts.FlightFacts.{FlightFacts}
-use Rattle.flight_waits.specs.Waits.{AreAllKnown, HasWaited}
+use Rattle.border_words.specs.FlightFacts.{FlightFacts}
+use Rattle.done_units.specs.FlightWaits.{AreAllKnown, HasWaited}
 use Rattle.row_waits.specs.declared.picture_view.PictureView.{PictureView}
 use Rattle.built_rows.specs.declared.row_builder.RowBuilder.{RowBuilder}
 use Rattle.built_rows.specs.Filling.{OnlyBuilds}

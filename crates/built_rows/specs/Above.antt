@@ -1,6 +1,6 @@
 -- What changes of a row's builder when what stands above the row is laid.
 use Rattle.std.specs.Prelude.{◌≡◌}
-use Rattle.row_borders.specs.Borders.{with_above}
+use Rattle.border_words.specs.RowBorders.{with_above}
 use Rattle.built_rows.specs.declared.row_builder.RowBuilder.{RowBuilder}
 
 -- what stands above, and the words of units there that are kept; nothing else

@@ -4,3 +4,8 @@ pub mod Reading
 pub mod Beginning
 pub mod Motion
 pub mod Filling
+pub mod RowWaits
+pub mod FlightWindows
+pub mod SpecFlights
+pub mod SpecDecodedPictures
+pub mod SpecDecoder

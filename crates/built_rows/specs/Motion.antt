@@ -7,10 +7,10 @@ use Rattle.spec_known_units.specs.Known.{KnownUnit, units_known}
 use Rattle.spec_picture_motion.specs.Slices.{slice_motion}
 use Rattle.spec_flights.specs.Pictures.{pictures_before}
 use Rattle.spec_flights.specs.References.{known_motion}
-use Rattle.unit_build.specs.declared.built.BuiltUnit.{BuiltUnit}
+use Rattle.border_words.specs.UnitBuild.{BuiltUnit}
 use Rattle.line_words.specs.Places.{UnitAt}
-use Rattle.flight_facts.specs.declared.flight_facts.FlightFacts.{FlightFacts}
-use Rattle.flight_facts.specs.Facts.{flight_in}
+use Rattle.border_words.specs.FlightFacts.{FlightFacts}
+use Rattle.border_words.specs.FlightFacts.{flight_in}
 use Rattle.row_waits.specs.declared.picture_view.PictureView.{PictureView}
 use Rattle.row_waits.specs.Pictures.{address_in}
 

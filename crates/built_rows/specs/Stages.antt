@@ -17,27 +17,28 @@ use Rattle.spec_picture_build.specs.Format.{unit_format}
 use Rattle.spec_picture_build.specs.References.{motions_of}
 use Rattle.spec_reconstruction.specs.Sound.{IsFormat}
 use Rattle.spec_decoded_pictures.specs.Decoded.{DecodedUnits}
-use Rattle.picture_build.specs.Formats.{IsCommon}
-use Rattle.picture_filters.specs.Filtering.{IsUnit}
+use Rattle.border_words.specs.PictureBuild.{IsCommon}
+use Rattle.border_words.specs.PictureFilters.{IsUnit}
 use Rattle.board_core.specs.Needs.{collocated_of, read_needs, row_needs, unit_needs}
 use Rattle.board_core.specs.Places.{line_of}
 use Rattle.board_core.specs.Uses.{UnitUses}
 use Rattle.spec_flights.specs.Pictures.{folded_at, pictures_before}
 use Rattle.spec_flights.specs.Rows.{flight_rows}
-use Rattle.row_trees.specs.Reading.{IsReadAs, IsReadKnown, OfSegment, StandsBefore, known_to}
-use Rattle.row_borders.specs.Borders.{Bordering, at_unit}
-use Rattle.row_borders.specs.Building.{HoldsUnit as HoldsBuilt, IsAtLeft, IsBeneath, IsBeside, IsDerived, tree_unit}
-use Rattle.row_borders.specs.Next.{IsLaid}
+use Rattle.row_waits.specs.RowTrees.{IsReadAs, IsReadKnown, OfSegment, StandsBefore, known_to}
+use Rattle.border_words.specs.RowBorders.{Bordering, at_unit}
+use Rattle.border_words.specs.RowBorders.{HoldsUnit as HoldsBuilt, IsAtLeft, IsBeneath, IsBeside, IsDerived}
+use Rattle.border_words.specs.RowBorders.{tree_unit}
+use Rattle.border_words.specs.RowBorders.{IsLaid}
 use Rattle.progress_words.specs.declared.pass.Pass.{Pass}
 use Rattle.progress_words.specs.declared.view.View.{View}
 use Rattle.progress_words.specs.Passes.{IsPassOf, view}
 use Rattle.progress_words.specs.Places.{Place}
 use Rattle.progress_words.specs.Views.{seen_of}
 use Rattle.line_words.specs.Places.{UnitAt}
-use Rattle.flight_facts.specs.declared.flight_facts.FlightFacts.{FlightFacts}
-use Rattle.flight_facts.specs.Facts.{flight_in}
-use Rattle.flight_waits.specs.Waits.{AreAllKnown, AreSeen, HasSameParts, HoldsUnit}
-use Rattle.flight_windows.specs.Seen.{is_seen}
+use Rattle.border_words.specs.FlightFacts.{FlightFacts}
+use Rattle.border_words.specs.FlightFacts.{flight_in}
+use Rattle.done_units.specs.FlightWaits.{AreAllKnown, AreSeen, HasSameParts, HoldsUnit}
+use Rattle.row_waits.specs.FlightWindows.{is_seen}
 use Rattle.border_words.specs.declared.unit_above.UnitAbove.{UnitAbove}
 use Rattle.border_words.specs.Units.{IsAboveOf}
 use Rattle.row_waits.specs.declared.picture_view.PictureView.{PictureView}

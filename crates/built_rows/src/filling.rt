@@ -1,9 +1,9 @@
 //! The fourth stage of a coding tree unit's work: its samples are built (8.4, 8.5, 8.6).
 
 ghost use Rattle.std.specs.Prelude.{◌≡◌, ℕ};
-ghost use Rattle.picture_filters.specs.Filtering.{IsUnit};
+ghost use Rattle.border_words.specs.PictureFilters.{IsUnit};
 ghost use Rattle.progress_words.specs.Passes.{IsPassOf, Knows, view};
-ghost use Rattle.row_borders.specs.Building.{HoldsUnit, IsBeneath, IsBeside, IsDerived, tree_unit};
+ghost use Rattle.border_words.specs.RowBorders.{HoldsUnit, IsBeneath, IsBeside, IsDerived, tree_unit};
 ghost use Rattle.spec_decoded_pictures.specs.Decoded.{DecodedUnits, unit_decoded};
 ghost use Rattle.spec_flights.specs.Pictures.{pictures_before};
 ghost use Rattle.spec_picture_build.specs.Format.{unit_format};
@@ -12,29 +12,25 @@ ghost use Rattle.spec_picture_motion.specs.Derived.{collocated_motions};
 ghost use Rattle.spec_picture_motion.specs.Slices.{collocated_entry};
 ghost use Rattle.spec_picture_trees.specs.Shapes.{slice_start};
 ghost use Rattle.spec_reconstruction.specs.Sound.{AreSound, IsFormat};
-ghost use Rattle.flight_facts.specs.Facts.{flight_in};
-ghost use Rattle.flight_windows.specs.Pictures.{seen_pictures};
-ghost use Rattle.flight_windows.specs.Seen.{AreFlagsSeen};
-ghost use Rattle.flight_windows.specs.Windows.{IsKnown, bases_in};
+ghost use Rattle.border_words.specs.FlightFacts.{flight_in};
+ghost use Rattle.row_waits.specs.FlightWindows.{seen_pictures};
+ghost use Rattle.row_waits.specs.FlightWindows.{AreFlagsSeen};
+ghost use Rattle.row_waits.specs.FlightWindows.{IsKnown, bases_in};
 ghost use Rattle.row_waits.specs.Pictures.{IsPictureOf};
 ghost use Rattle.built_rows.specs.Filling.{OnlyBuilds};
 ghost use Rattle.built_rows.specs.Stages.{HasBuilt, HasDerived, HasReached, HasRead, IsWorking};
 
 use crate::row_builder::RowBuilder;
 use crate::slices::{segment_at, segment_number};
-use ctu_build::Scratch;
+use border_words::{BuiltUnit, FlightFacts, RowBorder, Scratch, UnitSource, fill_in_row};
 use ctu_records::Records;
-use flight_facts::FlightFacts;
-use flight_windows::{FlightWindows, KnownPass, SeenRows};
 use inter_pred::RefWindow;
 use line_words::UnitPlace;
 use plan_types::SegmentPlan;
 use progress_words::{Board, Pass};
-use row_borders::{RowBorder, fill_in_row};
-use row_waits::PictureView;
+use row_waits::{FlightWindows, KnownPass, PictureView, SeenRows};
 use spec_reconstruction::UnitFormat;
 use std::marker::Brand;
-use unit_build::{BuiltUnit, UnitSource};
 
 /// Builds the samples of the unit over the pictures that it refers to, of which these are from before the flight. The
 /// pass is handed back, and knows what it knew.

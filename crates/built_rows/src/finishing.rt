@@ -5,28 +5,25 @@ ghost use Rattle.header_types.specs.SequenceParameterSets.{width_in_ctbs};
 ghost use Rattle.spec_known_units.specs.Known.{picture_segments, segment_having};
 ghost use Rattle.board_core.specs.Needs.{unit_needs};
 ghost use Rattle.spec_flights.specs.Rows.{flight_rows};
-ghost use Rattle.row_trees.specs.Reading.{IsReadKnown};
-ghost use Rattle.row_borders.specs.Building.{HoldsUnit as HoldsBuilt};
+ghost use Rattle.row_waits.specs.RowTrees.{IsReadKnown};
+ghost use Rattle.border_words.specs.RowBorders.{HoldsUnit as HoldsBuilt};
 ghost use Rattle.progress_words.specs.Passes.{IsPassOf, Knows, view};
 ghost use Rattle.progress_words.specs.Views.{AllSound, HasEnded, counting};
 ghost use Rattle.line_words.specs.Places.{IsUnit, number_at};
-ghost use Rattle.flight_facts.specs.Boards.{flight_meaning};
-ghost use Rattle.flight_facts.specs.Facts.{flight_in};
-ghost use Rattle.flight_waits.specs.Waits.{AreSeen, HoldsUnit};
+ghost use Rattle.border_words.specs.FlightFacts.{flight_meaning};
+ghost use Rattle.border_words.specs.FlightFacts.{flight_in};
+ghost use Rattle.done_units.specs.FlightWaits.{AreSeen, HoldsUnit};
 ghost use Rattle.row_waits.specs.Pictures.{IsPictureOf, IsUnitOf, address_in};
 ghost use Rattle.built_rows.specs.Stages.{GoesOn, HasBuilt, HasReached, HasRead, IsWorking, StandsAt, next_of};
 ghost use Rattle.built_rows.specs.Stages.{units_in};
 
 use crate::row_builder::RowBuilder;
 use crate::slices::segment_number;
+use border_words::{BuiltUnit, DoneUnit, FlightFacts};
 use done_units::finish_unit;
-use flight_facts::FlightFacts;
 use line_words::UnitPlace;
 use progress_words::{Board, Pass};
-use row_trees::RowReader;
-use row_waits::PictureView;
-use unit_build::BuiltUnit;
-use unit_words::DoneUnit;
+use row_waits::{PictureView, RowReader};
 
 /// Writes the words of a unit that is built, counts it, and keeps its last column on the left of the next one.
 pub(crate) fn finish_next<'a>(

@@ -11,11 +11,11 @@ ghost use Rattle.progress_words.specs.declared.waiting.Waited.TheVariants.{Ready
 ghost use Rattle.progress_words.specs.Passes.{IsPassOf, view};
 ghost use Rattle.progress_words.specs.Views.{HasEnded};
 ghost use Rattle.spec_flights.specs.Rows.{flight_rows, luma_lines};
-ghost use Rattle.flight_facts.specs.declared.flight_facts.FlightFacts.{FlightFacts};
-ghost use Rattle.flight_facts.specs.Boards.{flight_meaning};
-ghost use Rattle.flight_facts.specs.Facts.{flight_in};
-ghost use Rattle.flight_waits.specs.Waits.{AreSeen, HoldsUnit};
-ghost use Rattle.flight_windows.specs.Seen.{is_seen};
+ghost use Rattle.border_words.specs.FlightFacts.{FlightFacts};
+ghost use Rattle.border_words.specs.FlightFacts.{flight_meaning};
+ghost use Rattle.border_words.specs.FlightFacts.{flight_in};
+ghost use Rattle.done_units.specs.FlightWaits.{AreSeen, HoldsUnit};
+ghost use Rattle.row_waits.specs.FlightWindows.{is_seen};
 ghost use Rattle.line_words.specs.Places.{IsUnit};
 ghost use Rattle.spec_picture_trees.specs.Places.{first_row};
 ghost use Rattle.row_waits.specs.Pictures.{IsPictureOf, IsUnitOf, address_in};
@@ -25,16 +25,12 @@ ghost use Rattle.built_rows.specs.Stages.{GoesOn, HasDerived, HasReached, HasRea
 
 use crate::row_builder::RowBuilder;
 use board_core::LumaLines;
-use flight_facts::FlightFacts;
-use flight_windows::SeenRows;
+use border_words::{BuiltUnit, FlightFacts};
 use hv_io::Gate;
 use line_words::UnitPlace;
 use progress_words::{Board, Pass, Waited};
-use row_trees::RowReader;
-use row_waits::{PictureView, wait_for_reach};
+use row_waits::{PictureView, ReachSource, RowReader, SeenRows, wait_for_reach};
 use std::sync::Wait;
-use unit_build::BuiltUnit;
-use unit_reach::ReachSource;
 
 /// Waits for the final rows that the unit's vectors reach, where the pass hasn't seen them; or until a fault is found
 /// before it. Where it answers `Stopped` the job has ended.

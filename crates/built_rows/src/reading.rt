@@ -12,13 +12,13 @@ ghost use Rattle.progress_words.specs.Views.{HasEnded};
 ghost use Rattle.spec_flights.specs.Rows.{flight_rows};
 ghost use Rattle.spec_known_units.specs.Known.{ctu_of, picture_segments, segment_having, units_known};
 ghost use Rattle.spec_flights.specs.Pictures.{PlannedFlight};
-ghost use Rattle.unit_trees.specs.Edges.{bottom_of};
-ghost use Rattle.flight_value_laws.specs.Ranges.{IsInRange};
-ghost use Rattle.row_trees.specs.Reading.{IsReadByKnown, OfSegment, Reads, StandsBefore};
-ghost use Rattle.flight_facts.specs.declared.flight_facts.FlightFacts.{FlightFacts};
-ghost use Rattle.flight_facts.specs.Boards.{flight_meaning};
-ghost use Rattle.flight_facts.specs.Facts.{flight_in};
-ghost use Rattle.flight_waits.specs.Waits.{AreSeen};
+ghost use Rattle.border_words.specs.UnitTrees.{bottom_of};
+ghost use Rattle.border_words.specs.FlightValueLaws.{IsInRange};
+ghost use Rattle.row_waits.specs.RowTrees.{IsReadByKnown, OfSegment, Reads, StandsBefore};
+ghost use Rattle.border_words.specs.FlightFacts.{FlightFacts};
+ghost use Rattle.border_words.specs.FlightFacts.{flight_meaning};
+ghost use Rattle.border_words.specs.FlightFacts.{flight_in};
+ghost use Rattle.done_units.specs.FlightWaits.{AreSeen};
 ghost use Rattle.border_words.specs.Units.{IsAboveOf};
 ghost use Rattle.row_waits.specs.Pictures.{IsPictureOf, IsUnitOf, address_in};
 ghost use Rattle.built_rows.specs.Reading.{OnlyReads};
@@ -27,16 +27,14 @@ ghost use Rattle.built_rows.specs.Stages.{units_in};
 
 use crate::above::lay_next_above;
 use crate::row_builder::RowBuilder;
-use flight_facts::FlightFacts;
-use flight_waits::wait_to_read;
+use border_words::{Edge, FlightFacts};
+use done_units::wait_to_read;
 use hv_base::Breach;
 use hv_io::Gate;
 use line_words::{UnitPlace, find_bad};
 use progress_words::{Board, Pass, Waited};
-use row_trees::sound_units_are_read_by;
-use row_waits::PictureView;
+use row_waits::{PictureView, sound_units_are_read_by};
 use std::sync::Wait;
-use unit_trees::Edge;
 
 /// Waits for what reading the next unit of a row needs, and reads it; or until a fault is found before it, or it breaks
 /// a rule, which is told then. Where it answers `Stopped` the job has ended.

@@ -1,22 +1,17 @@
 //! What rows of coding tree units are built with.
 
 ghost use Rattle.std.specs.Prelude.{◌≡◌, IfOk};
-ghost use Rattle.flight_facts.specs.declared.flight_facts.FlightFacts.{FlightFacts};
+ghost use Rattle.border_words.specs.FlightFacts.{FlightFacts};
 ghost use Rattle.progress_words.specs.declared.view.View.{View};
 ghost use Rattle.row_waits.specs.Pictures.{IsPictureOf};
 ghost use Rattle.built_rows.specs.Stages.{IsReadyFor, above_of};
 
-use border_words::UnitAbove;
+use border_words::{BuiltUnit, RowBorder, Scratch, UnitAbove};
 use cabac_contexts::Contexts;
-use ctu_build::Scratch;
-use flight_windows::SeenRows;
 use picture_layout::{CodingTreeUnit, Layout as PictureLayout};
-use row_borders::RowBorder;
-use row_trees::RowReader;
-use row_waits::PictureView;
+use row_waits::{PictureView, RowReader, SeenRows};
 use spec_reconstruction::UnitFormat;
 use std::alloc::{AllocError, Global};
-use unit_build::BuiltUnit;
 
 /// What a worker builds rows of coding tree units with, in memory of its own. It serves all pictures of a flight.
 #[derive(Drop)]

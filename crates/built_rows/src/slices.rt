@@ -1,15 +1,14 @@
 //! The slice of a coding tree unit.
 
 ghost use Rattle.std.specs.Prelude.{◌≡◌, ◌<◌, Some, length, slice_get};
-ghost use Rattle.picture_filters.specs.Filtering.{IsUnit};
+ghost use Rattle.border_words.specs.PictureFilters.{IsUnit};
 ghost use Rattle.spec_picture_trees.specs.Picture.{SegmentAt};
 ghost use Rattle.row_waits.specs.Pictures.{IsUnitOf, address_in};
 
 use line_words::UnitPlace;
 use picture_layout::{CodingTreeUnit, Layout as PictureLayout, slice_address};
 use plan_types::{PicturePlan, SegmentPlan};
-use row_trees::RowReader;
-use row_waits::PictureView;
+use row_waits::{PictureView, RowReader};
 
 /// The number of the slice segment of the unit that was read.
 pub(crate) fn segment_number(reader: &RowReader<'_>) -> usize

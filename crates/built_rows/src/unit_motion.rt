@@ -3,7 +3,7 @@
 ghost use Rattle.std.specs.Prelude.{◌≡◌, ℕ, List, Some, slice_get};
 ghost use Rattle.std.specs.List.{All};
 ghost use Rattle.ctu_motion.specs.Held.{held};
-ghost use Rattle.picture_filters.specs.Filtering.{IsUnit};
+ghost use Rattle.border_words.specs.PictureFilters.{IsUnit};
 ghost use Rattle.spec_motion.specs.Units.{IsPlacedItem};
 ghost use Rattle.spec_picture_trees.specs.Shapes.{slice_start};
 ghost use Rattle.spec_known_units.specs.Known.{KnownUnit, units_known};
@@ -11,35 +11,33 @@ ghost use Rattle.spec_picture_motion.specs.Derived.{collocated_motions, known_of
 ghost use Rattle.spec_picture_motion.specs.Slices.{collocated_entry};
 ghost use Rattle.spec_picture_build.specs.References.{DecodedPicture, motions_of};
 ghost use Rattle.spec_decoded_pictures.specs.Decoded.{DecodedUnits};
-ghost use Rattle.row_borders.specs.Building.{IsBeneath, IsBeside, IsDerived, tree_unit};
+ghost use Rattle.border_words.specs.RowBorders.{IsBeneath, IsBeside, IsDerived, tree_unit};
 ghost use Rattle.board_core.specs.Needs.{row_needs};
 ghost use Rattle.progress_words.specs.declared.waiting.Waited.TheVariants.{Ready, Stopped};
 ghost use Rattle.progress_words.specs.Passes.{IsPassOf, view};
 ghost use Rattle.progress_words.specs.Views.{HasEnded};
 ghost use Rattle.spec_flights.specs.References.{collocated_by};
 ghost use Rattle.spec_flights.specs.Rows.{flight_rows};
-ghost use Rattle.flight_facts.specs.Boards.{flight_meaning};
-ghost use Rattle.flight_facts.specs.Facts.{flight_in};
-ghost use Rattle.flight_waits.specs.Waits.{AreSeen};
+ghost use Rattle.border_words.specs.FlightFacts.{flight_meaning};
+ghost use Rattle.border_words.specs.FlightFacts.{flight_in};
+ghost use Rattle.done_units.specs.FlightWaits.{AreSeen};
 ghost use Rattle.line_words.specs.Places.{IsUnit as IsPlace};
 ghost use Rattle.row_waits.specs.Pictures.{IsPictureOf, address_in};
 ghost use Rattle.built_rows.specs.Stages.{GoesOn, HasDerived, HasRead, IsLeftOf, IsWorking, shape_of, units_in};
 
 use crate::row_builder::RowBuilder;
 use crate::slices::{segment_at, segment_number, unit_of};
-use border_words::{ReferencePictures, lay_beneath};
-use flight_facts::FlightFacts;
+use border_words::{
+    BuiltUnit, FlightFacts, ReferencePictures, RowBorder, UnitSource, derive_in_row, lay_beneath,
+    set_slice,
+};
 use hv_io::Gate;
 use line_words::UnitPlace;
-use picture_build::set_slice;
 use plan_types::{PicturePlan, SegmentPlan};
 use progress_words::{Board, Pass, Waited};
-use row_borders::{RowBorder, derive_in_row};
-use row_trees::RowReader;
-use row_waits::{PictureView, wait_for_collocated};
+use row_waits::{PictureView, RowReader, wait_for_collocated};
 use spec_reconstruction::UnitFormat;
 use std::sync::Wait;
-use unit_build::{BuiltUnit, UnitSource};
 
 /// Derives the motion of the unit that was read, once the collocated picture's row is seen; or waits until a fault is
 /// found before it. Where it answers `Stopped` the job has ended.

@@ -1,6 +1,6 @@
 -- FL binarization, over bypass bins one after the other.
 use Rattle.std.proofs.Common.{◌≡◌, ℕ, zero, suc, ◌+◌, ◌*◌, Bool, List, Option, Some, None, refl}
-use Rattle.spec_bits.specs.Bits.{digit}
+use Rattle.spec_cabac.specs.SpecBits.{digit}
 use Rattle.spec_cabac.specs.Engine.{Engine, bypass_at}
 use Rattle.spec_cabac.specs.Bins.{read, stepped, bin_at, fixed, fixed_after}
 use Rattle.cabac_engine.specs.Steps.{bypasses_after}

@@ -1,2 +1,3 @@
 pub mod Takes
 pub mod Packing
+pub mod CabacEngine

@@ -1,6 +1,6 @@
 -- What a call does to a reader of bins.
 use Rattle.std.specs.Prelude.{◌≡◌, Result, Ok, Err, OnOk}
-use Rattle.hv_base.specs.declared.breach.Breach.{Breach}
+use Rattle.spec_cabac.specs.HvBase.{Breach}
 use Rattle.spec_cabac.specs.Engine.{IsLive}
 use Rattle.spec_cabac.specs.Bins.{State, Tree, read, Reads}
 use Rattle.cabac_contexts.specs.declared.bin_reader.BinReader.{BinReader}

@@ -8,7 +8,7 @@ ghost use Rattle.cabac_contexts.specs.Takes.{Reaches, Takes};
 
 use crate::contexts::Contexts;
 use cabac_engine::Interval;
-use hv_base::{Breach, FaultKind};
+use spec_cabac::{Breach, FaultKind};
 
 const DATA_END: Breach = Breach::Fault(FaultKind::DataEnd);
 

@@ -7,5 +7,6 @@ mod contexts;
 mod packing;
 
 pub use bin_reader::BinReader;
+pub use cabac_engine::Interval;
 pub use contexts::Contexts;
 pub use packing::packed_contexts_are_unpacked;

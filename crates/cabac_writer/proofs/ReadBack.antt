@@ -22,7 +22,8 @@ use Rattle.spec_cabac.proofs.Renormalization.{Doubled-range}
 use Rattle.spec_cabac.proofs.TableRules.{lps_range_bounds, state_after_lps_bound, state_after_mps_bound}
 use Rattle.cabac_writer.specs.Coding.{Coding, Writing, no_bins, scaled, is_mps, with_decision, context_after}
 use Rattle.cabac_writer.specs.Coding.{with_bypass}
-use Rattle.cabac_writer.specs.Coding.{with_terminate, coded_bits, with_word, with_words, IsInner, AreInner, AreContexts}
+use Rattle.cabac_writer.specs.Coding.{with_terminate, coded_bits, with_word, with_words, IsInner, AreInner}
+use Rattle.cabac_writer.specs.Coding.{AreContexts}
 use Rattle.cabac_writer.specs.Coding.{IsReadBack, IsReadOpen, bits_of}
 use Rattle.cabac_writer.proofs.Values.{value, IsInside, engine_of, number_there}
 use Rattle.cabac_writer.proofs.Steps.{decision_read, bypass_read, going_read, ending_read, ended}

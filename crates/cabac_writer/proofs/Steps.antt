@@ -7,7 +7,8 @@ use Rattle.std.proofs.lemmas.Bool.{le-leb, lt-leb}
 use Rattle.spec_cabac.specs.Contexts.{lps_range_of, context_after_lps, context_after_mps}
 use Rattle.spec_cabac.specs.Engine.{Engine, decision_at, bypass_at, terminate_at, doublings}
 use Rattle.spec_cabac.proofs.TableRules.{lps_range_bounds}
-use Rattle.cabac_writer.specs.Coding.{Coding, scaled, is_mps, with_decision, context_after, with_bypass, with_terminate}
+use Rattle.cabac_writer.specs.Coding.{Coding, scaled, is_mps, with_decision, context_after, with_bypass}
+use Rattle.cabac_writer.specs.Coding.{with_terminate}
 use Rattle.cabac_writer.proofs.Values.{value, more, IsIn, IsInside, engine_of, number_there, narrowed}
 use Rattle.cabac_writer.proofs.Values.{renormalized, value-add, more_below}
 

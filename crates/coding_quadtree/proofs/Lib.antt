@@ -3,3 +3,4 @@ pub mod Powers
 pub mod Sides
 pub mod Steps
 pub mod Trees
+pub mod CabacContextsLemmas

@@ -4,7 +4,7 @@ use Rattle.hv_base.specs.declared.breach.Breach.{Breach}
 use Rattle.ctu_records.specs.declared.offset.Sao.{Sao}
 use Rattle.ctu_records.specs.Tree.{Ctu}
 use Rattle.spec_cabac.specs.Bins.{State, Tree, read}
-use Rattle.spec_formats.specs.Format.{◌>>=◌, bind, give, when◌then◌else◌}
+use Rattle.spec_cabac.specs.SpecFormats.{◌>>=◌, bind, give, when◌then◌else◌}
 use Rattle.spec_slice_data.specs.declared.syntax.CtuSyntax.{CtuSyntax}
 use Rattle.spec_slice_data.specs.Offset.{merge_flag, merged_or_own, sao, sao_or_above}
 use Rattle.spec_slice_data.specs.Tree.{coding_tree_unit, unit_and_end}

@@ -4,11 +4,11 @@ ghost use Rattle.std.specs.Prelude.{◌≡◌, ◌+◌, ◌-◌, ◌<◌, ◌≤
 ghost use Rattle.spec_cabac.specs.Engine.{IsLive};
 ghost use Rattle.spec_cabac.specs.Bins.{truncated};
 ghost use Rattle.spec_slice_data.specs.Inter.{merge_bin, reference_bin};
-ghost use Rattle.cabac_contexts.specs.Takes.{Takes};
+ghost use Rattle.transform_tree.specs.CabacContexts.{Takes};
 
-use cabac_contexts::BinReader;
 use hv_base::Breach;
 use spec_cabac::{MERGE_IDX, REF_IDX};
+use transform_tree::BinReader;
 
 /// A bin of merge_idx, whose first one has a context.
 fn merge_bin(reader: &mut BinReader<'_>, i: u8) -> Result<bool, Breach>

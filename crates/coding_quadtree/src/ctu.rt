@@ -3,7 +3,7 @@
 ghost use Rattle.std.specs.Prelude.{◌≡◌, ◌≤◌, [], IfOk};
 ghost use Rattle.spec_cabac.specs.Engine.{IsLive};
 ghost use Rattle.spec_cabac.specs.Bins.{read};
-ghost use Rattle.cabac_contexts.specs.Takes.{state_of};
+ghost use Rattle.transform_tree.specs.CabacContexts.{state_of};
 ghost use Rattle.spec_slice_data.specs.Syntax.{IsSyntax};
 ghost use Rattle.spec_slice_data.specs.Tree.{unit_and_end};
 ghost use Rattle.spec_slice_data.specs.declared.syntax.End.TheVariants as end;
@@ -16,11 +16,10 @@ use crate::judge::judge_end;
 use crate::quadtree::coding_tree_unit;
 use crate::squares::side;
 use crate::unit_place::UnitPlace;
-use cabac_contexts::BinReader;
 use ctu_records::{Neighbours, Quantization, Records, Sao};
 use hv_base::Breach;
-use residual_syntax::Levels;
 use spec_slice_data::{CtuSyntax, End};
+use transform_tree::{BinReader, Levels};
 
 /// How many of `n` places beside a unit are available.
 fn available(there: bool, places: u32, n: u32) -> u32

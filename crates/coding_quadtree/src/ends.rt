@@ -4,11 +4,11 @@ ghost use Rattle.std.specs.Prelude.{◌≡◌, IfOk};
 ghost use Rattle.spec_cabac.specs.Engine.{IsLive};
 ghost use Rattle.spec_slice_data.specs.Tree.{unit_end};
 ghost use Rattle.spec_slice_data.specs.declared.syntax.End.TheVariants as end;
-ghost use Rattle.cabac_contexts.specs.Takes.{Reaches};
+ghost use Rattle.transform_tree.specs.CabacContexts.{Reaches};
 
-use cabac_contexts::BinReader;
 use hv_base::{Breach, FaultKind};
 use spec_slice_data::End;
+use transform_tree::BinReader;
 
 /// end_of_slice_segment_flag, and end_of_subset_one_bit where a substream begins with the next unit. Behind a 1 of
 /// either no bin is asked before the engine starts anew.

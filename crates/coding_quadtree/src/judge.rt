@@ -4,9 +4,9 @@ ghost use Rattle.std.specs.Prelude.{◌≡◌, OnOk, true, false};
 ghost use Rattle.spec_slice_data.specs.Segment.{ends_rightly, judged_end};
 ghost use Rattle.coding_quadtree.specs.Judged.{Judges};
 
-use cabac_engine::Interval;
 use hv_base::{Breach, FaultKind};
 use spec_slice_data::End;
+use transform_tree::Interval;
 
 /// Whether trailing bits end a substream, with no byte behind them. Where they don't, the interval may have moved.
 #[tactic(auto, unfolding(spec_cabac::specs::Engine::pcm_start_at))]

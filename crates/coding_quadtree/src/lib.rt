@@ -25,4 +25,5 @@ pub use judge::judge_end;
 pub use laws::unit_is_the_next_step;
 pub use offset::sao;
 pub use quadtree::{coding_quadtree, coding_tree_unit};
+pub use transform_tree::{BinReader, Contexts, Interval, Levels};
 pub use unit_place::UnitPlace;

@@ -7,15 +7,14 @@ ghost use Rattle.spec_slice_data.specs.Modes.{candidate, candidates, chroma_mode
 ghost use Rattle.spec_slice_data.specs.Modes.{listed_mode, luma_block, luma_blocks, luma_mode, luma_modes};
 ghost use Rattle.spec_slice_data.specs.Modes.{luma_quarters, luma_whole, prev_intra_luma_pred_flag, passed, remaining};
 ghost use Rattle.spec_slice_data.specs.Modes.{third_candidate};
-ghost use Rattle.cabac_contexts.specs.Takes.{Takes};
+ghost use Rattle.transform_tree.specs.CabacContexts.{Takes};
 ghost use Rattle.transform_tree.specs.Leaves.{Fills, Grows};
 
-use cabac_contexts::BinReader;
 use ctu_records::{LumaMode, Records, Square};
 use hv_base::Breach;
 use spec_cabac::{INTRA_CHROMA_PRED_MODE, PREV_INTRA_LUMA_PRED_FLAG};
 use spec_slice_data::Candidates;
-use transform_tree::{lower_left, lower_right, upper_left, upper_right};
+use transform_tree::{BinReader, lower_left, lower_right, upper_left, upper_right};
 
 /// The first of planar, DC and vertical that is neither of two others.
 #[tactic(auto, unfolding(spec_slice_data::specs::Modes::third_candidate))]

@@ -6,18 +6,18 @@ ghost use Rattle.ctu_records.specs.Tree.{IsPlaced, room};
 ghost use Rattle.spec_cabac.specs.Engine.{IsLive};
 ghost use Rattle.spec_slice_data.specs.Inter.{is_merged, last_two, later_parts, merge_idx, merged, motion, part_count};
 ghost use Rattle.spec_slice_data.specs.Inter.{prediction_unit, rqt_root_cbf, with_part};
-ghost use Rattle.cabac_contexts.specs.Takes.{Takes};
+ghost use Rattle.transform_tree.specs.CabacContexts.{Takes};
 ghost use Rattle.transform_tree.specs.Leaves.{Fills, Grows};
 
 use crate::bins::merge_idx;
 use crate::vectors::vectors;
-use cabac_contexts::BinReader;
 use ctu_records::{
     Item, MotionSyntax, PartMode, PredictionUnit, Records, Rectangle, Square, part_block,
 };
 use hv_base::Breach;
 use spec_cabac::{MERGE_FLAG, RQT_ROOT_CBF};
 use spec_slice_data::{InterSyntax, UnitStart};
+use transform_tree::BinReader;
 
 /// A merged prediction unit's index.
 pub fn merged(reader: &mut BinReader<'_>, inter: &InterSyntax) -> Result<MotionSyntax, Breach>

@@ -5,14 +5,13 @@ ghost use Rattle.spec_cabac.specs.Engine.{IsLive};
 ghost use Rattle.spec_slice_data.specs.Offset.{band, band_offset, class_of, class_where, edge, kind_of, like_component};
 ghost use Rattle.spec_slice_data.specs.Offset.{greatest_offset, merge_flag, offsets, own_component, own_sao, sao};
 ghost use Rattle.spec_slice_data.specs.Offset.{sao_offset_abs, sao_or_above, sao_type_idx};
-ghost use Rattle.cabac_contexts.specs.Takes.{Takes};
+ghost use Rattle.transform_tree.specs.CabacContexts.{Takes};
 
-use cabac_contexts::BinReader;
 use ctu_records::{ComponentOffset, Sao};
 use hv_base::Breach;
 use spec_cabac::{SAO_MERGE_FLAG, SAO_TYPE_IDX};
 use spec_slice_data::CtuSyntax;
-use transform_tree::signed;
+use transform_tree::{BinReader, signed};
 
 /// 2^`n`.
 #[tactic(auto, using(crate::proofs::Powers::few_sizes, crate::proofs::Powers::some_sizes))]

@@ -4,13 +4,13 @@ ghost use Rattle.std.specs.Prelude.{◌≡◌, ◌<◌};
 ghost use Rattle.spec_cabac.specs.Engine.{IsLive};
 ghost use Rattle.spec_slice_data.specs.Inter.{beside_or_four, beside_parts, may_have_four, more_parts, part_mode};
 ghost use Rattle.spec_slice_data.specs.Inter.{two_parts};
-ghost use Rattle.cabac_contexts.specs.Takes.{Takes};
+ghost use Rattle.transform_tree.specs.CabacContexts.{Takes};
 
-use cabac_contexts::BinReader;
 use ctu_records::PartMode;
 use hv_base::Breach;
 use spec_cabac::PART_MODE;
 use spec_slice_data::InterSyntax;
+use transform_tree::BinReader;
 
 /// Two parts of one height or width, or of two; then which of them is the lesser.
 #[tactic(auto, unfolding(spec_slice_data::specs::Inter::two_parts))]

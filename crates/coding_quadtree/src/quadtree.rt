@@ -5,20 +5,20 @@ ghost use Rattle.ctu_records.specs.Tree.{IsPlaced, room};
 ghost use Rattle.spec_cabac.specs.Engine.{IsLive};
 ghost use Rattle.spec_slice_data.specs.Syntax.{IsSyntax};
 ghost use Rattle.spec_slice_data.specs.Tree.{coding_quadtree, coding_tree_unit, deeper, split_cu_flag};
-ghost use Rattle.cabac_contexts.specs.Takes.{Takes};
+ghost use Rattle.transform_tree.specs.CabacContexts.{Takes};
 ghost use Rattle.transform_tree.specs.Leaves.{Fills, Grows};
 ghost use Rattle.transform_tree.specs.Quarters.{in_quarters};
 
 use crate::offset::sao;
 use crate::squares::side;
 use crate::unit::coding_unit;
-use cabac_contexts::BinReader;
 use ctu_records::{Records, Sao, Square};
 use hv_base::Breach;
-use residual_syntax::Levels;
 use spec_cabac::SPLIT_CU_FLAG;
 use spec_slice_data::CtuSyntax;
-use transform_tree::{begin_group, lower_left, lower_right, upper_left, upper_right};
+use transform_tree::{
+    BinReader, Levels, begin_group, lower_left, lower_right, upper_left, upper_right,
+};
 
 /// How many of the places on the left and above are deeper.
 #[tactic(auto, unfolding(spec_slice_data::specs::Tree::deeper))]

@@ -7,7 +7,7 @@ ghost use Rattle.spec_slice_data.specs.Syntax.{IsSyntax};
 ghost use Rattle.spec_slice_data.specs.Tree.{begun_unit, coding_unit, inter_syntax, inter_unit, intra_body};
 ghost use Rattle.spec_slice_data.specs.Tree.{intra_syntax, intra_unit, is_split, parts_and_tree, pcm_flag, pcm_sample};
 ghost use Rattle.spec_slice_data.specs.Tree.{pcm_samples, pcm_unit, skipped_unit, unit_body, unit_tree};
-ghost use Rattle.cabac_contexts.specs.Takes.{Reaches, Takes, state_of};
+ghost use Rattle.transform_tree.specs.CabacContexts.{Reaches, Takes, state_of};
 ghost use Rattle.spec_cabac.specs.Bins.{read};
 ghost use Rattle.transform_tree.specs.Leaves.{Fills, Grows, Leaves};
 
@@ -16,13 +16,11 @@ use crate::motion::{add_part, later_parts, merged, motion, part_count, rqt_root_
 use crate::part_mode::part_mode;
 use crate::squares::area;
 use crate::unit_start::unit_start;
-use cabac_contexts::BinReader;
 use ctu_records::{CodingUnit, Item, PartMode, Quantization, Records, Square, part_block};
 use hv_base::Breach;
-use residual_syntax::Levels;
 use spec_cabac::PART_MODE;
 use spec_slice_data::{CtuSyntax, PcmSyntax, UnitStart, UnitSyntax};
-use transform_tree::unit_tree;
+use transform_tree::{BinReader, Levels, unit_tree};
 
 /// A sample of pulse code modulation.
 #[tactic(auto, using(crate::proofs::Powers::few_bits))]

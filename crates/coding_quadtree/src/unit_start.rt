@@ -5,13 +5,13 @@ ghost use Rattle.ctu_records.specs.Tree.{IsPlaced};
 ghost use Rattle.spec_cabac.specs.Engine.{IsLive};
 ghost use Rattle.spec_slice_data.specs.Inter.{cu_skip_flag, pred_mode_flag, skipped_beside};
 ghost use Rattle.spec_slice_data.specs.Tree.{cu_transquant_bypass_flag, unit_start};
-ghost use Rattle.cabac_contexts.specs.Takes.{Takes};
+ghost use Rattle.transform_tree.specs.CabacContexts.{Takes};
 
-use cabac_contexts::BinReader;
 use ctu_records::{Records, Square};
 use hv_base::Breach;
 use spec_cabac::{CU_SKIP_FLAG, CU_TRANSQUANT_BYPASS_FLAG, PRED_MODE_FLAG};
 use spec_slice_data::{CtuSyntax, InterSyntax, UnitStart};
+use transform_tree::BinReader;
 
 /// cu_transquant_bypass_flag.
 fn cu_transquant_bypass_flag(reader: &mut BinReader<'_>, syntax: &CtuSyntax) -> Result<bool, Breach>

@@ -6,14 +6,14 @@ ghost use Rattle.spec_slice_data.specs.Inter.{abs_mvd_greater1_flag, difference,
 ghost use Rattle.spec_slice_data.specs.Inter.{inter_pred_idc, is_difference, mvd_coding, one_list, one_or_both};
 ghost use Rattle.spec_slice_data.specs.Inter.{some_difference, vector_in, vector_where, vectors};
 ghost use Rattle.spec_slice_data.specs.Offset.{signed};
-ghost use Rattle.cabac_contexts.specs.Takes.{Takes};
+ghost use Rattle.transform_tree.specs.CabacContexts.{Takes};
 
 use crate::bins::ref_idx;
-use cabac_contexts::BinReader;
 use ctu_records::{MotionSyntax, Mv, Rectangle, VectorSyntax};
 use hv_base::{Breach, FaultKind};
 use spec_cabac::{ABS_MVD_GREATER0_FLAG, ABS_MVD_GREATER1_FLAG, INTER_PRED_IDC, MVP_FLAG};
 use spec_slice_data::InterSyntax;
+use transform_tree::BinReader;
 
 const OUT_OF_RANGE: Breach = Breach::Fault(FaultKind::MvdRange);
 

@@ -8,7 +8,8 @@ use Rattle.clap.specs.declared.error.kind.ErrorKind.TheVariants as kind
 use Rattle.clap.specs.declared.parser.matches.ArgMatches.{ArgMatches}
 use Rattle.clap.proofs.OnLiterals.{clap_on_literals}
 use Rattle.command_line.specs.declared.request.Request.{Request}
-use Rattle.command_line.specs.Words.{program_command, decoding_command, make_command, faults_of, matches_of, request_of}
+use Rattle.command_line.specs.Words.{program_command, decoding_command, make_command, faults_of, matches_of}
+use Rattle.command_line.specs.Words.{request_of}
 use Rattle.command_line.specs.Words.{unless_refused, with_decoding}
 
 is_exact : is_simple_and_free program_command ≡ true

@@ -12,5 +12,6 @@ mod summary;
 mod summary_line;
 mod words;
 
+pub use decoder::{Form, Options, Session};
 pub use program::run;
 pub use request::{MakeOptions, Request};

@@ -14,7 +14,7 @@ use crate::summary_line::{SummaryLine, summary_line};
 use decoder::{Form, Options, decode};
 use hv_base::Outcome;
 use hv_io::{Failed, Gate, Sink, write_all};
-use made_decoding_laws::made_streams_are_decoded;
+use made_drawing_laws::made_streams_are_decoded;
 use std::alloc::{AllocError, Global};
 use std::sync::Wait;
 use std::thread::Threads;

@@ -1,5 +1,6 @@
 -- Cells that are changed, and the samples that they hold.
-use Rattle.std.proofs.Common.{◌≡◌, ℕ, ◌+◌, ◌-◌, ◌<◌, ◌≤◌, cond, Bool, true, false, ℤ, List, Option, Some, get_or, arith}
+use Rattle.std.proofs.Common.{◌≡◌, ℕ, ◌+◌, ◌-◌, ◌<◌, ◌≤◌, cond, Bool, true, false, ℤ, List, Option, Some, get_or}
+use Rattle.std.proofs.Common.{arith}
 use Rattle.std.proofs.Math.Path.{fun_ext}
 use Rattle.std.proofs.lemmas.Bool.Decides.{nat_tests}
 use Rattle.ctu_build.specs.declared.place.Place.{Place}

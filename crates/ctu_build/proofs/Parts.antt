@@ -6,7 +6,7 @@ use Rattle.ctu_records.specs.declared.prediction.PartMode.TheVariants.{NLx2N, NR
 use Rattle.ctu_records.specs.declared.prediction.PredictionUnit.{PredictionUnit}
 use Rattle.spec_motion.specs.Derivation.{IsPlaced}
 use Rattle.spec_reconstruction.specs.Sound.{IsPrediction}
-use Rattle.spec_slice_data.specs.Inter.{part_count}
+use Rattle.spec_reconstruction.specs.SpecSliceData.{part_count}
 
 count_few : (mode : PartMode) → part_count mode ≤ 4
 unfolding part_count

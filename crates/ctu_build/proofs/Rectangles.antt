@@ -9,7 +9,7 @@ use Rattle.spec_motion.specs.declared.vectors.Motion.{Motion}
 use Rattle.spec_reconstruction.specs.declared.format.UnitFormat.{UnitFormat}
 use Rattle.spec_reconstruction.specs.Inter.{InterUnit, component_predicted, inter_sample, rectangle_laid, samples_of}
 use Rattle.spec_reconstruction.specs.Known.{Known}
-use Rattle.spec_slice_data.specs.Residual.{samples_of_place}
+use Rattle.spec_reconstruction.specs.SpecSliceData.{samples_of_place}
 
 -- whether a sample is in a rectangle, and the sample there of one that stands in lines of 64
 abbrev pub in_area : ℕ → ℕ → ℕ → ℕ → ℕ → ℕ → ℕ → ℕ → Bool

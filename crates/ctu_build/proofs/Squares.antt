@@ -11,7 +11,7 @@ use Rattle.spec_reconstruction.specs.declared.format.UnitFormat.{UnitFormat}
 use Rattle.spec_reconstruction.specs.Parameters.{depth_of, parameter_of}
 use Rattle.spec_reconstruction.specs.declared.unit_mode.UnitMode.{UnitMode}
 use Rattle.spec_reconstruction.specs.Residuals.{levels_behind, residuals, residuals_behind}
-use Rattle.spec_slice_data.specs.Residual.{samples_of_place}
+use Rattle.spec_reconstruction.specs.SpecSliceData.{samples_of_place}
 use Rattle.spec_transforms.specs.Scaling.{Is16}
 use Rattle.spec_transforms.specs.Transforms.{IsResidual, block_in}
 use Rattle.ctu_build.specs.declared.place.Place.{Place}

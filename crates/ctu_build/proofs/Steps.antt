@@ -1,5 +1,6 @@
 -- Items one after the other.
-use Rattle.std.proofs.Common.{◌≡◌, ℕ, ◌+◌, ◌-◌, ◌*◌, ◌^◌, ◌<◌, ◌≤◌, List, ◌∷◌, length, get_or, take, drop, sym, ap, ◌∙◌}
+use Rattle.std.proofs.Common.{◌≡◌, ℕ, ◌+◌, ◌-◌, ◌*◌, ◌^◌, ◌<◌, ◌≤◌, List, ◌∷◌, length, get_or, take, drop, sym, ap}
+use Rattle.std.proofs.Common.{◌∙◌}
 use Rattle.std.proofs.Common.{[], zero, suc, refl, subst, arith}
 use Rattle.std.proofs.lemmas.List.{drop_more, drop_all, length-drop, take_all}
 use Rattle.ctu_records.specs.declared.item.CodedBlock.{CodedBlock}
@@ -9,7 +10,7 @@ use Rattle.ctu_build.specs.declared.blocks.InUnit.{InUnit}
 use Rattle.spec_reconstruction.specs.Known.{Known, constructed}
 use Rattle.spec_reconstruction.specs.Parameters.{depth_of}
 use Rattle.spec_reconstruction.specs.Residuals.{residuals_behind}
-use Rattle.spec_slice_data.specs.Residual.{samples_of_place}
+use Rattle.spec_reconstruction.specs.SpecSliceData.{samples_of_place}
 use Rattle.spec_reconstruction.specs.declared.format.UnitFormat.{UnitFormat}
 use Rattle.spec_reconstruction.specs.declared.unit_mode.UnitMode.{UnitMode}
 use Rattle.spec_reconstruction.specs.Inter.{InterUnit}

@@ -6,7 +6,7 @@ use Rattle.ctu_records.specs.declared.item.CodedBlock.{CodedBlock}
 use Rattle.ctu_records.specs.declared.item.Square.{Square}
 use Rattle.ctu_records.specs.Places.{inside}
 use Rattle.spec_reconstruction.specs.Known.{Known}
-use Rattle.spec_slice_data.specs.Residual.{samples_of_place}
+use Rattle.spec_reconstruction.specs.SpecSliceData.{samples_of_place}
 use Rattle.ctu_build.specs.declared.extents.Extents.{Extents}
 use Rattle.ctu_build.specs.declared.place.Place.{Place}
 

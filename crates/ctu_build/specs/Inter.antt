@@ -3,7 +3,7 @@ use Rattle.std.specs.Prelude.{◌≤◌, None, if◌then◌else◌}
 use Rattle.ctu_motion.specs.Held as unit_motion
 use Rattle.inter_samples.specs.declared.inter.UnitInter.{UnitInter}
 use Rattle.inter_samples.specs.Inter.{AreSmall, inter_unit}
-use Rattle.spec_inter_prediction.specs.Tables.{IsSliceWeighting}
+use Rattle.spec_reconstruction.specs.SpecInterPrediction.{IsSliceWeighting}
 use Rattle.spec_motion.specs.Vectors as motion
 use Rattle.spec_reconstruction.specs.declared.format.UnitFormat.{UnitFormat}
 use Rattle.spec_reconstruction.specs.Inter.{InterUnit, Pictures}

@@ -2,3 +2,4 @@ pub mod Held
 pub mod Building
 pub mod Offsets
 pub mod Inter
+pub mod InterSamples

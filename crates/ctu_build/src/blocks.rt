@@ -7,7 +7,7 @@ ghost use Rattle.spec_reconstruction.specs.Sound.{IsCoded, IsFormat};
 ghost use Rattle.spec_reconstruction.specs.Known.{constructed};
 ghost use Rattle.spec_reconstruction.specs.Parameters.{depth_of};
 ghost use Rattle.spec_reconstruction.specs.Residuals.{residuals_behind, levels_behind};
-ghost use Rattle.spec_slice_data.specs.Residual.{samples_of_place};
+ghost use Rattle.spec_reconstruction.specs.SpecSliceData.{samples_of_place};
 ghost use Rattle.spec_transforms.specs.Scaling.{Is16, IsParameter};
 
 use crate::levels::read_levels;

@@ -14,9 +14,8 @@ use crate::edge::write_edge;
 use crate::parameters::depth_of;
 use crate::place::Place;
 use crate::unit_samples::UnitSamples;
-use ctu_motion::UnitMotion;
+use ctu_motion::{MotionView, UnitMotion};
 use intra_pred::{Border, neighbours};
-use motion_candidates::MotionView;
 use spec_reconstruction::UnitFormat;
 
 /// What the intra blocks of a unit depend on apart from its samples.

@@ -23,7 +23,7 @@ use crate::source::Source;
 use crate::transform_units::{Modes, predict_unit};
 use crate::unit_samples::UnitSamples;
 use ctu_records::{CodedBlock, Item, PredictionUnit, Records, Square};
-use inter_pred::RefWindow;
+use inter_samples::RefWindow;
 use spec_motion::is_placed;
 use spec_reconstruction::UnitFormat;
 

@@ -22,6 +22,7 @@ mod transform_units;
 mod unit;
 mod unit_samples;
 
+pub use inter_samples::{RefWindow, UnitInter};
 pub use scratch::Scratch;
 pub use unit::build_ctu;
 pub use unit_samples::UnitSamples;

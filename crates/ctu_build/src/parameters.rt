@@ -10,8 +10,7 @@ ghost use Rattle.spec_reconstruction.specs.Residuals.{factors_of};
 ghost use Rattle.spec_transforms.specs.Scaling.{IsDepth, IsParameter};
 ghost use Rattle.spec_reconstruction.specs.Sound.{IsFormat};
 
-use spec_reconstruction::{ScalingFactors, UnitFormat, UnitMode};
-use spec_slice_data::chroma_qp_of_index;
+use spec_reconstruction::{ScalingFactors, UnitFormat, UnitMode, chroma_qp_of_index};
 
 /// The bit depth of a component.
 pub(crate) fn depth_of(format: &UnitFormat, c: u8) -> u32

@@ -9,10 +9,9 @@ ghost use Rattle.spec_reconstruction.specs.Inter.{component_predicted, predictio
 use crate::scratch::Scratch;
 use crate::source::Source;
 use crate::unit_samples::UnitSamples;
+use ctu_motion::{MotionView, part_block};
 use ctu_records::{PredictionUnit, Rectangle};
-use inter_pred::RefWindow;
-use inter_samples::predict;
-use motion_candidates::{MotionView, part_block};
+use inter_samples::{RefWindow, predict};
 use spec_motion::Motion;
 
 /// A block of places in samples of a component.

@@ -2,7 +2,7 @@
 
 ghost use Rattle.std.specs.Prelude.{◌≡◌, ◌+◌, ◌^◌, ◌≤◌, nat_le, true};
 ghost use Rattle.spec_reconstruction.specs.Sound.{IsCoded, IsSquare};
-ghost use Rattle.spec_slice_data.specs.Residual.{samples_of_place};
+ghost use Rattle.spec_reconstruction.specs.SpecSliceData.{samples_of_place};
 
 use ctu_records::{CodedBlock, Square};
 use inter_samples::samples_of_place;

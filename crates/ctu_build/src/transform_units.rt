@@ -6,7 +6,7 @@ ghost use Rattle.ctu_motion.specs.Held.{held as motion_held};
 ghost use Rattle.spec_reconstruction.specs.Sound.{IsFormat, IsSquare};
 ghost use Rattle.spec_reconstruction.specs.Prediction.{block_predicted, chroma_predicted, chroma_of_unit_predicted};
 ghost use Rattle.spec_reconstruction.specs.Prediction.{unit_predicted, is_fourth};
-ghost use Rattle.spec_slice_data.specs.Transform.{whole_of_fourth};
+ghost use Rattle.spec_reconstruction.specs.SpecSliceData.{whole_of_fourth};
 
 use crate::intra_border::{IntraUnit, gather};
 use crate::parameters::depth_of;

@@ -7,7 +7,7 @@ ghost use Rattle.ctu_build.specs.Held.{held};
 ghost use Rattle.ctu_build.specs.Inter.{IsReady, inter_of};
 ghost use Rattle.ctu_motion.specs.Held.{held as motion_held};
 ghost use Rattle.inter_samples.specs.Inter.{AreSmall, inter_unit};
-ghost use Rattle.spec_inter_prediction.specs.Tables.{IsSliceWeighting};
+ghost use Rattle.spec_reconstruction.specs.SpecInterPrediction.{IsSliceWeighting};
 ghost use Rattle.spec_reconstruction.specs.Sound.{ArePulses, AreSound, BeginsPulses, IsFormat, IsSound};
 ghost use Rattle.spec_reconstruction.specs.Unit.{before_unit, item_built, items_built, unit_built};
 
@@ -17,8 +17,7 @@ use crate::scratch::Scratch;
 use crate::source::Source;
 use crate::unit_samples::UnitSamples;
 use ctu_records::{Item, Records};
-use inter_pred::RefWindow;
-use inter_samples::UnitInter;
+use inter_samples::{RefWindow, UnitInter};
 use spec_reconstruction::UnitFormat;
 
 /// An item, and the items behind it.

@@ -6,7 +6,7 @@ use Rattle.std.proofs.Math.Path.{fun_ext}
 use Rattle.std.proofs.lemmas.Bool.{cases_lt}
 use Rattle.std.proofs.lemmas.Bool.Decides.{nat_tests}
 use Rattle.std.proofs.lemmas.List.{get_or-replicate, length-replicate}
-use Rattle.ctu_records.specs.declared.prediction.Rectangle.{Rectangle}
+use Rattle.spec_motion.specs.CtuRecords.{Rectangle}
 use Rattle.spec_motion.specs.declared.vectors.Motion.{Motion}
 use Rattle.spec_motion.specs.Derivation.{motion_over}
 use Rattle.ctu_motion.specs.Held.{Cells, cell, block_cell, held, held_beneath}

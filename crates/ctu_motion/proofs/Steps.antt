@@ -2,7 +2,7 @@
 use Rattle.std.proofs.Common.{◌≡◌, ℕ, ◌+◌, ◌<◌, ◌≤◌, List, ◌∷◌, length, get_or, drop, sym, ap, ◌∙◌}
 use Rattle.std.proofs.lemmas.List.{drop_more, drop_all}
 use Rattle.std.specs.List.{fold}
-use Rattle.ctu_records.specs.declared.item.Item.{Item}
+use Rattle.spec_motion.specs.CtuRecords.{Item}
 use Rattle.spec_motion.specs.declared.slice_motion.SliceMotion.{SliceMotion}
 use Rattle.spec_motion.specs.Vectors.{Beneath, Known}
 use Rattle.spec_motion.specs.Units.{item_derived, unit_derived}

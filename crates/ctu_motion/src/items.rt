@@ -6,8 +6,7 @@ ghost use Rattle.ctu_motion.specs.Held.{held, held_beneath};
 ghost use Rattle.spec_motion.specs.Units.{IsPlacedItem, item_derived, unit_derived};
 
 use crate::unit_motion::UnitMotion;
-use ctu_records::Item;
-use spec_motion::{SliceMotion, is_placed};
+use spec_motion::{Item, SliceMotion, is_placed};
 
 /// Derives the prediction units of a coding tree unit in reading order, each over what those before it left. One that
 /// doesn't lie in the unit is passed over.

@@ -7,4 +7,5 @@ mod items;
 mod unit_motion;
 
 pub use items::derive_motion;
+pub use motion_candidates::{MotionView, part_block, reference_in};
 pub use unit_motion::UnitMotion;

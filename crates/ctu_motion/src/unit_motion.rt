@@ -5,9 +5,8 @@ ghost use Rattle.ctu_motion.specs.Held.{held, held_beneath};
 ghost use Rattle.spec_motion.specs.Derivation.{IsPlaced, motion_laid, motion_over};
 
 use crate::fill::fill_block;
-use ctu_records::{PredictionUnit, Rectangle};
 use motion_candidates::{MotionView, derive, part_block};
-use spec_motion::{Collocated, Motion, SliceMotion};
+use spec_motion::{Collocated, Motion, PredictionUnit, Rectangle, SliceMotion};
 use std::marker::Model;
 
 /// The motion that is known while a unit is derived: its own, that beside it, and that of the collocated picture.

@@ -1,5 +1,6 @@
 -- What was read of a coding tree unit, and what is asked of it by place.
-use Rattle.std.specs.Prelude.{◌≡◌, ℕ, ◌+◌, ◌-◌, ◌^◌, ◌≤◌, ◌==◌, Bool, true, false, List, [], ◌∷◌, ◌++◌, slice_index_or}
+use Rattle.std.specs.Prelude.{◌≡◌, ℕ, ◌+◌, ◌-◌, ◌^◌, ◌≤◌, ◌==◌, Bool, true, false, List, [], ◌∷◌, ◌++◌}
+use Rattle.std.specs.Prelude.{slice_index_or}
 use Rattle.std.specs.Prelude.{map, nat_lt, if◌then◌else◌, length}
 use Rattle.std.specs.List.{range_with_len, fold}
 use Rattle.ctu_records.specs.declared.item.Square.{Square}

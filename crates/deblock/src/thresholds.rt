@@ -7,8 +7,7 @@ ghost use Rattle.spec_deblocking.specs.Thresholds.{tc};
 ghost use Rattle.std.specs.Int.{int_shr};
 ghost use Rattle.deblock.specs.Samples.{IsDepth, IsFew};
 
-use spec_deblocking::{BETA, Place, Plane, TC};
-use spec_slice_data::chroma_qp_of_index;
+use spec_deblocking::{BETA, Place, Plane, TC, chroma_qp_of_index};
 
 /// Clip3 of a number, where the least is 0.
 #[inline(always)]

@@ -11,8 +11,8 @@ use Rattle.spec_picture_build.specs.References.{DecodedPicture}
 use Rattle.spec_decoder.specs.Decoder.{BufferPicture, is_among, kept_from, pictures_in}
 use Rattle.spec_decoder.specs.Output.{told_number}
 use Rattle.picture_buffer.specs.Pictures.{HeldPicture}
-use Rattle.picture_build.specs.Pictures.{decoded_of}
-use Rattle.picture_build.specs.Pictures.{buffer_of as bases_of}
+use Rattle.row_jobs.specs.PictureBuild.{decoded_of}
+use Rattle.row_jobs.specs.PictureBuild.{buffer_of as bases_of}
 use Rattle.decoder.specs.declared.tag.Tag.{Tag}
 use Rattle.decoder.specs.Buffers.{HeldBuffer, all_tagged, buffer_of, tagged}
 

@@ -7,14 +7,14 @@ use Rattle.hv_base.specs.declared.fault.Fault.{Fault}
 use Rattle.hv_base.specs.declared.outcome.Outcome.TheVariants as outcome
 use Rattle.hv_base.specs.declared.refusal.Stop.{Stop}
 use Rattle.plan_types.specs.declared.picture_plan.PicturePlan.{PicturePlan}
-use Rattle.picture_build.specs.Pictures.{decoded_of}
+use Rattle.row_jobs.specs.PictureBuild.{decoded_of}
 use Rattle.picture_buffer.specs.Pictures.{HeldPicture}
 use Rattle.spec_picture_trees.specs.Picture.{PictureBroken}
 use Rattle.spec_picture_build.specs.References.{DecodedPicture}
 use Rattle.spec_decoded_pictures.specs.Decoded.{picture_decoded}
 use Rattle.spec_decoder.specs.Decoder.{BufferPicture, compared, decoded_data, hashes_judged}
 use Rattle.row_jobs.specs.declared.result.FlightResult.{FlightResult}
-use Rattle.row_jobs.specs.Decoding.{Decodes}
+use Rattle.row_jobs.specs.FlightResults.{Decodes}
 use Rattle.decoder.specs.Flights.{TakesNext}
 use Rattle.decoder.specs.Headline.{outcome_of}
 use Rattle.decoder.specs.Pictures.{IsRefused}

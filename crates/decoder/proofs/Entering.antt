@@ -5,13 +5,13 @@ use Rattle.hv_base.specs.declared.outcome.Outcome.{Outcome}
 use Rattle.hv_base.specs.declared.refusal.Stop.{Stop}
 use Rattle.plan_types.specs.declared.picture_plan.PicturePlan.{PicturePlan}
 use Rattle.picture_buffer.specs.Pictures.{HeldPicture}
-use Rattle.picture_build.specs.Pictures.{decoded_of}
+use Rattle.row_jobs.specs.PictureBuild.{decoded_of}
 use Rattle.spec_picture_build.specs.References.{DecodedPicture}
 use Rattle.spec_decoded_pictures.specs.Decoded.{picture_decoded}
 use Rattle.spec_decoder.specs.Decoder.{BufferPicture, decoded_data, decoded_picture, kept_as, pictures_in}
-use Rattle.spec_flights.specs.References.{staying}
+use Rattle.row_jobs.specs.SpecFlights.{staying}
 use Rattle.row_jobs.specs.declared.result.FlightResult.{FlightResult}
-use Rattle.row_jobs.specs.Decoding.{Decodes, buffer_with}
+use Rattle.row_jobs.specs.FlightResults.{Decodes, buffer_with}
 use Rattle.decoder.specs.declared.tag.Tag.{Tag}
 use Rattle.decoder.specs.Buffers.{HeldBuffer, all_tagged, buffer_of, tagged}
 use Rattle.decoder.specs.Flights.{IsLeft}

@@ -1,5 +1,6 @@
 -- Planes against the hashes that are stated for them.
-use Rattle.std.proofs.Common.{◌≡◌, ℕ, zero, suc, ◌+◌, ◌<◌, ◌≤◌, List, [], ◌∷◌, ◌++◌, length, get_or, map, drop, Option}
+use Rattle.std.proofs.Common.{◌≡◌, ℕ, zero, suc, ◌+◌, ◌<◌, ◌≤◌, List, [], ◌∷◌, ◌++◌, length, get_or, map, drop}
+use Rattle.std.proofs.Common.{Option}
 use Rattle.std.proofs.Common.{Some, None}
 use Rattle.std.proofs.Common.{refl, sym, ap, subst, ◌∙◌, append-nil, arith}
 use Rattle.std.specs.List.{concat, range_with_len}
@@ -15,7 +16,7 @@ use Rattle.hash_sei.specs.PlaneHash.{plane_hash}
 use Rattle.spec_picture_build.specs.Border.{Samples}
 use Rattle.picture_buffer.specs.Pictures.{HeldPicture}
 use Rattle.picture_buffer.specs.Planes.{HasSides, PictureSamples, plane_height, plane_width, samples_of}
-use Rattle.picture_build.specs.Pictures.{decoded_of}
+use Rattle.row_jobs.specs.PictureBuild.{decoded_of}
 use Rattle.spec_picture_build.specs.References.{DecodedPicture, format_height, format_width}
 use Rattle.spec_picture_plan.specs.Closing.{or_later}
 use Rattle.spec_decoder.specs.Hashes.{bit_depth, computed_hash, first_mismatch, mismatch_at, mismatch_by, mismatch_of}

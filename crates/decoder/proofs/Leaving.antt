@@ -3,10 +3,10 @@ use Rattle.std.proofs.Common.{◌≡◌, ℕ, ◌+◌, ◌<◌, List, ◌∷◌,
 use Rattle.plan_types.specs.declared.picture_plan.PicturePlan.{PicturePlan}
 use Rattle.spec_decoder.specs.Decoder.{BufferPicture, kept_from, pictures_in}
 use Rattle.spec_picture_build.specs.References.{DecodedPicture}
-use Rattle.spec_flights.specs.References.{staying}
+use Rattle.row_jobs.specs.SpecFlights.{staying}
 use Rattle.row_jobs.specs.declared.result.FlightResult.{FlightResult}
-use Rattle.row_jobs.specs.Decoding.{Decodes}
-use Rattle.row_jobs.proofs.Flights.{kept_pictures}
+use Rattle.row_jobs.specs.FlightResults.{Decodes}
+use Rattle.row_jobs.proofs.FlightResultsLemmas.{kept_pictures}
 use Rattle.decoder.specs.Buffers.{HeldBuffer, buffer_of}
 use Rattle.decoder.specs.Flights.{IsLeft}
 use Rattle.decoder.proofs.Writes.{drop-next}

@@ -1,7 +1,7 @@
 -- The decoded picture buffer as it is held.
 use Rattle.std.specs.Prelude.{ℕ, List, [], ◌∷◌}
 use Rattle.picture_buffer.specs.Pictures.{HeldPicture}
-use Rattle.picture_build.specs.Pictures.{decoded_of}
+use Rattle.row_jobs.specs.PictureBuild.{decoded_of}
 use Rattle.spec_decoder.specs.Decoder.{BufferPicture}
 use Rattle.decoder.specs.declared.tag.Tag.{Tag}
 

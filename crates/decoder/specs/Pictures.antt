@@ -4,7 +4,7 @@ use Rattle.hv_base.specs.declared.outcome.Outcome.{Outcome}
 use Rattle.hv_base.specs.declared.outcome.Outcome.TheVariants as outcome
 use Rattle.hv_base.specs.declared.refusal.Stop.{Stop}
 use Rattle.picture_buffer.specs.Pictures.{HeldPicture}
-use Rattle.picture_build.specs.Pictures.{decoded_of}
+use Rattle.row_jobs.specs.PictureBuild.{decoded_of}
 use Rattle.plan_types.specs.declared.picture_plan.PicturePlan.{PicturePlan}
 use Rattle.spec_decoder.specs.Decoder.{BufferPicture, kept_as}
 use Rattle.decoder.specs.Buffers.{HeldBuffer, buffer_of}

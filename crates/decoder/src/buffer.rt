@@ -4,7 +4,7 @@ ghost use Rattle.std.specs.Prelude.{◌≡◌, ◌<◌, ◌++◌, ◌∷◌, [],
 ghost use Rattle.std.specs.Prelude.{List, if◌then◌else◌};
 ghost use Rattle.std.specs.List.{remove};
 ghost use Rattle.plan_types.specs.declared.picture_plan.PicturePlan.{PicturePlan};
-ghost use Rattle.row_jobs.specs.Decoding.{Decodes};
+ghost use Rattle.row_jobs.specs.FlightResults.{Decodes};
 ghost use Rattle.spec_decoder.specs.Decoder.{decoded_picture, is_among, kept_from, next_out, out_at, pictures_in};
 ghost use Rattle.decoder.specs.Buffers.{buffer_of, tagged};
 ghost use Rattle.decoder.specs.Flights.{IsLeft};
@@ -18,6 +18,7 @@ use crate::tag::Tag;
 use hv_base::Outcome;
 use hv_io::{Gate, Sink};
 use picture_buffer::{Bases, Picture, SharedPicture};
+use picture_plan::Flight;
 use plan_types::PicturePlan;
 use row_jobs::{FlightResult, Spares, run_flight};
 use spec_decoder::Form;
@@ -71,7 +72,7 @@ impl Buffer {
         &mut self,
         rt: &R,
         workers: u32,
-        pictures: &[PicturePlan],
+        pictures: &Flight,
         gate: &G,
     ) -> Result<FlightResult, AllocError>
         ensures decoded { IfOk result

@@ -2,7 +2,7 @@
 
 ghost use Rattle.std.specs.Prelude.{◌≡◌, ◌<◌};
 ghost use Rattle.header_types.specs.SequenceParameterSets.{IsPictureFormat};
-ghost use Rattle.picture_build.specs.Pictures.{decoded_of};
+ghost use Rattle.row_jobs.specs.PictureBuild.{decoded_of};
 ghost use Rattle.spec_decoder.specs.Hashes.{bit_depth, computed_hash, first_mismatch, mismatch_by, mismatch_of};
 ghost use Rattle.decoder.specs.Digests.{AreComputed};
 

@@ -2,9 +2,9 @@
 
 ghost use Rattle.std.specs.Prelude.{◌≡◌, ◌++◌, ◌∷◌, [], List, Option, None, OnErr};
 ghost use Rattle.plan_types.specs.declared.picture_plan.PicturePlan.{PicturePlan};
-ghost use Rattle.picture_build.specs.Pictures.{decoded_of};
+ghost use Rattle.row_jobs.specs.PictureBuild.{decoded_of};
 ghost use Rattle.spec_picture_build.specs.References.{DecodedPicture};
-ghost use Rattle.row_jobs.specs.Decoding.{Decodes};
+ghost use Rattle.row_jobs.specs.FlightResults.{Decodes};
 ghost use Rattle.spec_decoded_pictures.specs.Decoded.{picture_decoded};
 ghost use Rattle.spec_decoder.specs.Decoder.{compared, decoded_data};
 ghost use Rattle.decoder.specs.Flights.{TakesNext};

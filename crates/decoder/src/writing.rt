@@ -4,7 +4,7 @@
 ghost use Rattle.std.specs.Prelude.{◌≡◌, ◌∷◌, List, OnOk};
 ghost use Rattle.plan_types.specs.declared.picture_plan.PicturePlan.{PicturePlan};
 ghost use Rattle.picture_plan.specs.Flights.{pictures_of};
-ghost use Rattle.row_jobs.specs.Decoding.{Decodes};
+ghost use Rattle.row_jobs.specs.FlightResults.{Decodes};
 ghost use Rattle.spec_decoder.specs.Decoder.{decoded_from, finished, pictures_in};
 ghost use Rattle.decoder.specs.Buffers.{buffer_of};
 ghost use Rattle.decoder.specs.Headline.{change_of, outcome_of};
@@ -14,7 +14,7 @@ use crate::buffer::Buffer;
 use crate::options::Options;
 use hv_base::{Outcome, Stop};
 use hv_io::{Gate, Sink};
-use picture_plan::{Flights, Planned};
+use picture_plan::{Flight, Flights, Planned};
 use plan_types::PicturePlan;
 use row_jobs::FlightResult;
 use spec_decoder::Form;
@@ -89,7 +89,7 @@ pub(crate) fn decode_flights<R: Threads + Wait + Sync, O: Sink, G: Gate + Sync>(
 {
     let mut left = flights;
     while let Some(flight) = left.next() {
-        decode_pictures(rt, options, flight.as_slice(), buffer, out, gate)?;
+        decode_pictures(rt, options, &flight, buffer, out, gate)?;
     }
     Ok(())
 }
@@ -99,7 +99,7 @@ pub(crate) fn decode_flights<R: Threads + Wait + Sync, O: Sink, G: Gate + Sync>(
 fn decode_pictures<R: Threads + Wait + Sync, O: Sink, G: Gate + Sync>(
     rt: &R,
     options: Options,
-    pictures: &[PicturePlan],
+    pictures: &Flight,
     buffer: &mut Buffer,
     out: &mut O,
     gate: &G,
@@ -110,8 +110,24 @@ fn decode_pictures<R: Threads + Wait + Sync, O: Sink, G: Gate + Sync>(
     let Ok(mut flight) = buffer.run_flight(rt, options.workers, pictures, gate) else {
         return Err(Outcome::Memory);
     };
+    take_pictures(options, pictures.as_slice(), &mut flight, buffer, out)
+}
+
+/// Takes the pictures of a flight that was decoded, and writes what goes out, up to the first in which something is
+/// broken or met.
+fn take_pictures<O: Sink>(
+    options: Options,
+    pictures: &[PicturePlan],
+    flight: &mut FlightResult,
+    buffer: &mut Buffer,
+    out: &mut O,
+) -> Result<(), Outcome>
+    requires { Decodes (pictures_in (buffer_of buffer.old)) pictures.now flight.old.pictures flight.old.fault }
+    ensures { WritesFirst options.form options.hash (change_of O.contents O.faults out.old out.new) pictures.now
+        buffer.old buffer.new result }
+{
     for picture in pictures {
-        take_picture(options, picture, &mut flight, buffer, out)?;
+        take_picture(options, picture, flight, buffer, out)?;
     }
     Ok(())
 }

@@ -4,3 +4,5 @@ pub mod Indices
 pub mod Ends
 pub mod Standing
 pub mod Passes
+pub mod FlightPackingLawsLemmas
+pub mod FlightWaitsLemmas

@@ -13,7 +13,7 @@ use Rattle.progress_words.specs.declared.view.View.{View}
 use Rattle.progress_words.specs.Core.{AreMet}
 use Rattle.progress_words.specs.Meanings.{Meaning}
 use Rattle.progress_words.specs.Views.{seen_of}
-use Rattle.spec_flights.specs.Rows.{flight_rows, is_sound}
+use Rattle.flight_packing_laws.specs.SpecFlights.{flight_rows, is_sound}
 use Rattle.flight_waits.specs.FactsOfFlights.{AreUsesSound}
 use Rattle.flight_lines.specs.Flights.{IsSized, meaning_of}
 use Rattle.flight_lines.specs.Numbers.{numbered_needs}

@@ -9,14 +9,15 @@ use Rattle.sample_words.specs.declared.unit_content.UnitContent.{UnitContent}
 use Rattle.sample_words.specs.declared.unit_content.UnitContent.TheVariants.{Samples, Vectors, Modes, Offsets}
 use Rattle.sample_words.specs.declared.unit_content.UnitContent.TheVariants.{Contexts, Carried}
 use Rattle.sample_words.specs.Contents.{IsContent, component_side, components_before, index_of}
-use Rattle.sample_words.specs.Sizes.{IsFlight, carry_words, columns, common_words, context_words, height_of, line_words}
+use Rattle.sample_words.specs.Sizes.{IsFlight, carry_words, columns, common_words, context_words, height_of}
+use Rattle.sample_words.specs.Sizes.{line_words}
 use Rattle.sample_words.specs.Sizes.{places, sample_words, tree_words}
 use Rattle.sample_words.specs.Words.{phase_words, unit_word}
 use Rattle.sample_words.proofs.Bounds.{few_tree_words, small_height}
-use Rattle.unit_words.specs.declared.done_unit.DoneUnit.{DoneUnit}
-use Rattle.unit_words.specs.Work.{HasContent, HasWord, IsPackable, height, width}
-use Rattle.unit_words.proofs.Standing.{words_stand}
-use Rattle.spec_flights.specs.Words.{expected}
+use Rattle.flight_packing_laws.specs.UnitWords.{DoneUnit}
+use Rattle.flight_packing_laws.specs.UnitWords.{HasContent, HasWord, IsPackable, height, width}
+use Rattle.flight_packing_laws.proofs.UnitWordsLemmas.{words_stand}
+use Rattle.flight_packing_laws.specs.SpecFlights.{expected}
 use Rattle.flight_packing_laws.proofs.Packed.{packable, word_is}
 use Rattle.line_words.specs.Places.{UnitAt, word_at, words_at}
 use Rattle.flight_waits.specs.FactsOfFlights.{FlightFacts}

@@ -4,9 +4,9 @@ use Rattle.hv_base.specs.declared.line.Phase.TheVariants.{B}
 use Rattle.plan_types.specs.declared.picture_plan.PicturePlan.{PicturePlan}
 use Rattle.spec_known_units.specs.Known.{KnownUnit}
 use Rattle.sample_words.specs.Sizes.{tree_words}
-use Rattle.unit_words.specs.declared.done_unit.DoneUnit.{DoneUnit}
-use Rattle.unit_words.specs.Work.{HasWord, height}
-use Rattle.spec_flights.specs.Pictures.{PlannedFlight}
+use Rattle.flight_packing_laws.specs.UnitWords.{DoneUnit}
+use Rattle.flight_packing_laws.specs.UnitWords.{HasWord, height}
+use Rattle.flight_packing_laws.specs.SpecFlights.{PlannedFlight}
 use Rattle.flight_packing_laws.specs.Done.{IsDone}
 use Rattle.line_words.specs.Places.{UnitAt}
 

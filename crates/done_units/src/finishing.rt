@@ -14,10 +14,10 @@ ghost use Rattle.done_units.specs.Done.{IsDoneAt};
 use crate::places::{write_modes, write_vectors};
 use crate::samples::write_samples;
 use crate::tail::{write_carried, write_contexts, write_offsets};
+use flight_packing_laws::DoneUnit;
 use flight_waits::FlightFacts;
 use line_words::{UnitPlace, count_unit};
 use progress_words::{Board, Pass};
-use unit_words::DoneUnit;
 
 /// Writes all words of a coding tree unit whose work is done, the next one of the line held, of which no word is
 /// written.

@@ -5,7 +5,7 @@ ghost use Rattle.hv_base.specs.declared.line.Line.{Line};
 ghost use Rattle.hv_base.specs.declared.line.Phase.TheVariants.{B};
 ghost use Rattle.board_core.specs.Needs.{read_needs, unit_needs};
 ghost use Rattle.board_core.specs.Uses.{ReadingUses, UnitUses};
-ghost use Rattle.spec_flights.specs.Rows.{flight_rows, is_sound};
+ghost use Rattle.flight_packing_laws.specs.SpecFlights.{flight_rows, is_sound};
 ghost use Rattle.flight_waits.specs.FactsOfFlights.{AreUsesSound};
 ghost use Rattle.progress_words.specs.declared.view.View.{View};
 ghost use Rattle.line_words.specs.Places.{UnitAt};

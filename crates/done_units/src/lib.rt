@@ -10,4 +10,5 @@ mod tail;
 mod writing;
 
 pub use finishing::{finish_unit, write_unit};
+pub use flight_waits::wait_to_read;
 pub use laws::{met_needs_are_seen_uses, met_needs_are_sound_uses};

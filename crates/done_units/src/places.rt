@@ -2,17 +2,17 @@
 
 ghost use Rattle.std.specs.Prelude.{◌≡◌, ◌+◌, ◌/◌, ◌<◌, ◌≤◌, length};
 ghost use Rattle.sample_words.specs.Sizes.{places, sample_words};
-ghost use Rattle.unit_words.specs.Work.{height, width};
+ghost use Rattle.flight_packing_laws.specs.UnitWords.{height, width};
 ghost use Rattle.flight_waits.specs.FactsOfFlights.{flight_in};
 ghost use Rattle.flight_waits.specs.FactsOfFlights.{IsOfFlight};
 ghost use Rattle.done_units.specs.Done.{IsDoneAt};
 ghost use Rattle.done_units.specs.Writing.{HasWritten, IsWriting};
 
 use crate::writing::write_words;
+use flight_packing_laws::DoneUnit;
 use flight_waits::FlightFacts;
 use line_words::UnitPlace;
 use progress_words::{Board, Pass};
-use unit_words::DoneUnit;
 
 /// Writes the vectors of its places, and gives how many words are written then.
 pub(crate) fn write_vectors(

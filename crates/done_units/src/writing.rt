@@ -6,10 +6,10 @@ ghost use Rattle.flight_waits.specs.FactsOfFlights.{IsOfFlight};
 ghost use Rattle.done_units.specs.Done.{HaveWords, IsDoneAt, size_of};
 ghost use Rattle.done_units.specs.Writing.{HasWritten, IsWriting};
 
+use flight_packing_laws::DoneUnit;
 use flight_waits::FlightFacts;
 use line_words::{UnitPlace, write_run};
 use progress_words::{Board, Pass};
-use unit_words::DoneUnit;
 
 /// Writes words of a unit behind those that are written, and gives how many are written then.
 #[inline(always)]

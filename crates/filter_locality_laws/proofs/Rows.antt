@@ -1,15 +1,16 @@
 -- The rows of a component behind each step of the loop filters.
 use Rattle.std.proofs.Common.{◌≡◌, ℕ, zero, suc, ◌+◌, ◌-◌, ◌*◌, ◌/◌, ◌<◌, ◌≤◌, refl, sym, ap, subst, ◌∙◌, arith}
 use Rattle.std.proofs.lemmas.Nat.{div_below, le-div}
-use Rattle.spec_deblocking.specs.declared.place.Place.{Place}
-use Rattle.spec_deblocking.specs.Places.{side}
-use Rattle.spec_deblocking.proofs.Locality.{horizontal_rows, vertical_rows}
-use Rattle.spec_sample_adaptive_offset.specs.Plane.{AgreeBeside, offset_sample, unit_at}
-use Rattle.spec_sample_adaptive_offset.proofs.Samples.{beside_alone}
+use Rattle.spec_loop_filters.specs.SpecDeblocking.{Place}
+use Rattle.spec_loop_filters.specs.SpecDeblocking.{side}
+use Rattle.spec_loop_filters.proofs.SpecDeblockingLemmas.{horizontal_rows, vertical_rows}
+use Rattle.spec_loop_filters.specs.SpecSampleAdaptiveOffset.{AgreeBeside, offset_sample, unit_at}
+use Rattle.spec_loop_filters.proofs.SpecSampleAdaptiveOffsetLemmas.{beside_alone}
 use Rattle.spec_loop_filters.specs.declared.format.FilterFormat.{FilterFormat}
-use Rattle.spec_loop_filters.specs.Filters.{LoopFilters, Samples, deblocked_samples, depth_of, final_samples, height_of}
+use Rattle.spec_loop_filters.specs.Filters.{LoopFilters, Samples, deblocked_samples, depth_of, final_samples}
+use Rattle.spec_loop_filters.specs.Filters.{height_of}
 use Rattle.spec_loop_filters.specs.Filters.{luma_samples, offset_plane, plane_of, size_of, width_of}
-use Rattle.spec_deblocking.specs.Planes.{deblocked}
+use Rattle.spec_loop_filters.specs.SpecDeblocking.{deblocked}
 use Rattle.filter_locality_laws.specs.Rows.{IsFilterFormat, IsOfRow, IsPlaceOfRow, behind_horizontal, behind_vertical}
 use Rattle.filter_locality_laws.proofs.Sizes.{IsRow, row_is}
 

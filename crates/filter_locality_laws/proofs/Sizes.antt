@@ -2,9 +2,9 @@
 use Rattle.std.proofs.Common.{◌≡◌, ℕ, zero, suc, ◌+◌, ◌-◌, ◌*◌, ◌/◌, ◌%◌, ◌<◌, ◌≤◌, ◌==◌, Bool, true, false, ap, ◌∙◌}
 use Rattle.std.proofs.Common.{if◌then◌else◌, arith}
 use Rattle.std.proofs.lemmas.Nat.{mod-mul-add}
-use Rattle.spec_deblocking.specs.declared.place.Plane.{Plane}
-use Rattle.spec_deblocking.specs.declared.place.Plane.TheVariants.{Luma, Chroma}
-use Rattle.spec_deblocking.specs.Places.{side}
+use Rattle.spec_loop_filters.specs.SpecDeblocking.{Plane}
+use Rattle.spec_loop_filters.specs.SpecDeblocking.{Luma, Chroma}
+use Rattle.spec_loop_filters.specs.SpecDeblocking.{side}
 use Rattle.spec_loop_filters.specs.declared.format.FilterFormat.{FilterFormat}
 use Rattle.spec_loop_filters.specs.Filters.{luma_samples, plane_of}
 use Rattle.filter_locality_laws.specs.Rows.{IsFilterFormat, IsPlaceOfRow}

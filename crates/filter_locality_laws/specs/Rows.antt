@@ -1,7 +1,7 @@
 -- Rows of coding tree blocks of a component, their places, and the samples between the steps of the loop filters.
 use Rattle.std.specs.Prelude.{◌≡◌, ℕ, ◌+◌, ◌*◌, ◌%◌, ◌<◌, ◌≤◌}
-use Rattle.spec_deblocking.specs.declared.place.Place.{Place}
-use Rattle.spec_deblocking.specs.Planes.{horizontal, vertical}
+use Rattle.spec_loop_filters.specs.SpecDeblocking.{Place}
+use Rattle.spec_loop_filters.specs.SpecDeblocking.{horizontal, vertical}
 use Rattle.spec_loop_filters.specs.declared.format.FilterFormat.{FilterFormat}
 use Rattle.spec_loop_filters.specs.Filters.{depth_of, height_of, plane_of, size_of, width_of}
 

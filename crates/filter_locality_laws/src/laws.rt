@@ -1,8 +1,8 @@
 //! What follows from the definitions.
 
 ghost use Rattle.std.specs.Prelude.{◌≡◌, ◌<◌, ◌≤◌, ◌+◌, ℕ};
-ghost use Rattle.spec_deblocking.specs.declared.place.Place.{Place};
-ghost use Rattle.spec_sample_adaptive_offset.specs.Plane.{offset_sample};
+ghost use Rattle.spec_loop_filters.specs.SpecDeblocking.{Place};
+ghost use Rattle.spec_loop_filters.specs.SpecSampleAdaptiveOffset.{offset_sample};
 ghost use Rattle.spec_loop_filters.specs.declared.format.FilterFormat.{FilterFormat};
 ghost use Rattle.spec_loop_filters.specs.Filters.{LoopFilters, Samples, final_samples, height_of, offset_plane};
 ghost use Rattle.spec_loop_filters.specs.Filters.{width_of};

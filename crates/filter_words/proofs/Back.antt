@@ -18,21 +18,21 @@ use Rattle.spec_deblocking.specs.declared.place.Place.{Place}
 use Rattle.spec_sample_adaptive_offset.specs.declared.unit.OffsetUnit.{OffsetUnit}
 use Rattle.spec_picture_filters.specs.Units.{is_component, place_of, places_laid, places_read, read_added, unit_added}
 use Rattle.spec_picture_filters.specs.Units.{unit_read, units_laid}
-use Rattle.spec_picture_build.specs.References.{DecodedPicture}
-use Rattle.spec_decoded_pictures.specs.Decoded.{DecodedUnits, units_folded}
-use Rattle.locality_laws.proofs.Motion.{place_is}
-use Rattle.locality_laws.proofs.Widths.{some_units}
-use Rattle.known_picture_laws.specs.Order.{IsInOrder}
-use Rattle.known_picture_laws.proofs.FilterData.{places_are_steps, units_are_steps, where_it_is}
-use Rattle.known_picture_laws.proofs.Order.{in_order}
-use Rattle.known_picture_laws.proofs.Segments.{has_segment}
+use Rattle.flight_facts.specs.SpecPictureBuild.{DecodedPicture}
+use Rattle.flight_facts.specs.SpecDecodedPictures.{DecodedUnits, units_folded}
+use Rattle.flight_facts.proofs.LocalityLawsLemmas.{place_is}
+use Rattle.flight_facts.proofs.LocalityLawsLemmas.{some_units}
+use Rattle.flight_facts.specs.KnownPictureLaws.{IsInOrder}
+use Rattle.flight_facts.proofs.KnownPictureLaws.{places_are_steps, units_are_steps, where_it_is}
+use Rattle.flight_facts.proofs.KnownPictureLaws.{in_order}
+use Rattle.flight_facts.proofs.KnownPictureLaws.{has_segment}
 use Rattle.board_core.proofs.Order.{within_rows}
 use Rattle.sample_words.specs.declared.modes.PlaceModes.{PlaceModes}
-use Rattle.spec_flights.specs.Pictures.{PlannedFlight, folded_at, known_folded, pictures_before}
-use Rattle.spec_flights.specs.References.{given_at}
-use Rattle.spec_flights.specs.Words.{modes_at, modes_of, values_in}
-use Rattle.flight_value_laws.specs.Ranges.{IsInRange}
-use Rattle.flight_value_laws.proofs.Values.{folded_is}
+use Rattle.flight_facts.specs.SpecFlights.{PlannedFlight, folded_at, known_folded, pictures_before}
+use Rattle.flight_facts.specs.SpecFlights.{given_at}
+use Rattle.flight_facts.specs.SpecFlights.{modes_at, modes_of, values_in}
+use Rattle.flight_facts.specs.FlightValueLaws.{IsInRange}
+use Rattle.flight_facts.proofs.FlightValueLaws.{folded_is}
 use Rattle.filter_words.specs.Filters.{filter_place, filter_unit, known_place, place_in, unit_in}
 
 -- an address of a unit of a picture

@@ -6,7 +6,7 @@ use Rattle.loop_filters.specs.Formats.{columns_of, rows_of}
 use Rattle.sample_words.specs.declared.sizes.FlightSizes.{FlightSizes}
 use Rattle.sample_words.specs.Sizes.{IsFlight, columns, ctb_size, rows}
 use Rattle.sample_words.proofs.Bounds.{least_side}
-use Rattle.spec_flights.specs.Words.{flight_sizes}
+use Rattle.flight_facts.specs.SpecFlights.{flight_sizes}
 
 module _ (s : FlightSizes) (p : PicturePlan) (pictures : ℕ) (is : s ≡ flight_sizes p.sps pictures) where
   pub width_is : (filter_format p).width ≡ s.width

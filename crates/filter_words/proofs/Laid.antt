@@ -16,7 +16,7 @@ use Rattle.sample_words.specs.declared.modes.PlaceModes.{PlaceModes}
 use Rattle.sample_words.specs.declared.unit_content.UnitContent.TheVariants.{Modes, Offsets}
 use Rattle.sample_words.specs.Offsets.{sao_in}
 use Rattle.sample_words.specs.Values.{modes_in}
-use Rattle.spec_flights.specs.Words.{expected}
+use Rattle.flight_facts.specs.SpecFlights.{expected}
 use Rattle.line_words.specs.Places.{UnitAt, word_at}
 use Rattle.flight_facts.specs.declared.flight_facts.FlightFacts.{FlightFacts}
 use Rattle.flight_facts.specs.Facts.{flight_in}

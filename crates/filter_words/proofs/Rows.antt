@@ -15,7 +15,7 @@ use Rattle.row_filters.specs.Known.{AreKept, ArePlaces, AreUnits}
 use Rattle.sample_words.specs.declared.sizes.FlightSizes.{FlightSizes}
 use Rattle.sample_words.specs.Sizes.{IsFlight, columns, ctb_size, height_of, rows, width_of}
 use Rattle.sample_words.proofs.Extents.{whole_rows}
-use Rattle.spec_flights.specs.Words.{flight_sizes}
+use Rattle.flight_facts.specs.SpecFlights.{flight_sizes}
 use Rattle.line_words.specs.Places.{UnitAt}
 use Rattle.filter_words.specs.Regions.{LaysPlaces, LaysUnits, is_inside}
 use Rattle.filter_words.specs.Rows.{is_in_row, is_just_above, is_just_below}

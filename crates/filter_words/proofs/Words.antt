@@ -18,7 +18,7 @@ use Rattle.spec_slice_data.specs.Segment.{PictureShape}
 use Rattle.spec_picture_trees.specs.Places.{first_column, first_row, is_of_unit, unit_places}
 use Rattle.spec_picture_trees.specs.Shapes.{picture_shape}
 use Rattle.spec_known_units.specs.Known.{KnownUnit, units_known}
-use Rattle.known_picture_laws.proofs.Segments.{has_segment}
+use Rattle.flight_facts.proofs.KnownPictureLaws.{has_segment}
 use Rattle.sample_words.specs.declared.modes.PlaceModes.{PlaceModes}
 use Rattle.sample_words.specs.declared.sizes.FlightSizes.{FlightSizes}
 use Rattle.sample_words.specs.declared.unit_content.UnitContent.{UnitContent}
@@ -31,11 +31,11 @@ use Rattle.sample_words.specs.Words.{line_units}
 use Rattle.sample_words.proofs.Contents.{content_found}
 use Rattle.sample_words.proofs.Motions.{modes_found}
 use Rattle.sample_words.proofs.OffsetWords.{sao_found}
-use Rattle.spec_flights.specs.Pictures.{PlannedFlight, folded_at}
-use Rattle.spec_flights.specs.Rows.{is_sound, is_sound_in, is_sound_of}
-use Rattle.spec_flights.specs.Words.{expected, flight_sizes, values_in}
-use Rattle.flight_value_laws.specs.Ranges.{FitWords}
-use Rattle.flight_value_laws.proofs.Values.{values_fit}
+use Rattle.flight_facts.specs.SpecFlights.{PlannedFlight, folded_at}
+use Rattle.flight_facts.specs.SpecFlights.{is_sound, is_sound_in, is_sound_of}
+use Rattle.flight_facts.specs.SpecFlights.{expected, flight_sizes, values_in}
+use Rattle.flight_facts.specs.FlightValueLaws.{FitWords}
+use Rattle.flight_facts.proofs.FlightValueLawsValues.{values_fit}
 use Rattle.line_words.specs.Places.{UnitAt, word_at}
 use Rattle.flight_facts.specs.declared.flight_facts.FlightFacts.{FlightFacts}
 use Rattle.flight_facts.specs.Facts.{flight_in}

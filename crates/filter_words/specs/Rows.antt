@@ -8,7 +8,7 @@ use Rattle.progress_words.specs.Views.{seen_of}
 use Rattle.sample_words.specs.declared.sizes.FlightSizes.{FlightSizes}
 use Rattle.sample_words.specs.Sizes.{columns, rows}
 use Rattle.sample_words.specs.Words.{line_number}
-use Rattle.spec_flights.specs.Rows.{is_sound}
+use Rattle.flight_facts.specs.SpecFlights.{is_sound}
 use Rattle.flight_facts.specs.declared.flight_facts.FlightFacts.{FlightFacts}
 use Rattle.flight_facts.specs.Facts.{flight_in}
 use Rattle.filter_words.specs.Regions.{is_inside}

@@ -9,8 +9,8 @@ use Rattle.spec_picture_filters.specs.Filtered.{filter_format}
 use Rattle.board_core.specs.Places.{line_of}
 use Rattle.sample_words.specs.declared.sizes.FlightSizes.{FlightSizes}
 use Rattle.sample_words.specs.Sizes.{ctb_size, height_of, width_of}
-use Rattle.spec_flights.specs.Pictures.{folded_at}
-use Rattle.spec_flights.specs.Rows.{is_sound}
+use Rattle.flight_facts.specs.SpecFlights.{folded_at}
+use Rattle.flight_facts.specs.SpecFlights.{is_sound}
 use Rattle.row_filters.specs.Around.{Around}
 use Rattle.line_words.specs.Places.{IsUnit, UnitAt}
 use Rattle.flight_facts.specs.declared.flight_facts.FlightFacts.{FlightFacts}

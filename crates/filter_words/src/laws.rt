@@ -6,9 +6,9 @@ ghost use Rattle.plan_types.specs.declared.picture_plan.PicturePlan.{PicturePlan
 ghost use Rattle.spec_picture_trees.specs.Places.{is_of_unit};
 ghost use Rattle.spec_picture_trees.specs.Shapes.{picture_shape};
 ghost use Rattle.spec_known_units.specs.Known.{KnownUnit, units_known};
-ghost use Rattle.spec_flights.specs.Pictures.{PlannedFlight, folded_at};
-ghost use Rattle.spec_flights.specs.Words.{values_in};
-ghost use Rattle.flight_value_laws.specs.Ranges.{IsInRange};
+ghost use Rattle.flight_facts.specs.SpecFlights.{PlannedFlight, folded_at};
+ghost use Rattle.flight_facts.specs.SpecFlights.{values_in};
+ghost use Rattle.flight_facts.specs.FlightValueLaws.{IsInRange};
 ghost use Rattle.filter_words.specs.Filters.{filter_place, filter_unit};
 
 /// What the loop filters of a picture of a flight need of a place of a known unit is determined by the place's modes

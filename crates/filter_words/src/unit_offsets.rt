@@ -5,7 +5,7 @@ ghost use Rattle.hv_base.specs.declared.line.Phase.TheVariants.{B};
 ghost use Rattle.loop_filters.specs.Formats.{columns_of};
 ghost use Rattle.spec_picture_filters.specs.Units.{is_across, unit_read};
 ghost use Rattle.sample_words.specs.declared.unit_content.UnitContent.TheVariants.{Modes, Offsets};
-ghost use Rattle.spec_flights.specs.Words.{expected};
+ghost use Rattle.flight_facts.specs.SpecFlights.{expected};
 ghost use Rattle.line_words.specs.Places.{number_at, word_at};
 ghost use Rattle.progress_words.specs.Passes.{IsPassOf, Knows, view};
 ghost use Rattle.progress_words.specs.Views.{seen_of};

@@ -9,7 +9,7 @@ use Rattle.loop_filters.specs.declared.component.Component.{Component}
 use Rattle.row_filters.specs.Lines.{end_line}
 use Rattle.sample_words.specs.declared.sizes.FlightSizes.{FlightSizes}
 use Rattle.sample_words.specs.Sizes.{IsFlight, rows}
-use Rattle.spec_flights.specs.Pictures.{PlannedFlight}
+use Rattle.flight_waits.specs.SpecFlights.{PlannedFlight}
 use Rattle.sample_lines.specs.FactsOfFlights.{samples_at}
 use Rattle.sample_lines.specs.Lines.{height_at, sample_of, width_at}
 use Rattle.filtered_rows.specs.Components.{HasSidesOf, IsPartOfRow}

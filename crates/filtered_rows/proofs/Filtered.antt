@@ -20,7 +20,7 @@ use Rattle.sample_words.specs.declared.sizes.FlightSizes.{FlightSizes}
 use Rattle.progress_words.specs.declared.pass.Pass.{Pass}
 use Rattle.progress_words.specs.declared.view.View.{View}
 use Rattle.progress_words.specs.Passes.{Knows, view}
-use Rattle.spec_flights.specs.Pictures.{PlannedFlight, folded_at}
+use Rattle.flight_waits.specs.SpecFlights.{PlannedFlight, folded_at}
 use Rattle.line_words.specs.Passes.{writing_run}
 use Rattle.line_words.specs.Places.{IsUnit, UnitAt}
 use Rattle.sample_lines.specs.FactsOfFlights.{FlightFacts}

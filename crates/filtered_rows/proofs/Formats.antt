@@ -8,11 +8,11 @@ use Rattle.spec_loop_filters.specs.Filters.{height_of, size_of, width_of}
 use Rattle.spec_picture_filters.specs.Filtered.{filter_format}
 use Rattle.loop_filters.specs.declared.component.Component.{Component}
 use Rattle.loop_filters.specs.Formats.{IsComponent, IsFormat, rows_of}
-use Rattle.picture_filters.proofs.Formats.{is_planned}
+use Rattle.sample_lines.proofs.PictureFiltersLemmas.{is_planned}
 use Rattle.sample_words.specs.declared.sizes.FlightSizes.{FlightSizes}
 use Rattle.sample_words.specs.Contents.{component_side}
 use Rattle.sample_words.specs.Sizes.{ctb_size, rows}
-use Rattle.spec_flights.specs.Words.{flight_sizes}
+use Rattle.flight_waits.specs.SpecFlights.{flight_sizes}
 use Rattle.sample_lines.specs.FactsOfFlights.{FlightFacts}
 use Rattle.sample_lines.specs.FactsOfFlights.{flight_in}
 use Rattle.sample_lines.specs.FactsOfFlights.{IsOfFlight}

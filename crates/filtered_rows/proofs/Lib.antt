@@ -11,3 +11,4 @@ pub mod Counted
 pub mod Ranges
 pub mod Steps
 pub mod Filtered
+pub mod FlightFactsLemmas

@@ -12,7 +12,7 @@ use Rattle.row_filters.specs.Lines.{HoldLines, HoldRow, count_of, end_line, firs
 use Rattle.sample_words.specs.declared.sizes.FlightSizes.{FlightSizes}
 use Rattle.sample_words.specs.Contents.{component_side}
 use Rattle.sample_words.specs.Sizes.{IsFlight, ctb_size, height_of}
-use Rattle.spec_flights.specs.Pictures.{PlannedFlight}
+use Rattle.flight_waits.specs.SpecFlights.{PlannedFlight}
 use Rattle.sample_lines.specs.FactsOfFlights.{samples_at}
 use Rattle.sample_lines.specs.Lines.{height_at, sample_of, width_at}
 use Rattle.filtered_rows.specs.Components.{HasSidesOf}

@@ -3,24 +3,24 @@ use Rattle.std.proofs.Common.{◌≡◌, ℕ, ◌-◌, ◌^◌, ◌<◌, ◌≤�
 use Rattle.hv_base.specs.declared.line.Phase.{Phase}
 use Rattle.plan_types.specs.declared.picture_plan.PicturePlan.{PicturePlan}
 use Rattle.plan_types.specs.declared.segment_plan.SegmentPlan.{SegmentPlan}
-use Rattle.plan_laws.specs.Plans.{IsPlan}
+use Rattle.flight_waits.specs.PlanLaws.{IsPlan}
 use Rattle.spec_picture_trees.specs.Picture.{TreeUnit}
 use Rattle.spec_known_units.specs.Known.{known_units}
 use Rattle.spec_reconstruction.specs.Sound.{ArePulses}
 use Rattle.spec_loop_filters.specs.declared.format.FilterFormat.{FilterFormat}
 use Rattle.spec_loop_filters.specs.Filters.{AreInRange, depth_of}
 use Rattle.spec_picture_filters.specs.Filtered.{filter_format}
-use Rattle.spec_picture_build.specs.Format.{unit_format}
-use Rattle.spec_picture_build.specs.References.{DecodedPicture}
-use Rattle.spec_decoded_pictures.specs.Decoded.{DecodedUnits}
-use Rattle.spec_decoded_pictures.proofs.OneFold.{one_fold}
-use Rattle.unit_laws.proofs.Pictures.{format-fits}
-use Rattle.sample_laws.proofs.Pictures.{built_below}
-use Rattle.spec_flights.specs.Pictures.{PlannedFlight, folded_at, known_folded, pictures_before}
-use Rattle.flight_value_laws.specs.Ranges.{IsInRange}
-use Rattle.flight_value_laws.proofs.Phases.{in_depth, phase_small}
-use Rattle.flight_value_laws.proofs.Pictures.{all_given}
-use Rattle.flight_value_laws.proofs.Values.{fit_at, folded_is}
+use Rattle.flight_waits.specs.SpecPictureBuild.{unit_format}
+use Rattle.flight_waits.specs.SpecPictureBuild.{DecodedPicture}
+use Rattle.flight_waits.specs.SpecDecodedPictures.{DecodedUnits}
+use Rattle.flight_waits.proofs.SpecDecodedPicturesLemmas.{one_fold}
+use Rattle.flight_waits.proofs.UnitLawsLemmas.{format-fits}
+use Rattle.flight_waits.proofs.SampleLawsLemmas.{built_below}
+use Rattle.flight_waits.specs.SpecFlights.{PlannedFlight, folded_at, known_folded, pictures_before}
+use Rattle.flight_waits.specs.FlightValueLaws.{IsInRange}
+use Rattle.flight_waits.proofs.FlightValueLawsLemmas.{in_depth, phase_small}
+use Rattle.flight_waits.proofs.FlightValueLawsLemmas.{all_given}
+use Rattle.flight_waits.proofs.FlightValueLawsLemmas.{fit_at, folded_is}
 use Rattle.sample_lines.specs.FactsOfFlights.{samples_at, samples_of}
 use Rattle.filtered_rows.specs.Components.{IsFormatAt}
 

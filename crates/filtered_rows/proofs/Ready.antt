@@ -27,8 +27,8 @@ use Rattle.progress_words.proofs.Counts.{put_other, put_same}
 use Rattle.flight_lines.specs.Flights.{meaning_of}
 use Rattle.flight_lines.specs.Numbers.{numbered, numbered_needs}
 use Rattle.flight_lines.proofs.Numbered.{line_again, number_of_words, word_line}
-use Rattle.spec_flights.specs.Pictures.{PlannedFlight}
-use Rattle.spec_flights.specs.Rows.{flight_rows, is_sound}
+use Rattle.flight_waits.specs.SpecFlights.{PlannedFlight}
+use Rattle.flight_waits.specs.SpecFlights.{flight_rows, is_sound}
 use Rattle.sample_lines.proofs.FactsOfFlights.{all_sound}
 use Rattle.sample_lines.specs.FactsOfFlights.{FlightFacts}
 use Rattle.sample_lines.specs.FactsOfFlights.{flight_meaning}

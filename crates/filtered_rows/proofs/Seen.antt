@@ -13,7 +13,7 @@ use Rattle.sample_words.specs.Sizes.{columns, rows}
 use Rattle.sample_words.specs.Words.{IsLine as IsWordLine, line_number}
 use Rattle.progress_words.specs.declared.view.View.{View}
 use Rattle.progress_words.specs.Views.{seen_of}
-use Rattle.spec_flights.specs.Rows.{flight_rows}
+use Rattle.flight_waits.specs.SpecFlights.{flight_rows}
 use Rattle.sample_lines.specs.FactsOfFlights.{FlightFacts}
 use Rattle.sample_lines.specs.FactsOfFlights.{flight_meaning}
 use Rattle.sample_lines.specs.FactsOfFlights.{flight_in}

@@ -14,7 +14,7 @@ use Rattle.sample_words.specs.Words.{IsLine, line_units}
 use Rattle.sample_words.proofs.Bounds.{greatest_side, least_side}
 use Rattle.sample_words.proofs.Extents.{some_side}
 use Rattle.sample_words.proofs.Parts.{next_part}
-use Rattle.spec_flights.specs.Pictures.{PlannedFlight}
+use Rattle.flight_waits.specs.SpecFlights.{PlannedFlight}
 use Rattle.board_core.specs.Places.{line_of}
 use Rattle.line_words.specs.Places.{IsUnit, UnitAt}
 use Rattle.sample_lines.specs.FactsOfFlights.{FlightFacts}

@@ -7,10 +7,10 @@ use Rattle.spec_loop_filters.specs.Filters.{offset_plane}
 use Rattle.spec_sample_adaptive_offset.specs.Plane.{offset_sample}
 use Rattle.filter_locality_laws.specs.Rows.{behind_horizontal, behind_vertical}
 use Rattle.spec_picture_filters.specs.Filtered.{filter_format}
-use Rattle.spec_decoded_pictures.specs.Decoded.{DecodedUnits}
+use Rattle.flight_waits.specs.SpecDecodedPictures.{DecodedUnits}
 use Rattle.loop_filters.specs.Formats.{filters_of}
-use Rattle.spec_flights.specs.Phases.{horizontal_samples, offset_samples, phase_samples, vertical_samples}
-use Rattle.spec_flights.specs.Pictures.{PlannedFlight, folded_at}
+use Rattle.flight_waits.specs.SpecFlights.{horizontal_samples, offset_samples, phase_samples, vertical_samples}
+use Rattle.flight_waits.specs.SpecFlights.{PlannedFlight, folded_at}
 use Rattle.sample_lines.specs.FactsOfFlights.{samples_at, samples_of}
 use Rattle.filtered_rows.specs.Components.{IsFormatAt}
 

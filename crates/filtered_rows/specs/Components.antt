@@ -13,7 +13,7 @@ use Rattle.sample_words.specs.Sizes.{ctb_size, rows}
 use Rattle.sample_words.specs.Words.{line_number}
 use Rattle.progress_words.specs.declared.view.View.{View}
 use Rattle.progress_words.specs.Views.{seen_of}
-use Rattle.spec_flights.specs.Pictures.{PlannedFlight}
+use Rattle.flight_waits.specs.SpecFlights.{PlannedFlight}
 
 -- the loop filters of the picture at a place of a flight take it so
 pub record IsFormatAt (f : PlannedFlight) (k : ℕ) (format : FilterFormat) : Type 0 where

@@ -13,7 +13,7 @@ ghost use Rattle.sample_words.specs.Words.{IsLine, line_number};
 ghost use Rattle.progress_words.specs.Passes.{IsPassOf, Knows, view};
 ghost use Rattle.progress_words.specs.Rule.{IsNext};
 ghost use Rattle.progress_words.specs.Views.{seen_of};
-ghost use Rattle.spec_flights.specs.Pictures.{folded_at};
+ghost use Rattle.flight_waits.specs.SpecFlights.{folded_at};
 ghost use Rattle.line_words.specs.Passes.{writing_run};
 ghost use Rattle.line_words.specs.Places.{IsUnit, number_at};
 ghost use Rattle.sample_lines.specs.FactsOfFlights.{flight_meaning};

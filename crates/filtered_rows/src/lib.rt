@@ -12,5 +12,6 @@ mod waiting;
 
 pub use around::read_rows_around;
 pub use components::{horizontal_component, offset_component, vertical_component};
+pub use flight_waits::{FlightFacts, References};
 pub use memory::FilterMemory;
 pub use rows::filter_row;

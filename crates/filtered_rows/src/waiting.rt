@@ -7,7 +7,7 @@ ghost use Rattle.progress_words.specs.declared.waiting.Waited.TheVariants.{Ready
 ghost use Rattle.progress_words.specs.Passes.{IsPassOf, view};
 ghost use Rattle.progress_words.specs.Views.{HasEnded};
 ghost use Rattle.line_words.specs.Places.{number_at};
-ghost use Rattle.spec_flights.specs.Rows.{flight_rows};
+ghost use Rattle.flight_waits.specs.SpecFlights.{flight_rows};
 ghost use Rattle.sample_lines.specs.FactsOfFlights.{flight_meaning};
 ghost use Rattle.sample_lines.specs.FactsOfFlights.{flight_in};
 ghost use Rattle.sample_lines.specs.FactsOfFlights.{IsOfFlight};

@@ -6,7 +6,7 @@ use Rattle.std.proofs.lemmas.List.{length-map, map-append}
 use Rattle.std.specs.List.{flat_map, range_with_len}
 use Rattle.header_types.specs.SequenceParameterSets.{height_in_ctbs, size_in_ctbs, width_in_ctbs}
 use Rattle.plan_types.specs.declared.picture_plan.PicturePlan.{PicturePlan}
-use Rattle.spec_picture_build.specs.References.{DecodedPicture}
+use Rattle.picture_build.specs.SpecPictureBuild.{DecodedPicture}
 use Rattle.flight_unit_laws.specs.SpecDecoder.{BufferPicture, is_among, kept_as, kept_from, pictures_in}
 use Rattle.flight_plan.specs.declared.row_range.Reference.{Reference}
 use Rattle.flight_plan.specs.declared.row_range.Reference.TheVariants.{Base}
@@ -14,12 +14,13 @@ use Rattle.flight_plan.specs.Flight.{units_of}
 use Rattle.board_core.specs.Reach.{reach_of}
 use Rattle.sample_words.specs.declared.unit_word.UnitWord.{UnitWord}
 use Rattle.sample_words.specs.Contents.{expected_word}
-use Rattle.spec_flights.specs.Pictures.{PlannedFlight, buffer_before, buffer_behind, folded_at, folded_in}
-use Rattle.spec_flights.specs.Pictures.{known_decoded, pictures_before}
-use Rattle.spec_flights.specs.References.{blocks_at, blocks_in, collocated_at, names_before, names_behind, staying}
-use Rattle.spec_flights.specs.Rows.{bad_units, broken_units, is_sound, is_sound_of, luma_lines}
-use Rattle.spec_flights.specs.Rows.{picture_rows, rows_in, rows_of}
-use Rattle.spec_flights.specs.Words.{expected, expected_in, flight_sizes, values_in}
+use Rattle.flight_unit_laws.specs.SpecFlights.{PlannedFlight, buffer_before, buffer_behind, folded_at, folded_in}
+use Rattle.flight_unit_laws.specs.SpecFlights.{known_decoded, pictures_before}
+use Rattle.flight_unit_laws.specs.SpecFlights.{blocks_at, blocks_in, collocated_at, names_before, names_behind}
+use Rattle.flight_unit_laws.specs.SpecFlights.{staying}
+use Rattle.flight_unit_laws.specs.SpecFlights.{bad_units, broken_units, is_sound, is_sound_of, luma_lines}
+use Rattle.flight_unit_laws.specs.SpecFlights.{picture_rows, rows_in, rows_of}
+use Rattle.flight_unit_laws.specs.SpecFlights.{expected, expected_in, flight_sizes, values_in}
 use Rattle.flight_facts.specs.Boards.{as_base, board_flight, rule_at, rule_of, sizes_in}
 
 kept_pictures : (places : List ℕ) (n : ℕ) (xs : List BufferPicture)

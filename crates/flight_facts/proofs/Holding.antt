@@ -3,24 +3,24 @@ use Rattle.std.proofs.Common.{◌≡◌, refl, ℕ, ◌%◌, List, Option, Some,
 use Rattle.std.proofs.lemmas.Option.{none-some, same_Some}
 use Rattle.hv_base.specs.declared.breach.Breach.{Breach}
 use Rattle.plan_types.specs.declared.picture_plan.PicturePlan.{PicturePlan}
-use Rattle.spec_picture_trees.specs.Picture.{PictureBroken}
-use Rattle.spec_known_units.specs.Known.{KnownUnit, unit_read, units_known}
+use Rattle.breach_laws.specs.SpecPictureTrees.{PictureBroken}
+use Rattle.breach_laws.specs.SpecKnownUnits.{KnownUnit, unit_read, units_known}
 use Rattle.breach_laws.proofs.Reading.{reading_breaks}
-use Rattle.spec_picture_build.specs.References.{DecodedPicture}
+use Rattle.picture_build.specs.SpecPictureBuild.{DecodedPicture}
 use Rattle.flight_unit_laws.specs.KnownPictureLaws.{IsDecodedAsKnown, IsFirstBad}
 use Rattle.flight_unit_laws.proofs.KnownPictureLaws.{as_known}
 use Rattle.board_core.specs.Places.{IsPlaceOf}
 use Rattle.board_core.specs.Runs.{IsLeastBad}
 use Rattle.progress_words.specs.Core.{fault_in}
-use Rattle.spec_flights.specs.Pictures.{PlannedFlight, pictures_before}
-use Rattle.spec_flights.specs.Rows.{broken_at, broken_by, flight_rows}
+use Rattle.flight_unit_laws.specs.SpecFlights.{PlannedFlight, pictures_before}
+use Rattle.flight_unit_laws.specs.SpecFlights.{broken_at, broken_by, flight_rows}
 use Rattle.flight_unit_laws.specs.Planned.{IsPlanned}
 use Rattle.flight_unit_laws.specs.Stops.{StopsDecoding}
 use Rattle.flight_unit_laws.proofs.Stops.{none_stops, stops_there}
-use Rattle.flight_lines.specs.Held.{HoldsFlight, IsClosed}
+use Rattle.line_words.specs.FlightLines.{HoldsFlight, IsClosed}
 use Rattle.rule_numbers.specs.Rules.{IsDataRule, rule_number}
-use Rattle.flight_lines.specs.Shown.{least_in}
-use Rattle.flight_lines.proofs.Closed.{closed_holds}
+use Rattle.line_words.specs.FlightLines.{least_in}
+use Rattle.line_words.proofs.FlightLinesLemmas.{closed_holds}
 use Rattle.flight_facts.specs.Boards.{board_flight, flight_meaning}
 use Rattle.flight_facts.specs.Held.{HoldsPictures, StopsByRule}
 use Rattle.flight_facts.proofs.Told.{has_place, on_board, same_rule}

@@ -6,8 +6,8 @@ use Rattle.plan_types.specs.declared.picture_plan.PicturePlan.{PicturePlan}
 use Rattle.sample_words.specs.declared.sizes.FlightSizes.{FlightSizes}
 use Rattle.sample_words.specs.declared.unit_word.UnitWord.{UnitWord}
 use Rattle.sample_words.specs.Contents.{expected_word}
-use Rattle.spec_flights.specs.Pictures.{folded_at}
-use Rattle.spec_flights.specs.Words.{expected, expected_in, flight_sizes, values_in}
+use Rattle.flight_unit_laws.specs.SpecFlights.{folded_at}
+use Rattle.flight_unit_laws.specs.SpecFlights.{expected, expected_in, flight_sizes, values_in}
 use Rattle.line_words.specs.Places.{HasSizes}
 use Rattle.flight_facts.specs.declared.flight_facts.FlightFacts.{FlightFacts}
 use Rattle.flight_facts.specs.Boards.{board_flight, sizes_in}

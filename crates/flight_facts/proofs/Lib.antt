@@ -6,3 +6,9 @@ pub mod Buffers
 pub mod FlightValueLaws
 pub mod FlightUnitLaws
 pub mod KnownPictureLaws
+pub mod FlightUnitLawsPictures
+pub mod LocalityLawsLemmas
+pub mod FlightValueLawsValues
+pub mod SampleLawsLemmas
+pub mod UnitLawsLemmas
+pub mod SpecDecodedPicturesLemmas

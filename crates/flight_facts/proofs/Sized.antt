@@ -9,13 +9,13 @@ use Rattle.header_types.specs.SequenceParameterSets.{width_in_ctbs}
 use Rattle.plan_types.specs.declared.picture_plan.PicturePlan.{PicturePlan}
 use Rattle.flight_plan.specs.Flight.{picture_at}
 use Rattle.sample_words.specs.Sizes.{IsFlight as AreSizes, columns, rows}
-use Rattle.spec_flights.specs.Pictures.{PlannedFlight}
-use Rattle.spec_flights.specs.Rows.{flight_rows}
-use Rattle.spec_flights.specs.Words.{flight_sizes}
+use Rattle.flight_unit_laws.specs.SpecFlights.{PlannedFlight}
+use Rattle.flight_unit_laws.specs.SpecFlights.{flight_rows}
+use Rattle.flight_unit_laws.specs.SpecFlights.{flight_sizes}
 use Rattle.flight_unit_laws.specs.Planned.{IsPlanned}
 use Rattle.flight_unit_laws.proofs.Pictures.{as_many, height_is, width_is}
 use Rattle.flight_unit_laws.proofs.Range.{is_flight}
-use Rattle.flight_lines.specs.Flights.{IsSized}
+use Rattle.line_words.specs.FlightLines.{IsSized}
 use Rattle.flight_facts.specs.Boards.{sizes_in}
 
 -- a multiple of a smallest coding block's side is one of eight

@@ -8,19 +8,19 @@ use Rattle.hv_base.specs.declared.line.Line.{Line}
 use Rattle.hv_base.specs.declared.line.Phase.TheVariants.{B}
 use Rattle.header_types.specs.SequenceParameterSets.{height_in_ctbs, size_in_ctbs, width_in_ctbs}
 use Rattle.plan_types.specs.declared.picture_plan.PicturePlan.{PicturePlan}
-use Rattle.spec_known_units.specs.Known.{KnownUnit, known_of, unit_read, units_known}
+use Rattle.breach_laws.specs.SpecKnownUnits.{KnownUnit, known_of, unit_read, units_known}
 use Rattle.flight_unit_laws.proofs.KnownUnitLaws.{known_step}
 use Rattle.flight_plan.specs.Flight.{FlightRows, picture_at}
 use Rattle.board_core.specs.Places.{full_count, IsLine, IsPlaceOf, line_of, phase_start, phase_units, unit_of}
 use Rattle.board_core.specs.States.{IsBad}
 use Rattle.board_core.proofs.Order.{within_rows}
 use Rattle.board_core.proofs.Units.{place_unique, row_and_column}
-use Rattle.spec_flights.specs.Pictures.{PlannedFlight}
-use Rattle.spec_flights.specs.Rows.{broken_at, broken_by, flight_rows, is_sound, is_sound_of, unit_number}
+use Rattle.flight_unit_laws.specs.SpecFlights.{PlannedFlight}
+use Rattle.flight_unit_laws.specs.SpecFlights.{broken_at, broken_by, flight_rows, is_sound, is_sound_of, unit_number}
 use Rattle.flight_unit_laws.specs.Planned.{IsPlanned}
 use Rattle.flight_unit_laws.proofs.Bad.{bad_has, bad_is}
 use Rattle.flight_unit_laws.proofs.Pictures.{height_is, width_is}
-use Rattle.flight_lines.specs.Flights.{IsOnBoard, TellsBad}
+use Rattle.line_words.specs.FlightLines.{IsOnBoard, TellsBad}
 use Rattle.rule_numbers.specs.Rules.{rule_number}
 use Rattle.flight_facts.specs.Boards.{board_flight, rule_at, rule_of}
 use Rattle.flight_facts.specs.Lawful.{few_rules, has_rule}

@@ -7,14 +7,14 @@ use Rattle.hv_base.specs.declared.line.Phase.{Phase}
 use Rattle.hv_base.specs.declared.line.Phase.TheVariants.{B, V, H, S}
 use Rattle.header_types.specs.SequenceParameterSets.{width_in_ctbs}
 use Rattle.plan_types.specs.declared.picture_plan.PicturePlan.{PicturePlan}
-use Rattle.spec_picture_build.specs.References.{DecodedPicture}
+use Rattle.picture_build.specs.SpecPictureBuild.{DecodedPicture}
 use Rattle.flight_unit_laws.specs.SpecDecoder.{BufferPicture}
 use Rattle.sample_words.specs.declared.sizes.FlightSizes.{FlightSizes}
-use Rattle.spec_flights.specs.Pictures.{PlannedFlight}
-use Rattle.spec_flights.specs.Rows.{broken_at, flight_rows, is_sound}
-use Rattle.spec_flights.specs.Words.{expected, flight_sizes}
+use Rattle.flight_unit_laws.specs.SpecFlights.{PlannedFlight}
+use Rattle.flight_unit_laws.specs.SpecFlights.{broken_at, flight_rows, is_sound}
+use Rattle.flight_unit_laws.specs.SpecFlights.{expected, flight_sizes}
 use Rattle.progress_words.specs.Meanings.{Meaning}
-use Rattle.flight_lines.specs.Flights.{BoardFlight, meaning_of}
+use Rattle.line_words.specs.FlightLines.{BoardFlight, meaning_of}
 use Rattle.rule_numbers.specs.Rules.{rule_number}
 
 -- the number of the rule that a unit of a line of a phase breaks: of a coding tree unit, where it breaks one

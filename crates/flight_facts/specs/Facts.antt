@@ -1,6 +1,6 @@
 -- The flight that a value for contracts stands for.
 use Rattle.picture_build.specs.Pictures.{buffer_of}
-use Rattle.spec_flights.specs.Pictures.{PlannedFlight}
+use Rattle.flight_unit_laws.specs.SpecFlights.{PlannedFlight}
 use Rattle.flight_facts.specs.declared.flight_facts.FlightFacts.{FlightFacts}
 use Rattle.flight_facts.specs.Boards.{flight_of}
 

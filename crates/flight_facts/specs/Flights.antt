@@ -2,11 +2,11 @@
 use Rattle.std.specs.Prelude.{ℕ, ◌≡◌, Option, Some, None, slice_get}
 use Rattle.hv_base.specs.declared.line.Phase.{Phase}
 use Rattle.plan_types.specs.declared.picture_plan.PicturePlan.{PicturePlan}
-use Rattle.spec_picture_build.specs.Border.{Samples}
-use Rattle.spec_decoded_pictures.specs.Decoded.{DecodedUnits}
+use Rattle.picture_build.specs.SpecPictureBuild.{Samples}
+use Rattle.picture_build.specs.SpecDecodedPictures.{DecodedUnits}
 use Rattle.sample_words.specs.declared.sizes.FlightSizes.{FlightSizes}
-use Rattle.spec_flights.specs.Phases.{phase_samples}
-use Rattle.spec_flights.specs.Pictures.{PlannedFlight, folded_at}
+use Rattle.flight_unit_laws.specs.SpecFlights.{phase_samples}
+use Rattle.flight_unit_laws.specs.SpecFlights.{PlannedFlight, folded_at}
 use Rattle.flight_unit_laws.specs.Planned.{IsPlanned}
 use Rattle.flight_value_laws.specs.Ranges.{IsInRange}
 use Rattle.flight_facts.specs.declared.flight_facts.FlightFacts.{FlightFacts}

@@ -3,10 +3,10 @@ use Rattle.std.specs.Prelude.{ℕ, ◌≡◌, ◌%◌, List, Some, None, slice_g
 use Rattle.rule_numbers.specs.Rules.{IsNumbered}
 use Rattle.plan_types.specs.declared.picture_plan.PicturePlan.{PicturePlan}
 use Rattle.progress_words.specs.Core.{fault_in}
-use Rattle.spec_flights.specs.Pictures.{PlannedFlight}
+use Rattle.flight_unit_laws.specs.SpecFlights.{PlannedFlight}
 use Rattle.flight_unit_laws.specs.Stops.{IsDecodedAt, StopsDecoding}
-use Rattle.flight_lines.specs.Held.{HoldsFlight}
-use Rattle.flight_lines.specs.Shown.{least_in}
+use Rattle.line_words.specs.FlightLines.{HoldsFlight}
+use Rattle.line_words.specs.FlightLines.{least_in}
 use Rattle.flight_facts.specs.Boards.{board_flight, flight_meaning}
 
 -- decoding stops at unit u, by a rule on the data of slice segments that has this number

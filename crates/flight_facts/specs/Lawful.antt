@@ -9,9 +9,9 @@ use Rattle.hv_base.specs.declared.line.Phase.{Phase}
 use Rattle.hv_base.specs.declared.line.Phase.TheVariants.{B, V, H, S}
 use Rattle.header_types.specs.SequenceParameterSets.{width_in_ctbs}
 use Rattle.plan_types.specs.declared.picture_plan.PicturePlan.{PicturePlan}
-use Rattle.spec_flights.specs.Pictures.{PlannedFlight}
-use Rattle.spec_flights.specs.Rows.{broken_at}
-use Rattle.flight_lines.specs.Flights.{HasFewRules}
+use Rattle.flight_unit_laws.specs.SpecFlights.{PlannedFlight}
+use Rattle.flight_unit_laws.specs.SpecFlights.{broken_at}
+use Rattle.line_words.specs.FlightLines.{HasFewRules}
 use Rattle.rule_numbers.specs.Rules.{rule_number}
 use Rattle.rule_numbers.proofs.Ruled.{small_rule}
 use Rattle.flight_facts.specs.Boards.{board_flight, rule_at, rule_in, rule_of}

@@ -6,3 +6,14 @@ pub mod Lawful
 pub mod FlightUnitLaws
 pub mod PictureBuild
 pub mod FlightValueLaws
+pub mod FlightUnitLawsPlanned
+pub mod PictureBuildPictures
+pub mod PictureBuildFormats
+pub mod FlightUnitLawsUses
+pub mod SpecFlights
+pub mod KnownPictureLaws
+pub mod SpecDecodedPictures
+pub mod SpecPictureBuild
+pub mod PlanLaws
+pub mod LocalityLaws
+pub mod SpecDecoder

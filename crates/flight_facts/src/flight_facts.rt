@@ -3,7 +3,7 @@ ghost use Rattle.std.specs.Prelude.{◌≡◌};
 ghost use Rattle.picture_build.specs.Pictures.{buffer_of};
 ghost use Rattle.flight_facts.specs.Boards.{flight_of};
 
-use picture_buffer::Bases;
+use picture_build::Bases;
 use picture_plan::Flight;
 use std::snapshot::Snapshot;
 

@@ -2,19 +2,19 @@
 
 ghost use Rattle.std.specs.Prelude.{◌≡◌, ◌<◌, ℕ, List, Some, length, map, slice_get};
 ghost use Rattle.plan_types.specs.declared.picture_plan.PicturePlan.{PicturePlan};
-ghost use Rattle.spec_picture_build.specs.References.{DecodedPicture};
+ghost use Rattle.picture_build.specs.SpecPictureBuild.{DecodedPicture};
 ghost use Rattle.flight_unit_laws.specs.SpecDecoder.{BufferPicture, pictures_in};
 ghost use Rattle.progress_words.specs.Core.{IsReached};
 ghost use Rattle.progress_words.specs.Meanings.{IsLaid};
 ghost use Rattle.sample_words.specs.declared.sizes.FlightSizes.{FlightSizes};
 ghost use Rattle.sample_words.specs.declared.unit_word.UnitWord.{UnitWord};
 ghost use Rattle.sample_words.specs.Contents.{expected_word};
-ghost use Rattle.spec_flights.specs.Pictures.{PlannedFlight, folded_at};
-ghost use Rattle.spec_flights.specs.Words.{expected, flight_sizes, values_in};
+ghost use Rattle.flight_unit_laws.specs.SpecFlights.{PlannedFlight, folded_at};
+ghost use Rattle.flight_unit_laws.specs.SpecFlights.{expected, flight_sizes, values_in};
 ghost use Rattle.flight_unit_laws.specs.Planned.{IsPlanned};
-ghost use Rattle.flight_lines.specs.Flights.{IsOnBoard};
-ghost use Rattle.flight_lines.specs.Held.{IsClosed};
-ghost use Rattle.flight_lines.specs.Shown.{ShowsState};
+ghost use Rattle.line_words.specs.FlightLines.{IsOnBoard};
+ghost use Rattle.line_words.specs.FlightLines.{IsClosed};
+ghost use Rattle.line_words.specs.FlightLines.{ShowsState};
 ghost use Rattle.line_words.specs.Places.{HasSizes};
 ghost use Rattle.flight_facts.specs.declared.flight_facts.FlightFacts.{FlightFacts};
 ghost use Rattle.flight_facts.specs.Boards.{as_base, board_flight, flight_meaning};

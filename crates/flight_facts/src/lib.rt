@@ -15,3 +15,5 @@ pub use laws::{
     boards_show_the_flight, closed_boards_hold_the_pictures, flights_depend_on_decoded_pictures,
     flights_lie_on_boards, pictures_have_the_sizes_of_their_flight,
 };
+pub use picture_build::{References, build_picture, common_format, picture_parts, set_slice};
+pub use picture_plan::Flight;

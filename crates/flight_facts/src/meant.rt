@@ -6,7 +6,7 @@ impl Facts for FlightFacts {
     ghost use Rattle.flight_facts.specs.Boards.{board_flight, flight_meaning};
     ghost use Rattle.flight_facts.specs.Facts.{flight_in};
     ghost use Rattle.flight_facts.specs.Lawful.{few_rules};
-    ghost use Rattle.flight_lines.proofs.Meant.{lawful};
+    ghost use Rattle.line_words.proofs.FlightLinesLemmas.{lawful};
 
     ghost meaning = { λ f. flight_meaning (flight_in f) };
 

@@ -9,7 +9,7 @@ use Rattle.hv_base.specs.declared.line.Phase.{Phase}
 use Rattle.hv_base.specs.declared.line.Phase.TheVariants.{B, V, H, S}
 use Rattle.flight_plan.specs.Flight.{FlightRows, PictureRows, no_picture, picture_at}
 use Rattle.board_core.specs.Places.{delay, IsLine, line_of, lines_before, lines_of, picture_lines, ticket_of}
-use Rattle.board_core.proofs.Drawing.{all_before, line_found, next_turn, none_before}
+use Rattle.board_core.proofs.Drawing.{all_before, line_found, next_phase, next_turn, none_before}
 use Rattle.board_core.proofs.Order.{same_ticket, ticket_inside}
 use Rattle.sample_words.specs.declared.sizes.FlightSizes.{FlightSizes}
 use Rattle.sample_words.specs.Sizes.{rows}
@@ -33,24 +33,6 @@ rises f (suc n) v low high =
       | inl less ↦ let found = rises f n v low less in
           record { at = found.at; inside = omega (arith, found.inside); low = found.low; high = found.high }
       | inr more ↦ record { at = n; inside = omega arith; low = more; high = high }
-    ]
-
--- a phase by its delay
-pub record HasDelay (d : ℕ) : Type 0 where
-  pub phase : Phase
-  pub is : delay phase ≡ d
-
-with_delay : (d : ℕ) → d < 4 → HasDelay d
-with_delay d less =
-    elim (cases_lt d 1) [
-      | inl none ↦ record { phase = B; is = omega arith }
-      | inr some ↦ elim (cases_lt d 2) [
-        | inl one ↦ record { phase = V; is = omega arith }
-        | inr more ↦ elim (cases_lt d 3) [
-          | inl two ↦ record { phase = H; is = omega arith }
-          | inr three ↦ record { phase = S; is = omega arith }
-        ]
-      ]
     ]
 
 -- a line with a ticket
@@ -78,21 +60,27 @@ in_turn r turn within phase low high =
       before = ap (λ t. lines_before r t (delay phase)) same ∙ found.2;
     }
 
-of_turn : (r turn within : ℕ) → lines_before r turn 0 ≤ within → within < lines_before r turn 4 → IsWithin r within
+of_turn : (r turn within : ℕ) → lines_before r turn 0 ≤ within → within < lines_before r turn 11 → IsWithin r within
 of_turn r turn within first last =
-    let phase = rises (λ d. lines_before r turn d) 4 within first last in
-    let delayed = with_delay phase.at phase.inside in
-    let more : suc phase.at ≡ delay delayed.phase + 1 = omega (arith, delayed.is) in
-    in_turn r turn within delayed.phase (subst (λ d. lines_before r turn d ≤ within) (sym delayed.is) phase.low)
-    (subst (λ d. within < lines_before r turn d) more phase.high)
+    elim (cases_lt within (lines_before r turn 8)) [
+      | inl built ↦
+          in_turn r turn within B first (subst (λ (n : ℕ). within < n) (sym (next_phase r turn)) built)
+      | inr behind_b ↦ elim (cases_lt within (lines_before r turn 9)) [
+        | inl less ↦ in_turn r turn within V behind_b less
+        | inr behind_v ↦ elim (cases_lt within (lines_before r turn 10)) [
+          | inl less ↦ in_turn r turn within H behind_v less
+          | inr behind_h ↦ in_turn r turn within S behind_h last
+        ]
+      ]
+    ]
 
 within_picture : (r within : ℕ) → within < 4 * r → IsWithin r within
 within_picture r within less =
     let none = none_before r in
     let all = all_before r in
-    let turn = rises (λ t. lines_before r t 0) (r + 3) within (omega (arith, none)) (omega (arith, all, less)) in
+    let turn = rises (λ t. lines_before r t 0) (r + 10) within (omega (arith, none)) (omega (arith, all, less)) in
     let e : turn.at + 1 ≡ suc turn.at = omega arith in
-    let next : lines_before r turn.at 4 ≡ lines_before r (suc turn.at) 0 =
+    let next : lines_before r turn.at 11 ≡ lines_before r (suc turn.at) 0 =
     next_turn r turn.at ∙ ap (λ t. lines_before r t 0) e in
     let high = turn.high in
     of_turn r turn.at within turn.low (omega (arith, next, high))

@@ -4,7 +4,7 @@ use Rattle.std.proofs.Common.{get_or, refl, sym, ap, subst, ◌∙◌, append-ni
 use Rattle.std.specs.Prelude.{if◌then◌else◌}
 use Rattle.std.proofs.Math.Seq.{take-length, take-suc}
 use Rattle.std.proofs.lemmas.List.{length-take-le}
-use Rattle.spec_decoder.specs.Decoder.{is_among}
+use Rattle.spec_flights.specs.SpecDecoderDecoder.{is_among}
 use Rattle.spec_flights.specs.References.{staying}
 
 module _ {X : Type 0} (places : List ℕ) where

@@ -1,1 +1,4 @@
 pub mod Names
+pub mod SpecFlights
+pub mod SpecPictureFilters
+pub mod SpecDecoder

@@ -3,7 +3,7 @@
 ghost use Rattle.std.specs.Prelude.{◌≡◌, ◌++◌, ◌∷◌, [], IfOk, OnOk, map, if◌then◌else◌};
 ghost use Rattle.std.specs.List.{range_with_len};
 ghost use Rattle.flight_plan.specs.declared.row_range.Reference.TheVariants.{Base, Flight};
-ghost use Rattle.spec_decoder.specs.Decoder.{is_among};
+ghost use Rattle.spec_flights.specs.SpecDecoderDecoder.{is_among};
 ghost use Rattle.spec_flights.specs.References.{staying};
 
 use flight_plan::Reference;

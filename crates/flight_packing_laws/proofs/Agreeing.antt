@@ -1,9 +1,9 @@
 -- A unit that was built holds what agrees with the picture that it was built for.
 use Rattle.std.proofs.Common.{ℕ, sym, ◌∙◌}
 use Rattle.plan_types.specs.declared.picture_plan.PicturePlan.{PicturePlan}
-use Rattle.spec_decoded_pictures.specs.Decoded.{DecodedUnits}
-use Rattle.known_picture_laws.specs.Steps.{AgreeOnUnit}
-use Rattle.unit_build.specs.declared.built.BuiltUnit.{BuiltUnit}
+use Rattle.flight_value_laws.specs.SpecDecodedPictures.{DecodedUnits}
+use Rattle.row_borders.specs.KnownPictureLaws.{AgreeOnUnit}
+use Rattle.unit_words.specs.UnitBuild.{BuiltUnit}
 use Rattle.row_borders.specs.Building.{HoldsUnit}
 
 pub also_held : (p : PicturePlan) (address : ℕ) (built : BuiltUnit) (whole made : DecodedUnits)

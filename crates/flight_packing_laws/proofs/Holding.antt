@@ -15,10 +15,10 @@ use Rattle.spec_picture_trees.specs.Shapes.{picture_shape}
 use Rattle.spec_picture_build.specs.Border.{unit_line}
 use Rattle.spec_known_units.specs.Known.{KnownUnit, contexts_behind, ctu_of, units_known}
 use Rattle.spec_picture_motion.specs.Field.{motion_of}
-use Rattle.spec_picture_filters.specs.Units.{place_of}
+use Rattle.row_borders.specs.SpecPictureFilters.{place_of}
 use Rattle.spec_deblocking.specs.declared.place.Place.{Place}
-use Rattle.spec_decoded_pictures.specs.Decoded.{DecodedUnits}
-use Rattle.locality_laws.proofs.Motion.{place_is}
+use Rattle.flight_value_laws.specs.SpecDecodedPictures.{DecodedUnits}
+use Rattle.row_borders.proofs.LocalityLawsLemmas.{place_is}
 use Rattle.sample_words.specs.declared.modes.PlaceModes.{PlaceModes}
 use Rattle.sample_words.specs.declared.sizes.FlightSizes.{FlightSizes}
 use Rattle.sample_words.specs.Contents.{PictureValues, component_side}
@@ -27,9 +27,9 @@ use Rattle.unit_words.specs.declared.done_unit.DoneUnit.{DoneUnit}
 use Rattle.unit_words.specs.Units.{no_motion, unit_modes, unit_motion, unit_sample}
 use Rattle.unit_words.specs.Work.{HoldsValues, carry_behind}
 use Rattle.row_borders.specs.Building.{built_coded, built_motion, built_place, built_sample}
-use Rattle.spec_flights.specs.Phases.{phase_samples}
-use Rattle.spec_flights.specs.Pictures.{PlannedFlight, folded_at}
-use Rattle.spec_flights.specs.Words.{carried_behind, flight_sizes, modes_at, modes_of, values_in}
+use Rattle.row_borders.specs.SpecFlights.{phase_samples}
+use Rattle.row_borders.specs.SpecFlights.{PlannedFlight, folded_at}
+use Rattle.row_borders.specs.SpecFlights.{carried_behind, flight_sizes, modes_at, modes_of, values_in}
 use Rattle.flight_value_laws.specs.Ranges.{IsInRange}
 use Rattle.flight_value_laws.proofs.Pictures.{motion_again}
 use Rattle.flight_packing_laws.specs.Done.{IsDone, unit_address}

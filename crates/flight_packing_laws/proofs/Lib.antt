@@ -3,3 +3,4 @@ pub mod Sizes
 pub mod Placed
 pub mod Holding
 pub mod Packed
+pub mod UnitWordsLemmas

@@ -10,8 +10,8 @@ use Rattle.sample_words.specs.Values.{IsModes, IsMotion, sample_bits}
 use Rattle.sample_words.specs.Words.{unit_word}
 use Rattle.unit_words.specs.declared.done_unit.DoneUnit.{DoneUnit}
 use Rattle.unit_words.specs.Work.{HasWord, HoldsValues, IsPackable}
-use Rattle.spec_flights.specs.Pictures.{PlannedFlight, folded_at}
-use Rattle.spec_flights.specs.Words.{expected, expected_in, values_in}
+use Rattle.row_borders.specs.SpecFlights.{PlannedFlight, folded_at}
+use Rattle.row_borders.specs.SpecFlights.{expected, expected_in, values_in}
 use Rattle.flight_value_laws.specs.Ranges.{FitWords, IsInRange}
 use Rattle.flight_value_laws.proofs.Values.{values_fit}
 use Rattle.flight_packing_laws.specs.Done.{IsDone}

@@ -17,7 +17,7 @@ use Rattle.spec_picture_build.specs.Built.{is_of_unit}
 use Rattle.sample_words.specs.declared.sizes.FlightSizes.{FlightSizes}
 use Rattle.sample_words.specs.Contents.{component_side}
 use Rattle.sample_words.specs.Sizes.{columns, ctb_size, height_of, width_of}
-use Rattle.spec_flights.specs.Words.{flight_sizes}
+use Rattle.row_borders.specs.SpecFlights.{flight_sizes}
 use Rattle.flight_packing_laws.proofs.Sizes.{IsPlaceIn, IsSampleIn, eighth, few_blocks, place_at, place_in, sample_in}
 
 -- tests of a place and of a sample

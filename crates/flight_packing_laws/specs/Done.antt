@@ -5,8 +5,8 @@ use Rattle.plan_types.specs.declared.picture_plan.PicturePlan.{PicturePlan}
 use Rattle.spec_known_units.specs.Known.{KnownUnit, units_known}
 use Rattle.unit_words.specs.declared.done_unit.DoneUnit.{DoneUnit}
 use Rattle.row_borders.specs.Building.{HoldsUnit}
-use Rattle.spec_flights.specs.Pictures.{PlannedFlight, folded_at}
-use Rattle.spec_flights.specs.Words.{flight_sizes}
+use Rattle.row_borders.specs.SpecFlights.{PlannedFlight, folded_at}
+use Rattle.row_borders.specs.SpecFlights.{flight_sizes}
 
 -- its address in its picture
 abbrev pub unit_address : PicturePlan → DoneUnit → ℕ

@@ -1,1 +1,3 @@
 pub mod Done
+pub mod UnitWords
+pub mod SpecFlights

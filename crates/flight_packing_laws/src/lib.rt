@@ -9,3 +9,4 @@ pub use laws::{
     built_units_hold_the_values_of_their_flight, built_units_hold_what_agrees,
     derived_units_tell_their_blocks,
 };
+pub use unit_words::DoneUnit;

@@ -6,7 +6,8 @@ use Rattle.std.proofs.lemmas.Bool.{cases_lt}
 use Rattle.std.proofs.lemmas.List.{get_or_append_left, get_or-append_right, length-append, take-append-le}
 use Rattle.std.proofs.lemmas.List.Sums.{sum_by_more_le, sum_by_push}
 use Rattle.std.proofs.lemmas.List.Elements.{All-push, All-weaker}
-use Rattle.flight_plan.specs.Flight.{FlightRows, PictureRows, IsFlight, IsInRange, IsTreeUnit, ReadsEarlier, no_picture}
+use Rattle.flight_plan.specs.Flight.{FlightRows, PictureRows, IsFlight, IsInRange, IsTreeUnit, ReadsEarlier}
+use Rattle.flight_plan.specs.Flight.{no_picture}
 use Rattle.flight_plan.specs.Flight.{picture_units, tree_units, units_of}
 
 each_and_last : (P : ℕ → PictureRows → Type 0) (ps : List PictureRows) (p : PictureRows)

@@ -11,8 +11,8 @@ use Rattle.plan_types.specs.declared.picture_plan.PicturePlan.{PicturePlan}
 use Rattle.board_core.specs.States.{IsBad}
 use Rattle.board_core.proofs.Counting.{pieces_all}
 use Rattle.board_core.proofs.Reaching.{map_contains}
-use Rattle.spec_flights.specs.Pictures.{PlannedFlight}
-use Rattle.spec_flights.specs.Rows.{bad_units, broken_at, broken_units, flight_rows, unit_number}
+use Rattle.known_picture_laws.specs.SpecFlights.{PlannedFlight}
+use Rattle.known_picture_laws.specs.SpecFlights.{bad_units, broken_at, broken_units, flight_rows, unit_number}
 use Rattle.flight_unit_laws.specs.Stops.{IsBadUnit}
 use Rattle.flight_unit_laws.proofs.Lists.{holds_of, in_filter, in_pieces}
 

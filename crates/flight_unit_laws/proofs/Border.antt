@@ -10,7 +10,7 @@ use Rattle.hv_base.specs.declared.line.Phase.TheVariants.{B}
 use Rattle.flight_plan.specs.Flight.{FlightRows, picture_at}
 use Rattle.board_core.specs.Places.{line_of}
 use Rattle.board_core.specs.Uses.{Above, Former, ReadingUses}
-use Rattle.locality_laws.specs.Beside.{is_at_border}
+use Rattle.known_picture_laws.specs.LocalityLaws.{is_at_border}
 use Rattle.known_picture_laws.specs.FilterData.{is_directly_beside}
 
 pub block_is : (n q y : ℕ) → n * q ≤ y → y < n * q + n → y / n ≡ q

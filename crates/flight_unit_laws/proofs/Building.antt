@@ -16,32 +16,33 @@ use Rattle.header_types.specs.SequenceParameterSets.{IsSps, blocks_across, ctb_l
 use Rattle.header_types.specs.SequenceParameterSets.{width_in_ctbs}
 use Rattle.plan_types.specs.declared.picture_plan.PicturePlan.{PicturePlan}
 use Rattle.plan_types.specs.declared.segment_plan.SegmentPlan.{SegmentPlan}
-use Rattle.spec_slice_data.specs.Residual.{samples_of_place}
-use Rattle.spec_slice_data.specs.Segment.{PictureShape, column_of, row_of}
-use Rattle.spec_picture_trees.specs.Places.{first_column, first_row, has_place, unit_places}
-use Rattle.spec_picture_trees.specs.Shapes.{picture_shape, slice_start}
-use Rattle.picture_layout.proofs.Sizes.{covers, whole_width}
-use Rattle.spec_known_units.specs.Known.{KnownUnit, units_known}
-use Rattle.spec_picture_motion.specs.Derived.{collocated_motions}
-use Rattle.spec_picture_motion.specs.Slices.{collocated_entry}
-use Rattle.spec_picture_build.specs.Border.{has_sample, unit_side, width_of as samples_wide}
-use Rattle.spec_picture_build.specs.References.{DecodedPicture, motions_in, motions_of}
-use Rattle.spec_decoded_pictures.specs.Decoded.{DecodedUnits, decoded_by}
-use Rattle.spec_flights.specs.SpecDecoder.{BufferPicture, kept_as}
-use Rattle.locality_laws.specs.Beside.{SamplesAgreeBeside, is_at_border}
-use Rattle.locality_laws.specs.Motion.{MotionAgreesBeneath, MotionAgreesBeside}
-use Rattle.locality_laws.proofs.Motion.{some_places}
-use Rattle.locality_laws.proofs.Samples.{some_side}
+use Rattle.known_picture_laws.specs.SpecSliceData.{samples_of_place}
+use Rattle.known_picture_laws.specs.SpecSliceData.{PictureShape, column_of, row_of}
+use Rattle.known_picture_laws.specs.SpecPictureTrees.{first_column, first_row, has_place, unit_places}
+use Rattle.known_picture_laws.specs.SpecPictureTrees.{picture_shape, slice_start}
+use Rattle.known_picture_laws.proofs.PictureLayoutLemmas.{covers, whole_width}
+use Rattle.known_picture_laws.specs.SpecKnownUnits.{KnownUnit, units_known}
+use Rattle.known_picture_laws.specs.SpecPictureMotion.{collocated_motions}
+use Rattle.known_picture_laws.specs.SpecPictureMotion.{collocated_entry}
+use Rattle.known_picture_laws.specs.SpecPictureBuild.{has_sample, unit_side, width_of as samples_wide}
+use Rattle.known_picture_laws.specs.SpecPictureBuild.{DecodedPicture, motions_in, motions_of}
+use Rattle.known_picture_laws.specs.SpecDecodedPictures.{DecodedUnits, decoded_by}
+use Rattle.known_picture_laws.specs.SpecFlights.{BufferPicture, kept_as}
+use Rattle.known_picture_laws.specs.LocalityLaws.{SamplesAgreeBeside, is_at_border}
+use Rattle.known_picture_laws.specs.LocalityLaws.{MotionAgreesBeneath, MotionAgreesBeside}
+use Rattle.known_picture_laws.proofs.LocalityLaws.{some_places}
+use Rattle.known_picture_laws.proofs.LocalityLaws.{some_side}
 use Rattle.flight_plan.specs.Flight.{FlightRows, PictureRows, picture_at}
 use Rattle.flight_plan.specs.declared.row_range.Reference.{Reference}
 use Rattle.flight_plan.specs.declared.row_range.Reference.TheVariants.{Base, Flight}
 use Rattle.board_core.specs.Needs.{collocated_of, unit_in_picture}
 use Rattle.board_core.specs.Places.{IsLine, line_of}
 use Rattle.board_core.specs.Uses.{Collocated, Reading}
-use Rattle.spec_flights.specs.Pictures.{PlannedFlight, buffer_before, folded_at, known_decoded, pictures_before}
-use Rattle.spec_flights.specs.References.{collocated_at, collocated_by, named, names_before, picture_named}
-use Rattle.spec_flights.specs.References.{segment_of}
-use Rattle.spec_flights.specs.Rows.{flight_rows, rows_in}
+use Rattle.known_picture_laws.specs.SpecFlights.{PlannedFlight, buffer_before, folded_at, known_decoded}
+use Rattle.known_picture_laws.specs.SpecFlights.{pictures_before}
+use Rattle.known_picture_laws.specs.SpecFlights.{collocated_at, collocated_by, named, names_before, picture_named}
+use Rattle.known_picture_laws.specs.SpecFlights.{segment_of}
+use Rattle.known_picture_laws.specs.SpecFlights.{flight_rows, rows_in}
 use Rattle.known_picture_laws.specs.FilterData.{is_directly_beside, is_place_beside}
 use Rattle.known_picture_laws.proofs.Segments.{has_segment}
 use Rattle.flight_unit_laws.specs.Planned.{IsPlanned}

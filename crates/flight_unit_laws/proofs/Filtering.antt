@@ -10,29 +10,29 @@ use Rattle.hv_base.specs.declared.line.Phase.TheVariants.{B, V, H, S}
 use Rattle.header_types.specs.SequenceParameterSets.{IsSps, ctb_log2, height_in_ctbs, min_cb_log2}
 use Rattle.header_types.specs.SequenceParameterSets.{width_in_ctbs}
 use Rattle.plan_types.specs.declared.picture_plan.PicturePlan.{PicturePlan}
-use Rattle.spec_slice_data.specs.Residual.{samples_of_place}
-use Rattle.spec_slice_data.specs.Segment.{PictureShape}
-use Rattle.spec_picture_trees.specs.Places.{has_place, unit_places}
-use Rattle.spec_picture_trees.specs.Shapes.{picture_shape}
-use Rattle.picture_layout.proofs.Sizes.{covers, four, whole_height}
-use Rattle.spec_deblocking.specs.declared.place.Place.{Place}
-use Rattle.spec_loop_filters.specs.declared.format.FilterFormat.{FilterFormat}
-use Rattle.spec_loop_filters.specs.Filters.{height_of, luma_samples, offset_plane, size_of, width_of}
-use Rattle.filter_locality_laws.specs.Rows.{IsFilterFormat, IsOfRow, IsPlaceOfRow}
-use Rattle.filter_locality_laws.proofs.Rows.{horizontal_row, offset_row, vertical_row}
-use Rattle.spec_picture_filters.specs.Data.{FilterData}
-use Rattle.spec_picture_filters.specs.Filtered.{filter_format, loop_filters}
-use Rattle.spec_picture_build.specs.Border.{Samples, has_sample, unit_side}
-use Rattle.spec_decoded_pictures.specs.Decoded.{DecodedUnits}
-use Rattle.locality_laws.proofs.Motion.{some_places}
-use Rattle.locality_laws.proofs.Samples.{some_side}
-use Rattle.locality_laws.proofs.Widths.{eights_in}
+use Rattle.known_picture_laws.specs.SpecSliceData.{samples_of_place}
+use Rattle.known_picture_laws.specs.SpecSliceData.{PictureShape}
+use Rattle.known_picture_laws.specs.SpecPictureTrees.{has_place, unit_places}
+use Rattle.known_picture_laws.specs.SpecPictureTrees.{picture_shape}
+use Rattle.known_picture_laws.proofs.PictureLayoutLemmas.{covers, four, whole_height}
+use Rattle.known_picture_laws.specs.SpecDeblocking.{Place}
+use Rattle.known_picture_laws.specs.SpecLoopFilters.{FilterFormat}
+use Rattle.known_picture_laws.specs.SpecLoopFilters.{height_of, luma_samples, offset_plane, size_of, width_of}
+use Rattle.known_picture_laws.specs.FilterLocalityLaws.{IsFilterFormat, IsOfRow, IsPlaceOfRow}
+use Rattle.known_picture_laws.proofs.FilterLocalityLawsLemmas.{horizontal_row, offset_row, vertical_row}
+use Rattle.known_picture_laws.specs.SpecPictureFilters.{FilterData}
+use Rattle.known_picture_laws.specs.SpecPictureFilters.{filter_format, loop_filters}
+use Rattle.known_picture_laws.specs.SpecPictureBuild.{Samples, has_sample, unit_side}
+use Rattle.known_picture_laws.specs.SpecDecodedPictures.{DecodedUnits}
+use Rattle.known_picture_laws.proofs.LocalityLaws.{some_places}
+use Rattle.known_picture_laws.proofs.LocalityLaws.{some_side}
+use Rattle.known_picture_laws.proofs.LocalityLaws.{eights_in}
 use Rattle.flight_plan.specs.Flight.{FlightRows, picture_at}
 use Rattle.board_core.specs.Places.{line_of}
 use Rattle.board_core.specs.Uses.{IsOfRow as IsUnitOfRow, IsOfRowsBeside}
-use Rattle.spec_flights.specs.Pictures.{PlannedFlight, folded_at}
-use Rattle.spec_flights.specs.Phases.{horizontal_samples, offset_samples, phase_samples, vertical_samples}
-use Rattle.spec_flights.specs.Rows.{flight_rows}
+use Rattle.known_picture_laws.specs.SpecFlights.{PlannedFlight, folded_at}
+use Rattle.known_picture_laws.specs.SpecFlights.{horizontal_samples, offset_samples, phase_samples, vertical_samples}
+use Rattle.known_picture_laws.specs.SpecFlights.{flight_rows}
 use Rattle.flight_unit_laws.specs.Planned.{IsPlanned}
 use Rattle.flight_unit_laws.specs.Uses.{AgreeWhereUsed, AreOfSameSlice, SamplesAgreeWhereUsed}
 use Rattle.flight_unit_laws.proofs.Border.{block_is, not_far}

@@ -3,12 +3,13 @@ use Rattle.std.proofs.Common.{◌≡◌, ℕ, zero, suc, Bool, true, false, List
 use Rattle.std.proofs.Common.{slice_get, if◌then◌else◌, refl, arith}
 use Rattle.std.proofs.lemmas.List.Elements.{All-append, All-cons, All-map, All-nil}
 use Rattle.plan_types.specs.declared.picture_plan.PicturePlan.{PicturePlan}
-use Rattle.spec_picture_build.specs.References.{DecodedPicture}
-use Rattle.spec_decoded_pictures.specs.Decoded.{decoded_by}
-use Rattle.spec_flights.specs.SpecDecoder.{BufferPicture, is_among, kept_as, kept_from, pictures_in}
-use Rattle.locality_laws.specs.Needed.{IsHalved}
-use Rattle.locality_laws.proofs.Widths.{halved}
-use Rattle.spec_flights.specs.Pictures.{PlannedFlight, buffer_before, buffer_behind, known_decoded, pictures_before}
+use Rattle.known_picture_laws.specs.SpecPictureBuild.{DecodedPicture}
+use Rattle.known_picture_laws.specs.SpecDecodedPictures.{decoded_by}
+use Rattle.known_picture_laws.specs.SpecFlights.{BufferPicture, is_among, kept_as, kept_from, pictures_in}
+use Rattle.known_picture_laws.specs.LocalityLaws.{IsHalved}
+use Rattle.known_picture_laws.proofs.LocalityLaws.{halved}
+use Rattle.known_picture_laws.specs.SpecFlights.{PlannedFlight, buffer_before, buffer_behind, known_decoded}
+use Rattle.known_picture_laws.specs.SpecFlights.{pictures_before}
 use Rattle.flight_unit_laws.specs.Planned.{IsPlanned, HasHalves}
 
 kept_all : (places : List ℕ) (n : ℕ) (buffer : List BufferPicture) → All HasHalves buffer

@@ -4,10 +4,10 @@ use Rattle.std.proofs.lemmas.Bool.{cases_lt}
 use Rattle.header_types.specs.SequenceParameterSets.{size_in_ctbs}
 use Rattle.plan_types.specs.declared.picture_plan.PicturePlan.{PicturePlan}
 use Rattle.plan_types.specs.declared.segment_plan.SegmentPlan.{SegmentPlan}
-use Rattle.spec_picture_trees.specs.Picture.{SegmentAt, segment_at}
-use Rattle.spec_picture_trees.specs.Shapes.{end_of, picture_shape, segment_shape}
-use Rattle.spec_known_units.specs.Known.{picture_segments, segment_having, segments_from}
-use Rattle.known_unit_laws.proofs.Lookup.{found_first, found_later}
+use Rattle.known_picture_laws.specs.SpecPictureTrees.{SegmentAt, segment_at}
+use Rattle.known_picture_laws.specs.SpecPictureTrees.{end_of, picture_shape, segment_shape}
+use Rattle.known_picture_laws.specs.SpecKnownUnits.{picture_segments, segment_having, segments_from}
+use Rattle.known_picture_laws.proofs.KnownUnitLaws.{found_first, found_later}
 
 module _ (p : PicturePlan) where
   abbrev HasSegment : List SegmentAt → ℕ → Type 0

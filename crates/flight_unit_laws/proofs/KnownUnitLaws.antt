@@ -1,2 +1,2 @@
 -- Names of known_unit_laws that crates above take from here.
-pub use Rattle.known_unit_laws.proofs.Entries.{known_step}
+pub use Rattle.known_picture_laws.proofs.KnownUnitLawsEntries.{known_step}

@@ -15,3 +15,4 @@ pub mod Offsets
 pub mod Filtering
 pub mod KnownPictureLaws
 pub mod KnownUnitLaws
+pub mod LocalityLawsLemmas

@@ -8,12 +8,12 @@ use Rattle.std.proofs.lemmas.List.{append_assoc, length-append, map-append}
 use Rattle.std.proofs.lemmas.List.Elements.{All-append, All-cons, All-map, All-nil}
 use Rattle.std.proofs.lemmas.Simd.{map-map}
 use Rattle.plan_types.specs.declared.picture_plan.PicturePlan.{PicturePlan}
-use Rattle.spec_flights.specs.SpecDecoder.{BufferPicture, is_among, kept_as, kept_from, pictures_in}
+use Rattle.known_picture_laws.specs.SpecFlights.{BufferPicture, is_among, kept_as, kept_from, pictures_in}
 use Rattle.flight_plan.specs.Flight.{IsEarlier}
 use Rattle.flight_plan.specs.declared.row_range.Reference.{Reference}
 use Rattle.flight_plan.specs.declared.row_range.Reference.TheVariants.{Base, Flight}
-use Rattle.spec_flights.specs.Pictures.{PlannedFlight, buffer_before, buffer_behind, known_decoded}
-use Rattle.spec_flights.specs.References.{names_before, names_behind, picture_named, staying}
+use Rattle.known_picture_laws.specs.SpecFlights.{PlannedFlight, buffer_before, buffer_behind, known_decoded}
+use Rattle.known_picture_laws.specs.SpecFlights.{names_before, names_behind, picture_named, staying}
 
 -- the item behind so many
 item_behind : {X : Type 0} (front : List X) (x : X) (xs : List X) → slice_get (front ++ x ∷ xs) (length front) ≡ Some x

@@ -11,8 +11,8 @@ use Rattle.plan_types.specs.declared.picture_plan.PicturePlan.{PicturePlan}
 use Rattle.hv_base.specs.declared.line.Line.{Line}
 use Rattle.flight_plan.specs.Flight.{PictureRows, no_picture, picture_at}
 use Rattle.board_core.specs.Places.{IsLine}
-use Rattle.spec_flights.specs.Pictures.{PlannedFlight}
-use Rattle.spec_flights.specs.Rows.{flight_rows, picture_rows, rows_in, rows_of}
+use Rattle.known_picture_laws.specs.SpecFlights.{PlannedFlight}
+use Rattle.known_picture_laws.specs.SpecFlights.{flight_rows, picture_rows, rows_in, rows_of}
 
 module _ (f : PlannedFlight) where
   abbrev row_at : ℕ → PictureRows

@@ -28,11 +28,11 @@ use Rattle.spec_motion.specs.declared.vectors.Motion.{Motion}
 use Rattle.spec_motion.specs.declared.vectors.Vector.{Vector}
 use Rattle.spec_motion.specs.declared.slice_motion.SliceMotion.{SliceMotion}
 use Rattle.spec_motion.specs.Vectors.{Known, reference_in}
-use Rattle.spec_picture_trees.specs.Places.{first_row}
-use Rattle.spec_picture_trees.specs.Shapes.{picture_shape, slice_start}
-use Rattle.spec_known_units.specs.Known.{KnownUnit, units_known}
-use Rattle.spec_picture_motion.specs.Slices.{collocated_entry, slice_motion}
-use Rattle.spec_picture_build.specs.References.{DecodedPicture}
+use Rattle.known_picture_laws.specs.SpecPictureTrees.{first_row}
+use Rattle.known_picture_laws.specs.SpecPictureTrees.{picture_shape, slice_start}
+use Rattle.known_picture_laws.specs.SpecKnownUnits.{KnownUnit, units_known}
+use Rattle.known_picture_laws.specs.SpecPictureMotion.{collocated_entry, slice_motion}
+use Rattle.known_picture_laws.specs.SpecPictureBuild.{DecodedPicture}
 use Rattle.flight_plan.specs.Flight.{IsEarlier, IsFlight, IsInRange, IsNoneOrEarlier, IsTreeUnit, PictureRows}
 use Rattle.flight_plan.specs.Flight.{ReadsEarlier}
 use Rattle.flight_plan.specs.Flight.{picture_at}
@@ -45,14 +45,16 @@ use Rattle.board_core.specs.Needs.{unit_in_picture}
 use Rattle.board_core.specs.Reach.{IsLumaLines, TellsMotion, blocks_of, range_of, reach_of, told_reach}
 use Rattle.board_core.proofs.Counting.{pieces_all}
 use Rattle.board_core.proofs.Order.{within_rows}
-use Rattle.locality_laws.specs.Needed.{IsHalved}
-use Rattle.locality_laws.proofs.Widths.{halved}
-use Rattle.spec_flights.specs.Pictures.{PlannedFlight, pictures_before}
-use Rattle.spec_flights.specs.References.{block_by, block_from, blocks_at, blocks_by, blocks_in, collocated_at}
-use Rattle.spec_flights.specs.References.{collocated_by, item_blocks, known_blocks, known_motion, named, names_before}
-use Rattle.spec_flights.specs.References.{segment_blocks, segment_of}
-use Rattle.spec_flights.specs.Rows.{bad_units, flight_motion, flight_rows, lines_in, luma_lines, picture_rows, rows_in}
-use Rattle.spec_flights.specs.Rows.{rows_of}
+use Rattle.known_picture_laws.specs.LocalityLaws.{IsHalved}
+use Rattle.known_picture_laws.proofs.LocalityLaws.{halved}
+use Rattle.known_picture_laws.specs.SpecFlights.{PlannedFlight, pictures_before}
+use Rattle.known_picture_laws.specs.SpecFlights.{block_by, block_from, blocks_at, blocks_by, blocks_in, collocated_at}
+use Rattle.known_picture_laws.specs.SpecFlights.{collocated_by, item_blocks, known_blocks, known_motion, named}
+use Rattle.known_picture_laws.specs.SpecFlights.{names_before}
+use Rattle.known_picture_laws.specs.SpecFlights.{segment_blocks, segment_of}
+use Rattle.known_picture_laws.specs.SpecFlights.{bad_units, flight_motion, flight_rows, lines_in, luma_lines}
+use Rattle.known_picture_laws.specs.SpecFlights.{picture_rows, rows_in}
+use Rattle.known_picture_laws.specs.SpecFlights.{rows_of}
 use Rattle.flight_unit_laws.specs.Planned.{IsPlanned}
 use Rattle.flight_unit_laws.specs.Stops.{IsBadUnit}
 use Rattle.flight_unit_laws.proofs.Bad.{bad_is}

@@ -20,21 +20,22 @@ use Rattle.ctu_records.specs.Prediction.{part_block}
 use Rattle.spec_motion.specs.declared.vectors.Motion.{Motion}
 use Rattle.spec_motion.specs.declared.vectors.Vector.{Vector}
 use Rattle.spec_motion.specs.Vectors.{Known, reference_in}
-use Rattle.spec_picture_trees.specs.Picture.{TreeUnit}
-use Rattle.spec_picture_trees.specs.Places.{first_row}
-use Rattle.spec_picture_trees.specs.Shapes.{picture_shape, slice_start}
-use Rattle.spec_known_units.specs.Known.{KnownUnit, units_known}
-use Rattle.spec_picture_motion.specs.Derived.{collocated_motions, known_of_unit}
-use Rattle.spec_picture_motion.specs.Slices.{collocated_entry, slice_motion}
-use Rattle.spec_reconstruction.specs.Inter.{InterUnit}
-use Rattle.spec_picture_build.specs.Built.{unit_inter}
-use Rattle.spec_picture_build.specs.References.{DecodedPicture, format_height, motions_of}
-use Rattle.spec_decoded_pictures.specs.Decoded.{DecodedUnits, unit_decoded}
-use Rattle.locality_laws.specs.Motion.{MotionAgreesBeneath}
-use Rattle.locality_laws.specs.Needed.{AgreeAlong, AgreeByMotion, AgreeForItem, AgreeWhereNeeded, HaveSameRows}
-use Rattle.locality_laws.specs.Needed.{IsHalved}
-use Rattle.locality_laws.specs.Needed.{first_needed, last_needed, luma_line}
-use Rattle.locality_laws.proofs.Motion.{known_of_unit_agrees}
+use Rattle.known_picture_laws.specs.SpecPictureTrees.{TreeUnit}
+use Rattle.known_picture_laws.specs.SpecPictureTrees.{first_row}
+use Rattle.known_picture_laws.specs.SpecPictureTrees.{picture_shape, slice_start}
+use Rattle.known_picture_laws.specs.SpecKnownUnits.{KnownUnit, units_known}
+use Rattle.known_picture_laws.specs.SpecPictureMotion.{collocated_motions, known_of_unit}
+use Rattle.known_picture_laws.specs.SpecPictureMotion.{collocated_entry, slice_motion}
+use Rattle.known_picture_laws.specs.SpecReconstruction.{InterUnit}
+use Rattle.known_picture_laws.specs.SpecPictureBuild.{unit_inter}
+use Rattle.known_picture_laws.specs.SpecPictureBuild.{DecodedPicture, format_height, motions_of}
+use Rattle.known_picture_laws.specs.SpecDecodedPictures.{DecodedUnits, unit_decoded}
+use Rattle.known_picture_laws.specs.LocalityLaws.{MotionAgreesBeneath}
+use Rattle.known_picture_laws.specs.LocalityLaws.{AgreeAlong, AgreeByMotion, AgreeForItem, AgreeWhereNeeded}
+use Rattle.known_picture_laws.specs.LocalityLaws.{HaveSameRows}
+use Rattle.known_picture_laws.specs.LocalityLaws.{IsHalved}
+use Rattle.known_picture_laws.specs.LocalityLaws.{first_needed, last_needed, luma_line}
+use Rattle.known_picture_laws.proofs.LocalityLaws.{known_of_unit_agrees}
 use Rattle.flight_plan.specs.Flight.{FlightRows, picture_at}
 use Rattle.flight_plan.specs.declared.row_range.Reference.{Reference}
 use Rattle.flight_plan.specs.declared.row_range.Reference.TheVariants.{Base, Flight}
@@ -46,10 +47,11 @@ use Rattle.board_core.specs.Places.{IsLine, line_of}
 use Rattle.board_core.specs.Reach.{range_of, reach_of, told_reach}
 use Rattle.board_core.specs.Uses.{Reached}
 use Rattle.board_core.proofs.Reaching.{map_contains}
-use Rattle.spec_flights.specs.Pictures.{PlannedFlight, folded_at, folded_in, known_folded, pictures_before}
-use Rattle.spec_flights.specs.References.{block_by, block_from, blocks_at, blocks_by, blocks_in, given_at, item_blocks}
-use Rattle.spec_flights.specs.References.{known_blocks, known_motion, names_before, segment_blocks}
-use Rattle.spec_flights.specs.Rows.{flight_rows, luma_lines}
+use Rattle.known_picture_laws.specs.SpecFlights.{PlannedFlight, folded_at, folded_in, known_folded, pictures_before}
+use Rattle.known_picture_laws.specs.SpecFlights.{block_by, block_from, blocks_at, blocks_by, blocks_in, given_at}
+use Rattle.known_picture_laws.specs.SpecFlights.{item_blocks}
+use Rattle.known_picture_laws.specs.SpecFlights.{known_blocks, known_motion, names_before, segment_blocks}
+use Rattle.known_picture_laws.specs.SpecFlights.{flight_rows, luma_lines}
 use Rattle.known_picture_laws.specs.Steps.{AgreeOnUnit, ReadsAsPicture}
 use Rattle.known_picture_laws.proofs.Steps.{decoded_by_step}
 use Rattle.flight_unit_laws.specs.Planned.{IsPlanned}

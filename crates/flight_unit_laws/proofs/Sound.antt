@@ -13,15 +13,17 @@ use Rattle.hv_base.specs.declared.line.Line.{Line}
 use Rattle.hv_base.specs.declared.line.Phase.TheVariants.{B}
 use Rattle.header_types.specs.SequenceParameterSets.{height_in_ctbs, size_in_ctbs, width_in_ctbs}
 use Rattle.plan_types.specs.declared.picture_plan.PicturePlan.{PicturePlan}
-use Rattle.spec_slice_data.specs.Segment.{begins_row, has_above, has_left, has_stored, unit_step}
-use Rattle.spec_picture_trees.specs.Picture.{SegmentAt}
-use Rattle.spec_picture_trees.specs.Shapes.{picture_shape}
-use Rattle.spec_known_units.specs.Known.{KnownUnit, behind_step, between_from, entries_before, goes_on, if_used}
-use Rattle.spec_known_units.specs.Known.{known_of}
-use Rattle.spec_known_units.specs.Known.{picture_segments, read_in, read_uses, segment_having, takes_stored, unit_read}
-use Rattle.spec_known_units.specs.Known.{units_known}
-use Rattle.known_unit_laws.proofs.Beside.{first_of_two, second_of_two}
-use Rattle.known_unit_laws.proofs.Entries.{known_step}
+use Rattle.known_picture_laws.specs.SpecSliceData.{begins_row, has_above, has_left, has_stored, unit_step}
+use Rattle.known_picture_laws.specs.SpecPictureTrees.{SegmentAt}
+use Rattle.known_picture_laws.specs.SpecPictureTrees.{picture_shape}
+use Rattle.known_picture_laws.specs.SpecKnownUnits.{KnownUnit, behind_step, between_from, entries_before, goes_on}
+use Rattle.known_picture_laws.specs.SpecKnownUnits.{if_used}
+use Rattle.known_picture_laws.specs.SpecKnownUnits.{known_of}
+use Rattle.known_picture_laws.specs.SpecKnownUnits.{picture_segments, read_in, read_uses, segment_having}
+use Rattle.known_picture_laws.specs.SpecKnownUnits.{takes_stored, unit_read}
+use Rattle.known_picture_laws.specs.SpecKnownUnits.{units_known}
+use Rattle.known_picture_laws.proofs.KnownUnitLawsBeside.{first_of_two, second_of_two}
+use Rattle.known_picture_laws.proofs.KnownUnitLawsEntries.{known_step}
 use Rattle.flight_plan.specs.Flight.{FlightRows, picture_at}
 use Rattle.board_core.specs.Places.{IsLine, line_of, unit_of, width_of}
 use Rattle.board_core.specs.Needs.{above_needs, collocated_of, reach_needs, row_needs}
@@ -30,10 +32,10 @@ use Rattle.board_core.specs.SoundUnits.{AreNeedsSound, AreSoundTo}
 use Rattle.board_core.specs.States.{IsBad}
 use Rattle.board_core.proofs.Counting.{left_part}
 use Rattle.board_core.proofs.Order.{within_rows}
-use Rattle.spec_flights.specs.Pictures.{PlannedFlight}
-use Rattle.spec_flights.specs.Rows.{broken_at, broken_by, flight_rows, is_sound}
-use Rattle.spec_flights.specs.Rows.{is_sound_of}
-use Rattle.spec_flights.specs.Rows.{unit_number}
+use Rattle.known_picture_laws.specs.SpecFlights.{PlannedFlight}
+use Rattle.known_picture_laws.specs.SpecFlights.{broken_at, broken_by, flight_rows, is_sound}
+use Rattle.known_picture_laws.specs.SpecFlights.{is_sound_of}
+use Rattle.known_picture_laws.specs.SpecFlights.{unit_number}
 use Rattle.flight_unit_laws.proofs.Bad.{bad_has}
 use Rattle.flight_unit_laws.proofs.Having.{unit_has_segment}
 use Rattle.flight_unit_laws.proofs.Pictures.{height_is, sync_is, width_is}

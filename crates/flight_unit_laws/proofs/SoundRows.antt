@@ -8,7 +8,7 @@ use Rattle.hv_base.specs.declared.line.Phase.{Phase}
 use Rattle.hv_base.specs.declared.line.Phase.TheVariants.{B, V, H, S}
 use Rattle.header_types.specs.SequenceParameterSets.{height_in_ctbs, width_in_ctbs}
 use Rattle.plan_types.specs.declared.picture_plan.PicturePlan.{PicturePlan}
-use Rattle.spec_known_units.specs.Known.{units_known}
+use Rattle.known_picture_laws.specs.SpecKnownUnits.{units_known}
 use Rattle.flight_plan.specs.Flight.{FlightRows, picture_at}
 use Rattle.board_core.specs.Places.{full_count, IsLine, line_of, unit_of}
 use Rattle.board_core.specs.Needs.{rows_needs, unit_needs}
@@ -16,8 +16,8 @@ use Rattle.board_core.specs.SoundUnits.{AreNeedsSound, AreSoundTo, IsSoundness}
 use Rattle.board_core.specs.States.{IsBad}
 use Rattle.board_core.proofs.Counting.{left_part, right_part}
 use Rattle.board_core.proofs.Order.{same_fields}
-use Rattle.spec_flights.specs.Pictures.{PlannedFlight}
-use Rattle.spec_flights.specs.Rows.{are_rows_known, flight_rows, is_row_known, is_sound, is_sound_of}
+use Rattle.known_picture_laws.specs.SpecFlights.{PlannedFlight}
+use Rattle.known_picture_laws.specs.SpecFlights.{are_rows_known, flight_rows, is_row_known, is_sound, is_sound_of}
 use Rattle.flight_unit_laws.specs.Stops.{HaveSegments}
 use Rattle.flight_unit_laws.proofs.Lists.{all_range, each_range}
 use Rattle.flight_unit_laws.proofs.Pictures.{has_plan, height_is, width_is}

@@ -7,17 +7,17 @@ use Rattle.std.proofs.lemmas.Option.{slice_get_within}
 use Rattle.hv_base.specs.declared.breach.Breach.{Breach}
 use Rattle.header_types.specs.SequenceParameterSets.{height_in_ctbs, size_in_ctbs, width_in_ctbs}
 use Rattle.plan_types.specs.declared.picture_plan.PicturePlan.{PicturePlan}
-use Rattle.spec_picture_trees.specs.Picture.{PictureBroken}
-use Rattle.spec_known_units.specs.Known.{KnownUnit, known_of, unit_read, units_known}
-use Rattle.known_unit_laws.proofs.Entries.{known_step}
-use Rattle.spec_picture_build.specs.References.{DecodedPicture}
-use Rattle.spec_decoded_pictures.specs.Decoded.{picture_decoded}
+use Rattle.known_picture_laws.specs.SpecPictureTrees.{PictureBroken}
+use Rattle.known_picture_laws.specs.SpecKnownUnits.{KnownUnit, known_of, unit_read, units_known}
+use Rattle.known_picture_laws.proofs.KnownUnitLawsEntries.{known_step}
+use Rattle.known_picture_laws.specs.SpecPictureBuild.{DecodedPicture}
+use Rattle.known_picture_laws.specs.SpecDecodedPictures.{picture_decoded}
 use Rattle.flight_plan.specs.Flight.{picture_at, picture_units}
 use Rattle.board_core.specs.Runs.{IsLeastBad}
 use Rattle.board_core.specs.States.{IsBad}
 use Rattle.board_core.proofs.Order.{before_more}
-use Rattle.spec_flights.specs.Pictures.{PlannedFlight, known_decoded, pictures_before}
-use Rattle.spec_flights.specs.Rows.{broken_at, broken_by, flight_rows, picture_rows, unit_number}
+use Rattle.known_picture_laws.specs.SpecFlights.{PlannedFlight, known_decoded, pictures_before}
+use Rattle.known_picture_laws.specs.SpecFlights.{broken_at, broken_by, flight_rows, picture_rows, unit_number}
 use Rattle.known_picture_laws.specs.Decoded.{IsDecodedAsKnown, IsFirstBad}
 use Rattle.known_picture_laws.proofs.Reading.{as_known}
 use Rattle.flight_unit_laws.specs.Stops.{HaveSegments, IsBadUnit, IsDecodedAt, StopsDecoding}

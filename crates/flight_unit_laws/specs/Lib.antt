@@ -3,3 +3,7 @@ pub mod Planned
 pub mod Uses
 pub mod KnownPictureLaws
 pub mod SpecDecoder
+pub mod SpecFlights
+pub mod PlanLaws
+pub mod LocalityLaws
+pub mod SpecDecoderDecoder

@@ -2,9 +2,9 @@
 use Rattle.std.specs.Prelude.{◌≡◌, ◌≤◌, ℕ, All, length, Some, slice_get}
 use Rattle.header_types.specs.SequenceParameterSets.{IsSps}
 use Rattle.plan_types.specs.declared.picture_plan.PicturePlan.{PicturePlan}
-use Rattle.spec_flights.specs.SpecDecoder.{BufferPicture}
-use Rattle.locality_laws.specs.Needed.{IsHalved}
-use Rattle.spec_flights.specs.Pictures.{PlannedFlight}
+use Rattle.known_picture_laws.specs.SpecFlights.{BufferPicture}
+use Rattle.known_picture_laws.specs.LocalityLaws.{IsHalved}
+use Rattle.known_picture_laws.specs.SpecFlights.{PlannedFlight}
 use Rattle.flight_unit_laws.specs.Stops.{HaveSegments}
 
 -- a picture of the buffer has sides of which chroma has half

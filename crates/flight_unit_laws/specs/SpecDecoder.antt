@@ -1,3 +1,3 @@
 -- Names of spec_decoder that crates above take from here.
-pub use Rattle.spec_flights.specs.SpecDecoder.{BufferPicture, is_among, kept_as, pictures_in}
-unfoldable pub use Rattle.spec_flights.specs.SpecDecoder.{kept_from}
+pub use Rattle.known_picture_laws.specs.SpecFlights.{BufferPicture, is_among, kept_as, pictures_in}
+unfoldable pub use Rattle.known_picture_laws.specs.SpecFlights.{kept_from}

@@ -3,10 +3,10 @@ use Rattle.std.specs.Prelude.{◌≡◌, ◌≢◌, ◌<◌, ℕ, [], Some, Ok, 
 use Rattle.hv_base.specs.declared.breach.Breach.{Breach}
 use Rattle.header_types.specs.SequenceParameterSets.{size_in_ctbs}
 use Rattle.plan_types.specs.declared.picture_plan.PicturePlan.{PicturePlan}
-use Rattle.spec_picture_trees.specs.Picture.{PictureBroken}
-use Rattle.spec_decoded_pictures.specs.Decoded.{picture_decoded}
-use Rattle.spec_flights.specs.Pictures.{PlannedFlight, known_decoded, pictures_before}
-use Rattle.spec_flights.specs.Rows.{broken_at, unit_number}
+use Rattle.known_picture_laws.specs.SpecPictureTrees.{PictureBroken}
+use Rattle.known_picture_laws.specs.SpecDecodedPictures.{picture_decoded}
+use Rattle.known_picture_laws.specs.SpecFlights.{PlannedFlight, known_decoded, pictures_before}
+use Rattle.known_picture_laws.specs.SpecFlights.{broken_at, unit_number}
 
 -- each picture of a flight has a slice segment
 abbrev pub HaveSegments : PlannedFlight → Type 0

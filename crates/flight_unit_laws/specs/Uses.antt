@@ -6,20 +6,20 @@ use Rattle.hv_base.specs.declared.line.Phase.{Phase}
 use Rattle.hv_base.specs.declared.line.Phase.TheVariants.{B, S}
 use Rattle.header_types.specs.SequenceParameterSets.{ctb_log2, height_in_ctbs, width_in_ctbs}
 use Rattle.plan_types.specs.declared.picture_plan.PicturePlan.{PicturePlan}
-use Rattle.spec_picture_trees.specs.Places.{has_place, unit_places}
-use Rattle.spec_picture_trees.specs.Shapes.{picture_shape}
+use Rattle.known_picture_laws.specs.SpecPictureTrees.{has_place, unit_places}
+use Rattle.known_picture_laws.specs.SpecPictureTrees.{picture_shape}
 use Rattle.spec_sample_adaptive_offset.specs.declared.unit.OffsetUnit.{OffsetUnit}
-use Rattle.spec_picture_build.specs.Border.{Samples, has_sample, unit_side}
-use Rattle.spec_picture_build.specs.References.{DecodedPicture}
-use Rattle.spec_decoded_pictures.specs.Decoded.{DecodedUnits}
-use Rattle.locality_laws.specs.Needed.{luma_line}
+use Rattle.known_picture_laws.specs.SpecPictureBuild.{Samples, has_sample, unit_side}
+use Rattle.known_picture_laws.specs.SpecPictureBuild.{DecodedPicture}
+use Rattle.known_picture_laws.specs.SpecDecodedPictures.{DecodedUnits}
+use Rattle.known_picture_laws.specs.LocalityLaws.{luma_line}
 use Rattle.flight_plan.specs.declared.row_range.Reference.{Reference}
 use Rattle.flight_plan.specs.declared.row_range.Reference.TheVariants.{Base, Flight}
 use Rattle.board_core.specs.Places.{line_of}
 use Rattle.board_core.specs.Uses.{UnitUses}
-use Rattle.spec_flights.specs.Pictures.{PlannedFlight, pictures_before}
-use Rattle.spec_flights.specs.References.{names_before}
-use Rattle.spec_flights.specs.Rows.{flight_rows}
+use Rattle.known_picture_laws.specs.SpecFlights.{PlannedFlight, pictures_before}
+use Rattle.known_picture_laws.specs.SpecFlights.{names_before}
+use Rattle.known_picture_laws.specs.SpecFlights.{flight_rows}
 
 -- making the unit x of a line uses the coding tree unit in a column and a row of a picture
 abbrev pub UsesTree : PlannedFlight → Line → ℕ → ℕ → ℕ → ℕ → Type 0

@@ -8,8 +8,8 @@ use Rattle.std.proofs.lemmas.Bool.{cases_lt}
 use Rattle.std.proofs.lemmas.List.{get_or_past}
 use Rattle.std.proofs.lemmas.List.Elements.{All-map}
 use Rattle.std.proofs.lemmas.List.FromFn.{get_or-map-range_with_len, length-map-range_with_len}
-use Rattle.cabac_contexts.specs.Packing.{eight_from, packed, unpacked}
-use Rattle.cabac_contexts.proofs.Packs.{round_trip}
+use Rattle.known_picture_laws.specs.CabacContexts.{eight_from, packed, unpacked}
+use Rattle.known_picture_laws.proofs.CabacContextsLemmas.{round_trip}
 use Rattle.flight_value_laws.specs.Ranges.{AreContextWords, AreContexts}
 use Rattle.flight_value_laws.proofs.Contexts.{context_at}
 

@@ -1,5 +1,6 @@
 -- The contexts of a slice stay as many, and each keeps a value of a context, whatever is read.
-use Rattle.std.proofs.Common.{◌≡◌, ℕ, ◌+◌, ◌-◌, ◌*◌, ◌/◌, ◌%◌, ◌<◌, ◌≤◌, ◌==◌, ◌&&◌, Bool, true, false, cond, not, List}
+use Rattle.std.proofs.Common.{◌≡◌, ℕ, ◌+◌, ◌-◌, ◌*◌, ◌/◌, ◌%◌, ◌<◌, ◌≤◌, ◌==◌, ◌&&◌, Bool, true, false, cond, not}
+use Rattle.std.proofs.Common.{List}
 use Rattle.std.proofs.Common.{length, Option, Some, None, Result, Ok, Err, nat_le, ℤ, pos, negsuc, ◌≤ℤ◌, ◌*ℤ◌}
 use Rattle.std.proofs.Common.{◌-ℤ◌}
 use Rattle.std.proofs.Common.{◌+ℤ◌, refl, subst, ◌∙◌, arith, inl, inr, [], if◌then◌else◌}
@@ -30,8 +31,8 @@ use Rattle.spec_slice_data.specs.Segment.{Between, PictureShape, SegmentShape, b
 use Rattle.spec_slice_data.specs.Segment.{begins_substream}
 use Rattle.spec_slice_data.specs.Segment.{behind_unit, contexts_before, has_stored, is_first, judged_end, qp_before}
 use Rattle.spec_slice_data.specs.Segment.{read_unit, restarted, substream_of, then_unit, unit_at, unit_step}
-use Rattle.unit_laws.proofs.Formats.{cond_holds}
-use Rattle.unit_laws.proofs.Units.{OkHolds}
+use Rattle.sample_laws.proofs.UnitLawsLemmas.{cond_holds}
+use Rattle.sample_laws.proofs.UnitLawsLemmas.{OkHolds}
 use Rattle.flight_value_laws.specs.Ranges.{AreContexts}
 
 -- ---- a context behind a bin

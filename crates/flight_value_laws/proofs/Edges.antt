@@ -8,15 +8,15 @@ use Rattle.spec_slice_data.specs.declared.syntax.CtuSyntax.{CtuSyntax}
 use Rattle.spec_slice_data.specs.Segment.{PictureShape, SegmentShape, Between, begins_row, column_of, has_above}
 use Rattle.spec_slice_data.specs.Segment.{has_left, is_last, next_unit, places_left, read_unit, row_of, side_of}
 use Rattle.spec_slice_data.specs.Segment.{syntax_at, unit_at, unit_begins, unit_of}
-use Rattle.coding_quadtree.specs.Beside.{available}
-use Rattle.coding_quadtree.specs.Judged.{judged}
-use Rattle.coding_quadtree.proofs.Offsets.{unit_same}
-use Rattle.unit_trees.specs.declared.edges.Edge.{Edge}
-use Rattle.unit_trees.specs.Edges.{place_of}
-use Rattle.unit_trees.specs.Units.{then_next, unit_beside, unit_over}
-use Rattle.unit_trees.proofs.Beside.{above_there, left_there}
-use Rattle.unit_trees.proofs.Sides.{side_near}
-use Rattle.unit_trees.proofs.Steps.{behind_is}
+use Rattle.known_picture_laws.specs.CodingQuadtree.{available}
+use Rattle.known_picture_laws.specs.CodingQuadtree.{judged}
+use Rattle.known_picture_laws.proofs.CodingQuadtreeLemmas.{unit_same}
+use Rattle.known_picture_laws.specs.UnitTrees.{Edge}
+use Rattle.known_picture_laws.specs.UnitTrees.{place_of}
+use Rattle.known_picture_laws.specs.UnitTrees.{then_next, unit_beside, unit_over}
+use Rattle.known_picture_laws.proofs.UnitTreesLemmas.{above_there, left_there}
+use Rattle.known_picture_laws.proofs.UnitTreesLemmas.{side_near}
+use Rattle.known_picture_laws.proofs.UnitTreesLemmas.{behind_is}
 use Rattle.flight_value_laws.specs.Reading.{IsLeftEdge, IsTopEdge}
 
 -- a place that is available belongs to a unit that is there, and the picture has it

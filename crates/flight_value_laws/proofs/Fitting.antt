@@ -1,5 +1,6 @@
 -- What is read of a coding tree unit fits its words: depths of coding units, vectors, and sample adaptive offset.
-use Rattle.std.proofs.Common.{◌≡◌, ℕ, zero, suc, ◌+◌, ◌-◌, ◌*◌, ◌%◌, ◌^◌, ◌<◌, ◌≤◌, ◌==◌, ◌&&◌, not, Bool, true, false}
+use Rattle.std.proofs.Common.{◌≡◌, ℕ, zero, suc, ◌+◌, ◌-◌, ◌*◌, ◌%◌, ◌^◌, ◌<◌, ◌≤◌, ◌==◌, ◌&&◌, not, Bool, true}
+use Rattle.std.proofs.Common.{false}
 use Rattle.std.proofs.Common.{List, [], ◌∷◌, All, Option, Some, None, cond, nat_le, nat_lt, refl, sym, ap, subst}
 use Rattle.std.proofs.Common.{arith, ◌∙◌}
 use Rattle.std.specs.Prelude.{⊤}
@@ -23,8 +24,8 @@ use Rattle.ctu_records.specs.Prediction.{part_block}
 use Rattle.ctu_records.specs.Tree.{Ctu, added, coding_at, coding_laid, coding_place, no_codings, with_quantization}
 use Rattle.ctu_records.specs.Tree.{with_sao}
 use Rattle.spec_cabac.specs.Bins.{Tree}
-use Rattle.spec_residuals.specs.declared.block.Level.{Level}
-use Rattle.spec_residuals.specs.Levels.{Residual}
+use Rattle.spec_slice_data.specs.SpecResiduals.{Level}
+use Rattle.spec_slice_data.specs.SpecResiduals.{Residual}
 use Rattle.spec_slice_data.specs.declared.syntax.ChromaFlags.{ChromaFlags}
 use Rattle.spec_slice_data.specs.declared.syntax.CtuSyntax.{CtuSyntax}
 use Rattle.spec_slice_data.specs.declared.syntax.End.{End}
@@ -48,11 +49,13 @@ use Rattle.spec_slice_data.specs.Transform.{transform_tree}
 use Rattle.spec_slice_data.specs.Transform.{transform_unit, whole_of_fourth}
 use Rattle.spec_slice_data.specs.Tree.{begun_unit, coding_quadtree, coding_tree_unit, coding_unit, inter_syntax}
 use Rattle.spec_slice_data.specs.Tree.{inter_unit, intra_body, intra_syntax, intra_unit, parts_and_tree, pcm_sample}
-use Rattle.spec_slice_data.specs.Tree.{pcm_samples, pcm_unit, skipped_unit, split_cu_flag, split_or_unit, unit_and_end}
+use Rattle.spec_slice_data.specs.Tree.{pcm_samples, pcm_unit, skipped_unit, split_cu_flag, split_or_unit}
+use Rattle.spec_slice_data.specs.Tree.{unit_and_end}
 use Rattle.spec_slice_data.specs.Tree.{unit_at, unit_body, unit_start, unit_tree, where_reached, whole_unit}
 use Rattle.sample_words.specs.Offsets.{IsSao}
-use Rattle.unit_laws.proofs.Formats.{Gives, after_any, always, give_gives, then_gives, times_gives, truncated_gives}
-use Rattle.unit_laws.proofs.Formats.{when_gives}
+use Rattle.sample_laws.proofs.UnitLawsLemmas.{Gives, after_any, always, give_gives, then_gives, times_gives}
+use Rattle.sample_laws.proofs.UnitLawsLemmas.{truncated_gives}
+use Rattle.sample_laws.proofs.UnitLawsLemmas.{when_gives}
 use Rattle.flight_value_laws.proofs.Offsets.{sao_gives}
 
 -- one of two vectors is there

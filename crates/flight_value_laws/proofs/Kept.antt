@@ -5,29 +5,29 @@ use Rattle.std.specs.Option.{unwrap_or}
 use Rattle.header_types.specs.SequenceParameterSets.{size_in_ctbs}
 use Rattle.plan_types.specs.declared.picture_plan.PicturePlan.{PicturePlan}
 use Rattle.plan_types.specs.declared.segment_plan.SegmentPlan.{SegmentPlan}
-use Rattle.plan_laws.specs.Plans.{IsPlan}
-use Rattle.picture_buffer.specs.declared.place_motion.PlaceMotion.{PlaceMotion}
+use Rattle.known_picture_laws.specs.PlanLaws.{IsPlan}
+use Rattle.known_picture_laws.specs.PictureBuffer.{PlaceMotion}
 use Rattle.spec_motion.specs.declared.slice_motion.SliceMotion.{SliceMotion}
 use Rattle.spec_motion.specs.declared.vectors.Motion.{Motion}
 use Rattle.spec_motion.specs.declared.vectors.Vector.{Vector}
 use Rattle.spec_slice_data.specs.Segment.{PictureShape}
-use Rattle.spec_picture_trees.specs.Picture.{TreeUnit}
-use Rattle.spec_picture_trees.specs.Places.{first_column, first_row, is_of_unit, unit_at, unit_places}
-use Rattle.spec_picture_trees.specs.Shapes.{picture_shape}
+use Rattle.spec_known_units.specs.SpecPictureTrees.{TreeUnit}
+use Rattle.spec_known_units.specs.SpecPictureTrees.{first_column, first_row, is_of_unit, unit_at, unit_places}
+use Rattle.spec_known_units.specs.SpecPictureTrees.{picture_shape}
 use Rattle.spec_known_units.specs.Known.{KnownUnit, known_units, units_known}
-use Rattle.spec_picture_motion.specs.Derived.{known_of_unit, unit_added, units_derived}
-use Rattle.spec_picture_motion.specs.Field.{Motions, motion_of, pointing_motion, unit_laid}
-use Rattle.spec_picture_motion.specs.Slices.{slice_motion}
-use Rattle.spec_picture_build.specs.References.{DecodedPicture, motions_of}
-use Rattle.spec_decoded_pictures.specs.Decoded.{DecodedUnits, units_folded}
+use Rattle.known_picture_laws.specs.SpecPictureMotion.{known_of_unit, unit_added, units_derived}
+use Rattle.known_picture_laws.specs.SpecPictureMotion.{Motions, motion_of, pointing_motion, unit_laid}
+use Rattle.known_picture_laws.specs.SpecPictureMotion.{slice_motion}
+use Rattle.sample_laws.specs.SpecPictureBuild.{DecodedPicture, motions_of}
+use Rattle.sample_laws.specs.SpecDecodedPictures.{DecodedUnits, units_folded}
 use Rattle.known_picture_laws.proofs.LocalityLaws.{place_is}
 use Rattle.known_picture_laws.proofs.LocalityLaws.{motion_is_its_step}
 use Rattle.known_picture_laws.specs.Order.{IsInOrder}
 use Rattle.known_picture_laws.proofs.FilterData.{folded_motion}
 use Rattle.known_picture_laws.proofs.Order.{in_order}
-use Rattle.spec_flights.specs.Pictures.{PlannedFlight, folded_at, known_folded, pictures_before}
-use Rattle.spec_flights.specs.References.{given_at}
-use Rattle.spec_flights.specs.Words.{modes_at, no_vectors, segment_number, values_in}
+use Rattle.known_picture_laws.specs.SpecFlights.{PlannedFlight, folded_at, known_folded, pictures_before}
+use Rattle.known_picture_laws.specs.SpecFlights.{given_at}
+use Rattle.known_picture_laws.specs.SpecFlights.{modes_at, no_vectors, segment_number, values_in}
 use Rattle.flight_value_laws.specs.Motion.{HasOne, IsHeld, has_one, kept_in, kept_motion, motion_where}
 use Rattle.flight_value_laws.specs.Ranges.{IsInRange}
 use Rattle.flight_value_laws.proofs.Known.{IsKnownFit}

@@ -24,31 +24,32 @@ use Rattle.ctu_records.specs.Tree.{Ctu}
 use Rattle.spec_bits.specs.Bits.{bits}
 use Rattle.spec_cabac.specs.Bins.{State, Tree, read}
 use Rattle.spec_cabac.specs.Engine.{Engine, start_at}
-use Rattle.spec_reconstruction.specs.declared.format.UnitFormat.{UnitFormat}
+use Rattle.sample_laws.specs.SpecReconstruction.{UnitFormat}
 use Rattle.spec_slice_data.specs.declared.syntax.CtuSyntax.{CtuSyntax}
 use Rattle.spec_slice_data.specs.declared.syntax.End.{End}
 use Rattle.spec_slice_data.specs.declared.syntax.PcmSyntax.{PcmSyntax}
 use Rattle.spec_slice_data.specs.Segment.{Between, PictureShape, SegmentShape, before_unit, begins_row}
 use Rattle.spec_slice_data.specs.Segment.{begins_substream}
 use Rattle.spec_slice_data.specs.Segment.{behind_unit, contexts_before, is_last, judged_end, no_group, nothing_read}
-use Rattle.spec_slice_data.specs.Segment.{qp_before, read_unit, restarted, substream_of, syntax_at, then_unit, unit_at}
+use Rattle.spec_slice_data.specs.Segment.{qp_before, read_unit, restarted, substream_of, syntax_at, then_unit}
+use Rattle.spec_slice_data.specs.Segment.{unit_at}
 use Rattle.spec_slice_data.specs.Segment.{unit_begins, unit_of, unit_step}
-use Rattle.spec_slice_headers.specs.SliceFields.{slice_qp}
-use Rattle.spec_picture_trees.specs.Picture.{SegmentAt, before_picture}
-use Rattle.spec_picture_trees.specs.Shapes.{first_qp, inter_syntax, pcm_syntax, picture_shape, qp_bd_offset}
-use Rattle.spec_picture_trees.specs.Shapes.{segment_shape, segment_syntax, slice_syntax}
+use Rattle.spec_known_units.specs.SpecSliceHeaders.{slice_qp}
+use Rattle.spec_known_units.specs.SpecPictureTrees.{SegmentAt, before_picture}
+use Rattle.spec_known_units.specs.SpecPictureTrees.{first_qp, inter_syntax, pcm_syntax, picture_shape, qp_bd_offset}
+use Rattle.spec_known_units.specs.SpecPictureTrees.{segment_shape, segment_syntax, slice_syntax}
 use Rattle.spec_known_units.specs.Known.{Entries, KnownUnit, behind_step, between_from, ctu_of, entries_before}
 use Rattle.spec_known_units.specs.Known.{known_of}
 use Rattle.spec_known_units.specs.Known.{contexts_behind}
 use Rattle.spec_known_units.specs.Known.{last_behind, picture_segments, read_in, read_uses, segment_having, unit_read}
 use Rattle.spec_known_units.specs.Known.{units_known, units_to}
-use Rattle.spec_picture_build.specs.Format.{unit_format}
+use Rattle.sample_laws.specs.SpecPictureBuild.{unit_format}
 use Rattle.sample_words.specs.Offsets.{IsSao}
-use Rattle.unit_laws.proofs.Formats.{Gives, cond_holds}
-use Rattle.unit_laws.proofs.Items.{IsKept}
-use Rattle.unit_laws.proofs.Predictions.{FitsInter}
-use Rattle.unit_laws.proofs.Quadtree.{Fits}
-use Rattle.unit_laws.proofs.Units.{AreKept, OkHolds, step_kept, unit_kept}
+use Rattle.sample_laws.proofs.UnitLawsLemmas.{Gives, cond_holds}
+use Rattle.sample_laws.proofs.UnitLawsLemmas.{IsKept}
+use Rattle.sample_laws.proofs.UnitLawsLemmas.{FitsInter}
+use Rattle.sample_laws.proofs.UnitLawsLemmas.{Fits}
+use Rattle.sample_laws.proofs.UnitLawsLemmas.{AreKept, OkHolds, step_kept, unit_kept}
 use Rattle.flight_value_laws.specs.Ranges.{AreContexts}
 use Rattle.flight_value_laws.proofs.Contexts.{HasContexts, first_are, step_has}
 use Rattle.flight_value_laws.proofs.Fitting.{FitsWords, IsFit, unit_and_end_fit}

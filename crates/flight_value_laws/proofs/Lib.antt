@@ -15,3 +15,6 @@ pub mod Pictures
 pub mod Values
 pub mod Kept
 pub mod Sides
+pub mod KnownPictureLawsLemmas
+pub mod LocalityLawsLemmas
+pub mod KnownUnitLawsLemmas

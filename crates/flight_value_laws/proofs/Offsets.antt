@@ -15,7 +15,8 @@ use Rattle.spec_slice_data.specs.Offset.{greatest_offset, kind_of, like_componen
 use Rattle.spec_slice_data.specs.Offset.{offsets, own_component, own_sao, own_where, sao, sao_offset_abs}
 use Rattle.spec_slice_data.specs.Offset.{sao_or_above, signed}
 use Rattle.sample_words.specs.Offsets.{AreOffsets, IsComponent, IsSao}
-use Rattle.unit_laws.proofs.Formats.{Gives, after_any, fixed_gives, give_gives, then_gives, truncated_gives, when_gives}
+use Rattle.sample_laws.proofs.UnitLawsLemmas.{Gives, after_any, fixed_gives, give_gives, then_gives, truncated_gives}
+use Rattle.sample_laws.proofs.UnitLawsLemmas.{when_gives}
 
 abbrev IsSmall : ℕ → Type 0
 IsSmall v = v ≤ 31

@@ -13,12 +13,13 @@ use Rattle.spec_bits.specs.Bits.{bits}
 use Rattle.spec_cabac.specs.Bins.{State}
 use Rattle.spec_cabac.specs.Engine.{Engine, start_at}
 use Rattle.spec_slice_data.specs.declared.syntax.End.{End}
-use Rattle.spec_slice_data.specs.Segment.{Between, before_unit, begins_substream, contexts_before, has_above, has_left}
+use Rattle.spec_slice_data.specs.Segment.{Between, before_unit, begins_substream, contexts_before, has_above}
+use Rattle.spec_slice_data.specs.Segment.{has_left}
 use Rattle.spec_slice_data.specs.Segment.{no_group, nothing_read}
 use Rattle.spec_slice_data.specs.Segment.{qp_before, restarted, substream_of, then_unit, unit_of, unit_step}
-use Rattle.spec_picture_trees.specs.Picture.{SegmentAt}
-use Rattle.unit_trees.specs.declared.edges.Edge.{Edge}
-use Rattle.unit_trees.specs.Units.{then_next, unit_over}
+use Rattle.spec_known_units.specs.SpecPictureTrees.{SegmentAt}
+use Rattle.known_picture_laws.specs.UnitTrees.{Edge}
+use Rattle.known_picture_laws.specs.UnitTrees.{then_next, unit_over}
 use Rattle.known_picture_laws.specs.UnitTreeLaws.{Agree, IsSameStep}
 use Rattle.known_picture_laws.proofs.UnitTreeLaws.{steps_same}
 use Rattle.spec_known_units.specs.Known.{Entries, KnownUnit, behind_step, between_from, ctu_of, entries_before}

@@ -7,24 +7,24 @@ use Rattle.hv_base.specs.declared.line.Phase.{Phase}
 use Rattle.hv_base.specs.declared.line.Phase.TheVariants.{B, V, H, S}
 use Rattle.header_types.specs.SequenceParameterSets.{IsSps}
 use Rattle.plan_types.specs.declared.picture_plan.PicturePlan.{PicturePlan}
-use Rattle.spec_deblocking.specs.declared.place.Place.{Place}
-use Rattle.spec_deblocking.specs.declared.place.Plane.{Plane}
-use Rattle.spec_deblocking.specs.Places.{turned}
-use Rattle.spec_deblocking.specs.Planes.{deblocked, edge_sample, horizontal, vertical}
-use Rattle.spec_sample_adaptive_offset.proofs.Samples.{in_range}
-use Rattle.spec_loop_filters.specs.declared.format.FilterFormat.{FilterFormat}
-use Rattle.spec_loop_filters.specs.Filters.{AreInRange, LoopFilters, deblocked_samples, depth_of}
-use Rattle.spec_loop_filters.specs.Filters.{offset_plane, plane_of}
-use Rattle.spec_loop_filters.proofs.Ranges.{deblocked_small}
-use Rattle.filter_locality_laws.specs.Rows.{behind_vertical}
-use Rattle.spec_picture_filters.specs.Data.{FilterData}
-use Rattle.spec_picture_filters.specs.Filtered.{filter_format, loop_filters}
-use Rattle.spec_picture_build.specs.Border.{Samples}
-use Rattle.spec_picture_build.specs.References.{greatest_sample}
-use Rattle.spec_decoded_pictures.specs.Decoded.{DecodedUnits}
+use Rattle.sample_laws.specs.SpecDeblocking.{Place}
+use Rattle.sample_laws.specs.SpecDeblocking.{Plane}
+use Rattle.sample_laws.specs.SpecDeblocking.{turned}
+use Rattle.sample_laws.specs.SpecDeblocking.{deblocked, edge_sample, horizontal, vertical}
+use Rattle.sample_laws.proofs.SpecSampleAdaptiveOffsetLemmas.{in_range}
+use Rattle.sample_laws.specs.SpecLoopFilters.{FilterFormat}
+use Rattle.sample_laws.specs.SpecLoopFilters.{AreInRange, LoopFilters, deblocked_samples, depth_of}
+use Rattle.sample_laws.specs.SpecLoopFilters.{offset_plane, plane_of}
+use Rattle.sample_laws.proofs.SpecLoopFiltersLemmas.{deblocked_small}
+use Rattle.known_picture_laws.specs.FilterLocalityLaws.{behind_vertical}
+use Rattle.sample_laws.specs.SpecPictureFilters.{FilterData}
+use Rattle.sample_laws.specs.SpecPictureFilters.{filter_format, loop_filters}
+use Rattle.sample_laws.specs.SpecPictureBuild.{Samples}
+use Rattle.sample_laws.specs.SpecPictureBuild.{greatest_sample}
+use Rattle.sample_laws.specs.SpecDecodedPictures.{DecodedUnits}
 use Rattle.sample_words.specs.Values.{sample_bits}
-use Rattle.spec_flights.specs.Phases.{horizontal_samples, offset_samples, phase_samples, vertical_samples}
-use Rattle.spec_flights.specs.Words.{flight_sizes}
+use Rattle.known_picture_laws.specs.SpecFlights.{horizontal_samples, offset_samples, phase_samples, vertical_samples}
+use Rattle.known_picture_laws.specs.SpecFlights.{flight_sizes}
 use Rattle.flight_value_laws.proofs.Over.{not_below}
 
 -- a plane of no lines has no horizontal edges

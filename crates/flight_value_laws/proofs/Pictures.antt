@@ -13,29 +13,30 @@ use Rattle.ctu_records.specs.declared.item.Item.{Item}
 use Rattle.spec_motion.specs.declared.slice_motion.SliceMotion.{SliceMotion}
 use Rattle.spec_motion.specs.declared.vectors.Motion.{Motion}
 use Rattle.spec_motion.specs.declared.vectors.Vector.{Vector}
-use Rattle.picture_buffer.specs.declared.place_motion.PlaceMotion.{PlaceMotion}
-use Rattle.picture_buffer.specs.declared.place_motion.PlaceVector.{PlaceVector}
+use Rattle.known_picture_laws.specs.PictureBuffer.{PlaceMotion}
+use Rattle.known_picture_laws.specs.PictureBuffer.{PlaceVector}
 use Rattle.spec_slice_data.specs.Segment.{PictureShape}
-use Rattle.spec_picture_trees.specs.Picture.{TreeUnit}
-use Rattle.spec_picture_trees.specs.Places.{first_column, first_row, is_available, is_of_unit, unit_places}
-use Rattle.spec_picture_trees.specs.Shapes.{picture_shape, slice_start}
+use Rattle.spec_known_units.specs.SpecPictureTrees.{TreeUnit}
+use Rattle.spec_known_units.specs.SpecPictureTrees.{first_column, first_row, is_available, is_of_unit, unit_places}
+use Rattle.spec_known_units.specs.SpecPictureTrees.{picture_shape, slice_start}
 use Rattle.spec_known_units.specs.Known.{KnownUnit, as_given, given_of, known_before, units_known}
-use Rattle.spec_picture_motion.specs.Derived.{References, collocated_motions, known_of_unit}
-use Rattle.spec_picture_motion.specs.Derived.{unit_added as motion_added}
-use Rattle.spec_picture_motion.specs.Field.{Motions, beneath_unit, collocated_of, is_border, known_beside}
-use Rattle.spec_picture_motion.specs.Field.{motion_beside}
-use Rattle.spec_picture_motion.specs.Field.{motion_of, no_motions, pointing_motion, pointing_vector, unit_laid}
-use Rattle.spec_picture_motion.specs.Field.{vector_of}
-use Rattle.spec_picture_motion.specs.Slices.{motion_of_slice, slice_motion}
-use Rattle.spec_boundary_strengths.specs.Motion.{differ, motion_strength, vectors}
-use Rattle.spec_boundary_strengths.specs.Places.{unit_place}
-use Rattle.spec_boundary_strengths.specs.Strengths.{Beside, left_strength, strength, top_strength}
-use Rattle.spec_deblocking.specs.declared.place.Place.{Place}
-use Rattle.spec_picture_filters.specs.Data.{FilterData, no_data}
-use Rattle.spec_picture_filters.specs.Units.{place_of, places_laid, places_read, read_added}
-use Rattle.spec_picture_build.specs.References.{DecodedPicture, motions_of}
-use Rattle.spec_decoded_pictures.specs.Decoded.{DecodedUnits, decoded_in, no_units, unit_decoded, units_folded}
-use Rattle.spec_decoded_pictures.specs.Decoded.{with_unit}
+use Rattle.known_picture_laws.specs.SpecPictureMotion.{References, collocated_motions, known_of_unit}
+use Rattle.known_picture_laws.specs.SpecPictureMotion.{unit_added as motion_added}
+use Rattle.known_picture_laws.specs.SpecPictureMotion.{Motions, beneath_unit, collocated_of, is_border, known_beside}
+use Rattle.known_picture_laws.specs.SpecPictureMotion.{motion_beside}
+use Rattle.known_picture_laws.specs.SpecPictureMotion.{motion_of, no_motions, pointing_motion, pointing_vector}
+use Rattle.known_picture_laws.specs.SpecPictureMotion.{unit_laid}
+use Rattle.known_picture_laws.specs.SpecPictureMotion.{vector_of}
+use Rattle.known_picture_laws.specs.SpecPictureMotion.{motion_of_slice, slice_motion}
+use Rattle.sample_laws.specs.SpecBoundaryStrengths.{differ, motion_strength, vectors}
+use Rattle.sample_laws.specs.SpecBoundaryStrengths.{unit_place}
+use Rattle.sample_laws.specs.SpecBoundaryStrengths.{Beside, left_strength, strength, top_strength}
+use Rattle.sample_laws.specs.SpecDeblocking.{Place}
+use Rattle.sample_laws.specs.SpecPictureFilters.{FilterData, no_data}
+use Rattle.sample_laws.specs.SpecPictureFilters.{place_of, places_laid, places_read, read_added}
+use Rattle.sample_laws.specs.SpecPictureBuild.{DecodedPicture, motions_of}
+use Rattle.sample_laws.specs.SpecDecodedPictures.{DecodedUnits, decoded_in, no_units, unit_decoded, units_folded}
+use Rattle.sample_laws.specs.SpecDecodedPictures.{with_unit}
 use Rattle.flight_value_laws.specs.Motion.{AreMotionsHeld, IsHeld}
 use Rattle.flight_value_laws.proofs.Derived.{AreBlocksFit, AreHeld, HasFewActive, IsBlockFit}
 use Rattle.flight_value_laws.proofs.Derived.{IsToldItem, unit_held}

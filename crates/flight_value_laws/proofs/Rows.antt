@@ -6,8 +6,8 @@ use Rattle.std.proofs.lemmas.Option.{slice_get_within}
 use Rattle.header_types.specs.SequenceParameterSets.{height_in_ctbs, size_in_ctbs, width_in_ctbs}
 use Rattle.plan_types.specs.declared.picture_plan.PicturePlan.{PicturePlan}
 use Rattle.flight_plan.specs.Flight.{PictureRows, no_picture, picture_at}
-use Rattle.spec_flights.specs.Pictures.{PlannedFlight}
-use Rattle.spec_flights.specs.Rows.{flight_rows, picture_rows, rows_in, rows_of}
+use Rattle.known_picture_laws.specs.SpecFlights.{PlannedFlight}
+use Rattle.known_picture_laws.specs.SpecFlights.{flight_rows, picture_rows, rows_in, rows_of}
 
 module _ (f : PlannedFlight) (k : ℕ) (p : PicturePlan) (has : slice_get f.pictures k ≡ Some p) where
   abbrev row_at : ℕ → PictureRows

@@ -9,8 +9,8 @@ use Rattle.header_types.specs.SequenceParameterSets.{width_in_ctbs}
 use Rattle.plan_types.specs.declared.picture_plan.PicturePlan.{PicturePlan}
 use Rattle.plan_types.specs.declared.segment_plan.SegmentPlan.{SegmentPlan}
 use Rattle.plan_types.specs.Segments.{Rise, begins_at}
-use Rattle.spec_picture_trees.specs.Picture.{SegmentAt, segment_at}
-use Rattle.spec_picture_trees.specs.Shapes.{end_of, picture_shape, segment_shape, segment_syntax}
+use Rattle.spec_known_units.specs.SpecPictureTrees.{SegmentAt, segment_at}
+use Rattle.spec_known_units.specs.SpecPictureTrees.{end_of, picture_shape, segment_shape, segment_syntax}
 use Rattle.spec_known_units.specs.Known.{is_in, picture_segments, segment_having, segments_from}
 
 -- a segment of a picture, by its number among these

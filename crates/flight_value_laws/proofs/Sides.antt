@@ -7,14 +7,14 @@ use Rattle.plan_types.specs.declared.picture_plan.PicturePlan.{PicturePlan}
 use Rattle.ctu_records.specs.declared.side.Side.{Side}
 use Rattle.ctu_records.specs.Tree.{Ctu}
 use Rattle.spec_slice_data.specs.Segment.{PictureShape, column_of, row_of, side_of}
-use Rattle.spec_picture_trees.specs.Places.{first_column, first_row, unit_at, unit_places}
-use Rattle.spec_picture_trees.specs.Shapes.{picture_shape}
+use Rattle.spec_known_units.specs.SpecPictureTrees.{first_column, first_row, unit_at, unit_places}
+use Rattle.spec_known_units.specs.SpecPictureTrees.{picture_shape}
 use Rattle.spec_known_units.specs.Known.{ctu_of, units_known}
-use Rattle.unit_trees.specs.declared.edges.Edge.{Edge}
-use Rattle.unit_trees.specs.Edges.{bottom_of, place_of, right_of}
-use Rattle.unit_trees.proofs.Sides.{at_side}
-use Rattle.spec_decoded_pictures.specs.Decoded.{DecodedUnits}
-use Rattle.spec_flights.specs.Words.{modes_at, values_in}
+use Rattle.known_picture_laws.specs.UnitTrees.{Edge}
+use Rattle.known_picture_laws.specs.UnitTrees.{bottom_of, place_of, right_of}
+use Rattle.known_picture_laws.proofs.UnitTreesLemmas.{at_side}
+use Rattle.sample_laws.specs.SpecDecodedPictures.{DecodedUnits}
+use Rattle.known_picture_laws.specs.SpecFlights.{modes_at, values_in}
 use Rattle.flight_value_laws.specs.Reading.{IsLeftEdge, IsTopEdge}
 
 turned : (a b : ℕ) → a * b ≡ b * a

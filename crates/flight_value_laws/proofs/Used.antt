@@ -9,12 +9,13 @@ use Rattle.hv_base.specs.declared.breach.Breach.{Breach}
 use Rattle.plan_types.specs.declared.picture_plan.PicturePlan.{PicturePlan}
 use Rattle.spec_slice_data.specs.Segment.{Between, begins_row, begins_substream, has_above, has_left, has_stored}
 use Rattle.spec_slice_data.specs.Segment.{is_first, unit_step}
-use Rattle.spec_picture_trees.specs.Picture.{SegmentAt}
-use Rattle.unit_trees.specs.Edges.{bottom_of, right_of}
+use Rattle.spec_known_units.specs.SpecPictureTrees.{SegmentAt}
+use Rattle.known_picture_laws.specs.UnitTrees.{bottom_of, right_of}
 use Rattle.known_picture_laws.specs.UnitTreeLaws.{Agree, begins_slice}
 use Rattle.known_picture_laws.proofs.UnitTreeLaws.{steps_same}
 use Rattle.spec_known_units.specs.Known.{Entries, KnownUnit, behind_step, between_from, contexts_behind, ctu_of}
-use Rattle.spec_known_units.specs.Known.{engine_behind, entries_before, goes_on, if_used, last_behind, picture_segments}
+use Rattle.spec_known_units.specs.Known.{engine_behind, entries_before, goes_on, if_used, last_behind}
+use Rattle.spec_known_units.specs.Known.{picture_segments}
 use Rattle.spec_known_units.specs.Known.{read_in, read_uses, segment_having, takes_stored, unit_read}
 use Rattle.flight_value_laws.proofs.Over.{behind_same, from_unit, long, not_below}
 

@@ -13,7 +13,7 @@ use Rattle.slice_types.specs.declared.slice.InterFields.{InterFields}
 use Rattle.slice_types.specs.declared.slice.SliceType.{SliceType}
 use Rattle.plan_types.specs.declared.picture_plan.PicturePlan.{PicturePlan}
 use Rattle.plan_types.specs.declared.segment_plan.SegmentPlan.{SegmentPlan}
-use Rattle.plan_laws.specs.Plans.{IsPlan}
+use Rattle.known_picture_laws.specs.PlanLaws.{IsPlan}
 use Rattle.ctu_records.specs.declared.item.Item.{Item}
 use Rattle.ctu_records.specs.declared.item.Item.TheVariants as item
 use Rattle.ctu_records.specs.declared.prediction.MotionSyntax.{MotionSyntax}
@@ -25,31 +25,33 @@ use Rattle.spec_motion.specs.declared.slice_motion.SliceMotion.{SliceMotion}
 use Rattle.spec_motion.specs.declared.vectors.Motion.{Motion}
 use Rattle.spec_slice_data.specs.declared.syntax.InterSyntax.{InterSyntax}
 use Rattle.spec_slice_data.specs.Segment.{PictureShape, no_group, nothing_read, side_of}
-use Rattle.spec_picture_trees.specs.Picture.{TreeUnit}
-use Rattle.spec_picture_trees.specs.Places.{first_column, first_row, unit_at, unit_places}
-use Rattle.spec_picture_trees.specs.Shapes.{inter_syntax, picture_shape, segment_syntax, slice_syntax}
-use Rattle.cabac_contexts.specs.Packing.{packed, unpacked}
+use Rattle.spec_known_units.specs.SpecPictureTrees.{TreeUnit}
+use Rattle.spec_known_units.specs.SpecPictureTrees.{first_column, first_row, unit_at, unit_places}
+use Rattle.spec_known_units.specs.SpecPictureTrees.{inter_syntax, picture_shape, segment_syntax, slice_syntax}
+use Rattle.known_picture_laws.specs.CabacContexts.{packed, unpacked}
 use Rattle.spec_known_units.specs.Known.{KnownUnit, contexts_behind, ctu_of, known_units, last_behind, units_known}
-use Rattle.spec_picture_motion.specs.Field.{motion_of}
-use Rattle.spec_picture_motion.specs.Slices.{max_candidates, motion_of_slice, slice_motion}
-use Rattle.spec_deblocking.specs.declared.place.Place.{Place}
-use Rattle.spec_reconstruction.specs.declared.format.UnitFormat.{UnitFormat}
-use Rattle.spec_reconstruction.specs.Sound.{ArePulses, IsSound, IsMotion as IsToldMotion, IsVector as IsToldVector}
-use Rattle.spec_picture_filters.specs.Filtered.{filter_format}
-use Rattle.spec_loop_filters.specs.Filters.{AreInRange}
-use Rattle.spec_picture_build.specs.Format.{unit_format}
-use Rattle.spec_picture_build.specs.References.{DecodedPicture, motions_of}
-use Rattle.spec_decoded_pictures.specs.Decoded.{DecodedUnits, decoded_by}
-use Rattle.spec_decoded_pictures.proofs.OneFold.{one_fold}
-use Rattle.spec_flights.specs.SpecDecoder.{BufferPicture, is_among, kept_as, kept_from, pictures_in}
-use Rattle.unit_laws.proofs.Pictures.{format-fits}
+use Rattle.known_picture_laws.specs.SpecPictureMotion.{motion_of}
+use Rattle.known_picture_laws.specs.SpecPictureMotion.{max_candidates, motion_of_slice, slice_motion}
+use Rattle.sample_laws.specs.SpecDeblocking.{Place}
+use Rattle.sample_laws.specs.SpecReconstruction.{UnitFormat}
+use Rattle.sample_laws.specs.SpecReconstruction.{ArePulses, IsSound, IsMotion as IsToldMotion}
+use Rattle.sample_laws.specs.SpecReconstruction.{IsVector as IsToldVector}
+use Rattle.sample_laws.specs.SpecPictureFilters.{filter_format}
+use Rattle.sample_laws.specs.SpecLoopFilters.{AreInRange}
+use Rattle.sample_laws.specs.SpecPictureBuild.{unit_format}
+use Rattle.sample_laws.specs.SpecPictureBuild.{DecodedPicture, motions_of}
+use Rattle.sample_laws.specs.SpecDecodedPictures.{DecodedUnits, decoded_by}
+use Rattle.sample_laws.proofs.SpecDecodedPicturesLemmas.{one_fold}
+use Rattle.known_picture_laws.specs.SpecFlights.{BufferPicture, is_among, kept_as, kept_from, pictures_in}
+use Rattle.sample_laws.proofs.UnitLawsLemmas.{format-fits}
 use Rattle.sample_laws.proofs.Pictures.{built_below}
 use Rattle.sample_words.specs.Offsets.{IsSao}
 use Rattle.sample_words.specs.Values.{IsModes, IsMotion}
-use Rattle.spec_flights.specs.Pictures.{PlannedFlight, buffer_before, buffer_behind, folded_at, folded_in}
-use Rattle.spec_flights.specs.Pictures.{known_decoded}
-use Rattle.spec_flights.specs.Pictures.{known_folded, pictures_before}
-use Rattle.spec_flights.specs.Words.{flight_sizes, modes_at, modes_of, no_vectors, segment_number, values_in}
+use Rattle.known_picture_laws.specs.SpecFlights.{PlannedFlight, buffer_before, buffer_behind, folded_at, folded_in}
+use Rattle.known_picture_laws.specs.SpecFlights.{known_decoded}
+use Rattle.known_picture_laws.specs.SpecFlights.{known_folded, pictures_before}
+use Rattle.known_picture_laws.specs.SpecFlights.{flight_sizes, modes_at, modes_of, no_vectors, segment_number}
+use Rattle.known_picture_laws.specs.SpecFlights.{values_in}
 use Rattle.flight_value_laws.specs.Motion.{AreMotionsHeld, IsHeld}
 use Rattle.flight_value_laws.specs.Ranges.{FitWords, HasMotionHeld, IsInRange}
 use Rattle.flight_value_laws.proofs.Derived.{IsToldFor, IsToldItem}
@@ -58,7 +60,8 @@ use Rattle.flight_value_laws.proofs.Fitting.{FitsWords, HasVector, depths_fit}
 use Rattle.flight_value_laws.proofs.Known.{IsKnownFit, contexts_fit, known_fit, last_fits}
 use Rattle.flight_value_laws.proofs.Offsets.{no_sao_fits}
 use Rattle.flight_value_laws.proofs.Phases.{in_depth, phase_small, word_has_room}
-use Rattle.flight_value_laws.proofs.Pictures.{AreReferencesHeld, AreUnitsFit, IsPlaceFit, IsTold, all_given, folded_fit}
+use Rattle.flight_value_laws.proofs.Pictures.{AreReferencesHeld, AreUnitsFit, IsPlaceFit, IsTold, all_given}
+use Rattle.flight_value_laws.proofs.Pictures.{folded_fit}
 use Rattle.flight_value_laws.proofs.Segments.{few_units, rise_few}
 
 -- ---- what is told of motion, for the slice that it is of

@@ -1,5 +1,6 @@
 -- What reading a coding tree unit of a flight uses lies within `ReadingUses`.
-use Rattle.std.proofs.Common.{◌≡◌, ℕ, zero, suc, ◌+◌, ◌-◌, ◌*◌, ◌%◌, ◌<◌, ◌≤◌, ◌==◌, ◌&&◌, ◌||◌, not, Bool, true, false}
+use Rattle.std.proofs.Common.{◌≡◌, ℕ, zero, suc, ◌+◌, ◌-◌, ◌*◌, ◌%◌, ◌<◌, ◌≤◌, ◌==◌, ◌&&◌, ◌||◌, not, Bool, true}
+use Rattle.std.proofs.Common.{false}
 use Rattle.std.proofs.Common.{List, [], ◌∷◌, ◌++◌, All, Option, Some, None, is_some, Result, Ok, Err, slice_get}
 use Rattle.std.proofs.Common.{nat_le, nat_lt, if◌then◌else◌, inl, inr, refl, sym, ap, subst, ◌∙◌, arith, lt-ltb}
 use Rattle.std.specs.List.{list_all}
@@ -13,8 +14,8 @@ use Rattle.header_types.specs.SequenceParameterSets.{height_in_ctbs, size_in_ctb
 use Rattle.plan_types.specs.declared.picture_plan.PicturePlan.{PicturePlan}
 use Rattle.plan_types.specs.declared.segment_plan.SegmentPlan.{SegmentPlan}
 use Rattle.spec_slice_data.specs.Segment.{Between, begins_row, has_above, has_left, has_stored, unit_step}
-use Rattle.spec_picture_trees.specs.Picture.{SegmentAt, segment_at}
-use Rattle.spec_picture_trees.specs.Shapes.{end_of, picture_shape}
+use Rattle.spec_known_units.specs.SpecPictureTrees.{SegmentAt, segment_at}
+use Rattle.spec_known_units.specs.SpecPictureTrees.{end_of, picture_shape}
 use Rattle.spec_known_units.specs.Known.{Entries, KnownUnit, behind_step, between_from, entries_before, goes_on}
 use Rattle.spec_known_units.specs.Known.{if_used}
 use Rattle.spec_known_units.specs.Known.{is_in, known_of, picture_segments, read_in, read_uses, segment_having}
@@ -22,11 +23,11 @@ use Rattle.spec_known_units.specs.Known.{segments_from, takes_stored, unit_read,
 use Rattle.known_picture_laws.proofs.KnownUnitLaws.{first_of_two, second_of_two}
 use Rattle.known_picture_laws.proofs.KnownUnitLaws.{known_step}
 use Rattle.flight_plan.specs.Flight.{FlightRows, picture_at}
-use Rattle.board_core.specs.Places.{line_of, width_of}
-use Rattle.board_core.specs.Uses.{Above, Carried, Former, ReadingUses}
-use Rattle.spec_flights.specs.Pictures.{PlannedFlight}
-use Rattle.spec_flights.specs.Rows.{broken_at, broken_by, flight_rows, is_sound, is_sound_of}
-use Rattle.unit_trees.specs.declared.edges.Edge.{Edge}
+use Rattle.known_picture_laws.specs.BoardCore.{line_of, width_of}
+use Rattle.known_picture_laws.specs.BoardCore.{Above, Carried, Former, ReadingUses}
+use Rattle.known_picture_laws.specs.SpecFlights.{PlannedFlight}
+use Rattle.known_picture_laws.specs.SpecFlights.{broken_at, broken_by, flight_rows, is_sound, is_sound_of}
+use Rattle.known_picture_laws.specs.UnitTrees.{Edge}
 use Rattle.flight_value_laws.specs.Reading.{AgreeWhereRead, AreUsesSound, IsKnownAs, IsLeftBefore, IsUsed, read_over}
 use Rattle.flight_value_laws.proofs.Over.{read_is}
 use Rattle.flight_value_laws.proofs.Rows.{in_picture, sync_is, width_is}

@@ -1,3 +1,9 @@
 pub mod Reading
 pub mod Motion
 pub mod Ranges
+pub mod LocalityLaws
+pub mod SpecFlights
+pub mod KnownPictureLaws
+pub mod SpecDecodedPictures
+pub mod PlanLaws
+pub mod SpecDecoder

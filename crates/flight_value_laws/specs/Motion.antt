@@ -5,9 +5,9 @@ use Rattle.plan_types.specs.declared.picture_plan.PicturePlan.{PicturePlan}
 use Rattle.plan_types.specs.declared.segment_plan.SegmentPlan.{SegmentPlan}
 use Rattle.spec_motion.specs.declared.vectors.Motion.{Motion}
 use Rattle.spec_motion.specs.declared.vectors.Vector.{Vector}
-use Rattle.picture_buffer.specs.declared.place_motion.PlaceMotion.{PlaceMotion}
-use Rattle.spec_picture_motion.specs.Field.{Motions, motion_of, pointing_motion}
-use Rattle.spec_picture_motion.specs.Slices.{slice_motion}
+use Rattle.known_picture_laws.specs.PictureBuffer.{PlaceMotion}
+use Rattle.known_picture_laws.specs.SpecPictureMotion.{Motions, motion_of, pointing_motion}
+use Rattle.known_picture_laws.specs.SpecPictureMotion.{slice_motion}
 use Rattle.sample_words.specs.declared.modes.PlaceModes.{PlaceModes}
 use Rattle.sample_words.specs.Values.{IsMotion}
 

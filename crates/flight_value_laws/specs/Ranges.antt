@@ -2,15 +2,15 @@
 use Rattle.std.specs.Prelude.{◌≡◌, ℕ, ◌<◌, ◌^◌, List, length, All, Some, slice_get}
 use Rattle.hv_base.specs.declared.line.Phase.{Phase}
 use Rattle.plan_types.specs.declared.picture_plan.PicturePlan.{PicturePlan}
-use Rattle.plan_laws.specs.Plans.{IsPlan}
-use Rattle.spec_flights.specs.SpecDecoder.{BufferPicture}
-use Rattle.cabac_contexts.specs.Packing.{unpacked}
+use Rattle.known_picture_laws.specs.PlanLaws.{IsPlan}
+use Rattle.known_picture_laws.specs.SpecFlights.{BufferPicture}
+use Rattle.known_picture_laws.specs.CabacContexts.{unpacked}
 use Rattle.sample_words.specs.declared.carry.Carry.{Carry}
 use Rattle.sample_words.specs.declared.sizes.FlightSizes.{FlightSizes}
 use Rattle.sample_words.specs.Contents.{PictureValues}
 use Rattle.sample_words.specs.Offsets.{IsSao}
 use Rattle.sample_words.specs.Values.{IsModes, IsMotion, sample_bits}
-use Rattle.spec_flights.specs.Pictures.{PlannedFlight}
+use Rattle.known_picture_laws.specs.SpecFlights.{PlannedFlight}
 use Rattle.flight_value_laws.specs.Motion.{AreMotionsHeld}
 
 -- the contexts of a slice are so many, and each is one of a state up to 62

@@ -10,17 +10,17 @@ use Rattle.spec_cabac.specs.Bins.{State}
 use Rattle.spec_slice_data.specs.declared.syntax.End.{End}
 use Rattle.spec_slice_data.specs.Segment.{PictureShape, Between, before_unit, begins_row, begins_substream, column_of}
 use Rattle.spec_slice_data.specs.Segment.{has_above, has_left, has_stored, row_of, side_of}
-use Rattle.spec_picture_trees.specs.Picture.{SegmentAt}
-use Rattle.unit_trees.specs.declared.edges.Edge.{Edge}
-use Rattle.unit_trees.specs.Edges.{place_of}
-use Rattle.unit_trees.specs.Units.{unit_over}
+use Rattle.spec_known_units.specs.SpecPictureTrees.{SegmentAt}
+use Rattle.known_picture_laws.specs.UnitTrees.{Edge}
+use Rattle.known_picture_laws.specs.UnitTrees.{place_of}
+use Rattle.known_picture_laws.specs.UnitTrees.{unit_over}
 use Rattle.known_picture_laws.specs.UnitTreeLaws.{begins_slice}
 use Rattle.spec_known_units.specs.Known.{Entries, KnownUnit, contexts_behind, ctu_of, engine_behind, last_behind}
 use Rattle.spec_known_units.specs.Known.{units_known}
-use Rattle.board_core.specs.Places.{line_of}
-use Rattle.board_core.specs.Uses.{ReadingUses}
-use Rattle.spec_flights.specs.Pictures.{PlannedFlight}
-use Rattle.spec_flights.specs.Rows.{broken_at, flight_rows, is_sound}
+use Rattle.known_picture_laws.specs.BoardCore.{line_of}
+use Rattle.known_picture_laws.specs.BoardCore.{ReadingUses}
+use Rattle.known_picture_laws.specs.SpecFlights.{PlannedFlight}
+use Rattle.known_picture_laws.specs.SpecFlights.{broken_at, flight_rows, is_sound}
 
 -- an edge has what the unit on the left of the one at an address leaves to it: its sample adaptive offset, and its
 -- rightmost places, as far as the picture has them

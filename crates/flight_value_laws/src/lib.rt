@@ -5,6 +5,7 @@
 
 mod laws;
 
+pub use known_picture_laws::pictures_are_decoded_as_known;
 pub use laws::{
     contexts_come_back, decoded_motion_fits, references_come_back, sides_come_back,
     units_are_read_from_what_they_use, units_over_their_edges_are_known, values_fit_their_words,

@@ -7,9 +7,9 @@ use Rattle.std.proofs.lemmas.Option.{same_Some, slice_get_read, slice_get_within
 use Rattle.plan_types.specs.declared.picture_plan.PicturePlan.{PicturePlan}
 use Rattle.header_types.specs.SequenceParameterSets.{IsSps}
 use Rattle.spec_loop_filters.specs.declared.format.FilterFormat.{FilterFormat}
-use Rattle.spec_picture_filters.specs.Filtered.{filter_format}
+use Rattle.flight_names.specs.SpecPictureFilters.{filter_format}
 use Rattle.loop_filters.specs.Formats.{IsFormat}
-use Rattle.picture_filters.proofs.Formats.{is_planned}
+use Rattle.row_waits.proofs.PictureFiltersLemmas.{is_planned}
 use Rattle.board_core.proofs.NeedList.{left_item, right_item}
 use Rattle.flight_views.specs.declared.picture_formats.PictureFormats.{PictureFormats}
 use Rattle.flight_views.specs.Views.{AreFormats, EachHas, IsFormatOf}

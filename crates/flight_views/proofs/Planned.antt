@@ -6,18 +6,18 @@ use Rattle.header_types.specs.SequenceParameterSets.{IsSps}
 use Rattle.plan_types.specs.declared.picture_plan.PicturePlan.{PicturePlan}
 use Rattle.plan_types.specs.declared.segment_plan.SegmentPlan.{SegmentPlan}
 use Rattle.picture_buffer.specs.Pictures.{HeldPicture}
-use Rattle.picture_build.specs.Pictures.{buffer_of, decoded_of}
-use Rattle.locality_laws.specs.Needed.{IsHalved}
+use Rattle.row_waits.specs.PictureBuild.{buffer_of, decoded_of}
+use Rattle.row_waits.specs.LocalityLaws.{IsHalved}
 use Rattle.sample_words.specs.declared.sizes.FlightSizes.{FlightSizes}
-use Rattle.spec_flights.specs.Pictures.{PlannedFlight}
-use Rattle.spec_flights.specs.Words.{flight_sizes}
-use Rattle.flight_unit_laws.specs.Planned.{HasHalves, IsPlanned}
-use Rattle.flight_value_laws.specs.Ranges.{IsInRange}
-use Rattle.flight_facts.specs.declared.flight_facts.FlightFacts.{FlightFacts}
-use Rattle.flight_facts.specs.Boards.{as_base, flight_of, sizes_in}
-use Rattle.flight_facts.specs.Facts.{flight_in}
-use Rattle.flight_facts.specs.Flights.{IsOfFlight}
-use Rattle.flight_facts.proofs.Sized.{sizes_are}
+use Rattle.flight_names.specs.SpecFlights.{PlannedFlight}
+use Rattle.flight_names.specs.SpecFlights.{flight_sizes}
+use Rattle.row_waits.specs.FlightUnitLaws.{HasHalves, IsPlanned}
+use Rattle.row_waits.specs.FlightValueLaws.{IsInRange}
+use Rattle.row_waits.specs.FlightFacts.{FlightFacts}
+use Rattle.row_waits.specs.FlightFacts.{as_base, flight_of, sizes_in}
+use Rattle.row_waits.specs.FlightFacts.{flight_in}
+use Rattle.row_waits.specs.FlightFacts.{IsOfFlight}
+use Rattle.row_waits.proofs.FlightFactsLemmas.{sizes_are}
 use Rattle.flight_views.specs.Layouts.{AreHalved, HasSetsOf, IsLaidFor, StandsFor}
 
 -- bases have halves as pictures of the buffer exactly where they are halved

@@ -4,7 +4,7 @@ use Rattle.header_types.specs.declared.sps.SpsFields.{SpsFields}
 use Rattle.header_types.specs.SequenceParameterSets.{IsSps, ctb_log2}
 use Rattle.sample_words.specs.declared.sizes.FlightSizes.{FlightSizes}
 use Rattle.sample_words.specs.Sizes.{IsFlight}
-use Rattle.flight_facts.proofs.Sized.{are_sizes}
+use Rattle.row_waits.proofs.FlightFactsLemmas.{are_sizes}
 
 pub sides_are : (s : FlightSizes) (sps : SpsFields) (n : ℕ) → IsSps sps → 1 ≤ n → n ≤ 65536
     → s.width ≡ sps.format.pic_width_in_luma_samples → s.height ≡ sps.format.pic_height_in_luma_samples

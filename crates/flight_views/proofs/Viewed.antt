@@ -5,18 +5,18 @@ use Rattle.std.proofs.lemmas.List.{length-map}
 use Rattle.std.proofs.lemmas.Option.{slice_get_cases, slice_get_read}
 use Rattle.plan_types.specs.declared.picture_plan.PicturePlan.{PicturePlan}
 use Rattle.picture_buffer.specs.Pictures.{HeldPicture}
-use Rattle.picture_build.specs.Pictures.{buffer_of, decoded_of}
+use Rattle.row_waits.specs.PictureBuild.{buffer_of, decoded_of}
 use Rattle.loop_filters.specs.Formats.{IsFormat}
-use Rattle.spec_decoder.specs.Decoder.{pictures_in}
+use Rattle.flight_names.specs.SpecDecoder.{pictures_in}
 use Rattle.flight_plan.specs.declared.row_range.Reference.{Reference}
-use Rattle.spec_flights.specs.Pictures.{PlannedFlight}
-use Rattle.spec_flights.specs.References.{names_before}
-use Rattle.flight_facts.specs.declared.flight_facts.FlightFacts.{FlightFacts}
-use Rattle.flight_facts.specs.Boards.{as_base}
-use Rattle.flight_facts.specs.Facts.{flight_in}
-use Rattle.flight_facts.specs.Flights.{IsOfFlight}
-use Rattle.flight_facts.proofs.Buffers.{bases_again}
-use Rattle.flight_waits.specs.Frames.{frame_rows}
+use Rattle.flight_names.specs.SpecFlights.{PlannedFlight}
+use Rattle.flight_names.specs.SpecFlights.{names_before}
+use Rattle.row_waits.specs.FlightFacts.{FlightFacts}
+use Rattle.row_waits.specs.FlightFacts.{as_base}
+use Rattle.row_waits.specs.FlightFacts.{flight_in}
+use Rattle.row_waits.specs.FlightFacts.{IsOfFlight}
+use Rattle.row_waits.proofs.FlightFactsLemmas.{bases_again}
+use Rattle.row_waits.specs.FlightWaits.{frame_rows}
 use Rattle.flight_names.specs.Names.{all_names}
 use Rattle.flight_names.proofs.Named.{named}
 use Rattle.row_waits.specs.declared.picture_view.PictureView.{PictureView}

@@ -2,13 +2,13 @@
 use Rattle.std.specs.Prelude.{◌≡◌, ◌≤◌, List, All, length}
 use Rattle.plan_types.specs.declared.picture_plan.PicturePlan.{PicturePlan}
 use Rattle.picture_buffer.specs.Pictures.{HeldPicture}
-use Rattle.picture_build.specs.Pictures.{buffer_of}
-use Rattle.locality_laws.specs.Needed.{IsHalved}
+use Rattle.row_waits.specs.PictureBuild.{buffer_of}
+use Rattle.row_waits.specs.LocalityLaws.{IsHalved}
 use Rattle.sample_words.specs.declared.sizes.FlightSizes.{FlightSizes}
-use Rattle.flight_unit_laws.specs.Planned.{IsPlanned}
-use Rattle.flight_facts.specs.declared.flight_facts.FlightFacts.{FlightFacts}
-use Rattle.flight_facts.specs.Boards.{flight_of, sizes_in}
-use Rattle.flight_facts.specs.Facts.{flight_in}
+use Rattle.row_waits.specs.FlightUnitLaws.{IsPlanned}
+use Rattle.row_waits.specs.FlightFacts.{FlightFacts}
+use Rattle.row_waits.specs.FlightFacts.{flight_of, sizes_in}
+use Rattle.row_waits.specs.FlightFacts.{flight_in}
 
 -- a value for contracts stands for the flight of these plans behind these bases
 abbrev pub StandsFor : FlightFacts → List PicturePlan → List HeldPicture → Type 0

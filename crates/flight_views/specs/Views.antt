@@ -1,15 +1,15 @@
 -- What the workers of a flight share is of the flight of a board.
 use Rattle.std.specs.Prelude.{ℕ, ◌≡◌, List, length, Some, slice_get}
 use Rattle.plan_types.specs.declared.picture_plan.PicturePlan.{PicturePlan}
-use Rattle.picture_build.specs.Formats.{IsCommon}
-use Rattle.picture_build.specs.Pictures.{buffer_of}
+use Rattle.row_waits.specs.PictureBuild.{IsCommon}
+use Rattle.row_waits.specs.PictureBuild.{buffer_of}
 use Rattle.spec_reconstruction.specs.Sound.{IsFormat}
-use Rattle.spec_picture_filters.specs.Filtered.{filter_format}
+use Rattle.flight_names.specs.SpecPictureFilters.{filter_format}
 use Rattle.loop_filters.specs.Formats.{IsFormat as IsFilterFormat}
-use Rattle.flight_facts.specs.declared.flight_facts.FlightFacts.{FlightFacts}
-use Rattle.flight_facts.specs.Facts.{flight_in}
-use Rattle.flight_facts.specs.Flights.{IsOfFlight}
-use Rattle.flight_waits.specs.Frames.{frame_rows}
+use Rattle.row_waits.specs.FlightFacts.{FlightFacts}
+use Rattle.row_waits.specs.FlightFacts.{flight_in}
+use Rattle.row_waits.specs.FlightFacts.{IsOfFlight}
+use Rattle.row_waits.specs.FlightWaits.{frame_rows}
 use Rattle.flight_names.specs.Names.{all_names}
 use Rattle.flight_views.specs.declared.flight_views.FlightViews.{FlightViews}
 use Rattle.flight_views.specs.declared.picture_formats.PictureFormats.{PictureFormats}

@@ -3,15 +3,15 @@
 ghost use Rattle.std.specs.Prelude.{◌≡◌, ◌≤◌, ℕ, Decides, IfSome, None, Some, length, slice_get};
 ghost use Rattle.header_types.specs.SequenceParameterSets.{IsSps};
 ghost use Rattle.plan_types.specs.declared.picture_plan.PicturePlan.{PicturePlan};
-ghost use Rattle.locality_laws.specs.Needed.{IsHalved};
-ghost use Rattle.picture_build.specs.Pictures.{buffer_of};
-ghost use Rattle.spec_flights.specs.Words.{flight_sizes};
-ghost use Rattle.flight_unit_laws.specs.Planned.{IsPlanned};
-ghost use Rattle.flight_value_laws.specs.Ranges.{IsInRange};
-ghost use Rattle.flight_facts.specs.declared.flight_facts.FlightFacts.{FlightFacts};
-ghost use Rattle.flight_facts.specs.Boards.{flight_of};
-ghost use Rattle.flight_facts.specs.Facts.{flight_in};
-ghost use Rattle.flight_facts.specs.Flights.{IsOfFlight};
+ghost use Rattle.row_waits.specs.LocalityLaws.{IsHalved};
+ghost use Rattle.row_waits.specs.PictureBuild.{buffer_of};
+ghost use Rattle.flight_names.specs.SpecFlights.{flight_sizes};
+ghost use Rattle.row_waits.specs.FlightUnitLaws.{IsPlanned};
+ghost use Rattle.row_waits.specs.FlightValueLaws.{IsInRange};
+ghost use Rattle.row_waits.specs.FlightFacts.{FlightFacts};
+ghost use Rattle.row_waits.specs.FlightFacts.{flight_of};
+ghost use Rattle.row_waits.specs.FlightFacts.{flight_in};
+ghost use Rattle.row_waits.specs.FlightFacts.{IsOfFlight};
 ghost use Rattle.flight_views.specs.Layouts.{AreHalved, HasSetsOf, IsLaidFor, StandsFor};
 
 use header_types::PictureFormat;

@@ -3,9 +3,8 @@
 ghost use Rattle.std.specs.Prelude.{IfOk};
 ghost use Rattle.flight_views.specs.Views.{AreFormats, IsFormatOf};
 
-use picture_build::common_format;
-use picture_filters::filter_format;
 use plan_types::PicturePlan;
+use row_waits::{common_format, filter_format};
 use spec_loop_filters::FilterFormat;
 use spec_reconstruction::UnitFormat;
 use std::alloc::{AllocError, Global};

@@ -18,7 +18,7 @@ use Rattle.line_words.specs.Places.{IsUnit, UnitAt, number_at}
 use Rattle.line_words.proofs.Apart.{read_names_others, unit_names_others}
 use Rattle.progress_words.specs.Core.{AreMet}
 use Rattle.progress_words.specs.Meanings.{Meaning}
-use Rattle.spec_flights.specs.Rows.{flight_rows}
+use Rattle.flight_facts.specs.SpecFlights.{flight_rows}
 use Rattle.flight_facts.specs.declared.flight_facts.FlightFacts.{FlightFacts}
 use Rattle.flight_facts.specs.Facts.{flight_in}
 use Rattle.flight_facts.specs.Flights.{IsOfFlight}

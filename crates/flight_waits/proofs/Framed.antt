@@ -13,8 +13,8 @@ use Rattle.flight_plan.specs.declared.row_range.RowRange.{RowRange}
 use Rattle.board_core.specs.Places.{IsLine}
 use Rattle.sample_words.specs.declared.sizes.FlightSizes.{FlightSizes}
 use Rattle.flight_lines.specs.Flights.{IsSized}
-use Rattle.spec_flights.specs.Pictures.{PlannedFlight}
-use Rattle.spec_flights.specs.Rows.{flight_rows, rows_in, rows_of}
+use Rattle.flight_facts.specs.SpecFlights.{PlannedFlight}
+use Rattle.flight_facts.specs.SpecFlights.{flight_rows, rows_in, rows_of}
 use Rattle.flight_facts.proofs.FlightUnitLaws.{as_many, rows_at}
 use Rattle.flight_waits.specs.Frames.{frame_rows, framed}
 

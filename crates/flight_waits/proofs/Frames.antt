@@ -12,8 +12,8 @@ use Rattle.flight_plan.specs.declared.row_range.RowRange.{RowRange}
 use Rattle.board_core.specs.Needs.{above_needs, filter_needs, phase_needs, range_needs, read_needs, reference_needs}
 use Rattle.board_core.specs.Needs.{rows_needs}
 use Rattle.board_core.specs.Places.{full_count, line_of, phase_units}
-use Rattle.spec_flights.specs.Pictures.{PlannedFlight}
-use Rattle.spec_flights.specs.Rows.{flight_rows}
+use Rattle.flight_facts.specs.SpecFlights.{PlannedFlight}
+use Rattle.flight_facts.specs.SpecFlights.{flight_rows}
 use Rattle.flight_waits.specs.Frames.{frame_rows}
 use Rattle.flight_waits.proofs.Framed.{AreAlike, alike}
 

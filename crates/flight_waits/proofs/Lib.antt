@@ -5,3 +5,8 @@ pub mod Apart
 pub mod Waited
 pub mod Asked
 pub mod FactsOfFlights
+pub mod FlightFactsLemmas
+pub mod FlightValueLawsLemmas
+pub mod SampleLawsLemmas
+pub mod UnitLawsLemmas
+pub mod SpecDecodedPicturesLemmas

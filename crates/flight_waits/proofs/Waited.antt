@@ -15,7 +15,7 @@ use Rattle.flight_lines.proofs.Numbered.{flight_line, number_line}
 use Rattle.flight_lines.proofs.Placed.{unit_is_number}
 use Rattle.line_words.specs.Passes.{HasGone, NameOthers}
 use Rattle.line_words.specs.Places.{IsUnit, UnitAt, number_at}
-use Rattle.spec_flights.specs.Rows.{flight_rows}
+use Rattle.flight_facts.specs.SpecFlights.{flight_rows}
 use Rattle.flight_facts.specs.declared.flight_facts.FlightFacts.{FlightFacts}
 use Rattle.flight_facts.specs.Boards.{board_flight, flight_meaning}
 use Rattle.flight_facts.specs.Facts.{flight_in}

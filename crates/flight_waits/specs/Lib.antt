@@ -1,3 +1,11 @@
 pub mod Frames
 pub mod Waits
 pub mod FactsOfFlights
+pub mod FlightFacts
+pub mod FlightUnitLaws
+pub mod PictureBuild
+pub mod SpecFlights
+pub mod FlightValueLaws
+pub mod SpecDecodedPictures
+pub mod PlanLaws
+pub mod SpecPictureBuild

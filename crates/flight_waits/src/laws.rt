@@ -13,8 +13,8 @@ ghost use Rattle.sample_words.specs.declared.sizes.FlightSizes.{FlightSizes};
 ghost use Rattle.flight_lines.specs.Numbers.{numbered_needs};
 ghost use Rattle.progress_words.specs.Core.{AreMet};
 ghost use Rattle.progress_words.specs.Meanings.{Meaning};
-ghost use Rattle.spec_flights.specs.Pictures.{PlannedFlight};
-ghost use Rattle.spec_flights.specs.Rows.{flight_rows};
+ghost use Rattle.flight_facts.specs.SpecFlights.{PlannedFlight};
+ghost use Rattle.flight_facts.specs.SpecFlights.{flight_rows};
 ghost use Rattle.flight_waits.specs.Frames.{frame_rows};
 
 /// The rows of a flight as its plans tell them need what the flight needs, but for what coding tree units refer to:

@@ -6,7 +6,7 @@ mod frame;
 mod laws;
 mod waits;
 
-pub use flight_facts::FlightFacts;
+pub use flight_facts::{FlightFacts, References, common_format};
 pub use frame::flight_frame;
 pub use laws::{frames_need_what_their_flights_need, needs_of_coding_tree_units_are_seen};
 pub use waits::{

@@ -12,7 +12,7 @@ ghost use Rattle.progress_words.specs.Views.{HasEnded};
 ghost use Rattle.flight_lines.specs.Numbers.{AreOfFlight, numbered_needs};
 ghost use Rattle.line_words.specs.Passes.{NameOthers};
 ghost use Rattle.line_words.specs.Places.{number_at};
-ghost use Rattle.spec_flights.specs.Rows.{flight_rows};
+ghost use Rattle.flight_facts.specs.SpecFlights.{flight_rows};
 ghost use Rattle.flight_facts.specs.Boards.{flight_meaning};
 ghost use Rattle.flight_facts.specs.Facts.{flight_in};
 ghost use Rattle.flight_facts.specs.Flights.{IsOfFlight};

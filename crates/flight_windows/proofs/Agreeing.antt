@@ -9,15 +9,15 @@ use Rattle.header_types.specs.declared.sps.BlockSizes.{BlockSizes}
 use Rattle.header_types.specs.SequenceParameterSets.{ctb_log2}
 use Rattle.plan_types.specs.declared.picture_plan.PicturePlan.{PicturePlan}
 use Rattle.spec_picture_build.specs.References.{DecodedPicture, motions_in, motions_of}
-use Rattle.spec_decoder.specs.Decoder.{BufferPicture, kept_as}
-use Rattle.locality_laws.specs.Needed.{luma_line}
+use Rattle.sample_lines.specs.SpecDecoder.{BufferPicture, kept_as}
+use Rattle.sample_lines.specs.LocalityLaws.{luma_line}
 use Rattle.flight_plan.specs.declared.row_range.Reference.{Reference}
 use Rattle.flight_plan.specs.declared.row_range.Reference.TheVariants.{Base, Flight}
 use Rattle.board_core.specs.Places.{line_of}
 use Rattle.board_core.specs.Uses.{UnitUses}
-use Rattle.spec_flights.specs.Pictures.{PlannedFlight, buffer_before, known_decoded, pictures_before}
-use Rattle.spec_flights.specs.References.{names_before, picture_named}
-use Rattle.spec_flights.specs.Rows.{flight_rows}
+use Rattle.sample_lines.specs.SpecFlights.{PlannedFlight, buffer_before, known_decoded, pictures_before}
+use Rattle.sample_lines.specs.SpecFlights.{names_before, picture_named}
+use Rattle.sample_lines.specs.SpecFlights.{flight_rows}
 use Rattle.sample_lines.specs.FactsOfFlights.{IsPlanned}
 use Rattle.sample_lines.specs.FactsOfFlights.{BuffersAgree, NamedAgree, PicturesAgree}
 use Rattle.sample_lines.proofs.FactsOfFlights.{all_named}

@@ -9,8 +9,8 @@ use Rattle.spec_picture_build.specs.References.{DecodedPicture, greatest_sample,
 use Rattle.spec_reconstruction.specs.declared.format.UnitFormat.{UnitFormat}
 use Rattle.spec_reconstruction.specs.Inter.{Pictures}
 use Rattle.spec_reconstruction.specs.Parameters.{depth_of}
-use Rattle.spec_decoder.specs.Decoder.{BufferPicture}
-use Rattle.inter_samples.specs.Inter.{AreSmall}
+use Rattle.sample_lines.specs.SpecDecoder.{BufferPicture}
+use Rattle.sample_lines.specs.InterSamples.{AreSmall}
 use Rattle.sample_lines.specs.FactsOfFlights.{HasDepths}
 use Rattle.flight_plan.specs.declared.row_range.Reference.{Reference}
 use Rattle.flight_plan.specs.declared.row_range.Reference.TheVariants.{Base}

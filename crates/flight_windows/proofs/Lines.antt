@@ -3,7 +3,7 @@ use Rattle.std.proofs.Common.{◌≡◌, ℕ, zero, suc, ◌+◌, ◌-◌, ◌*�
 use Rattle.std.proofs.Common.{if◌then◌else◌, sym, subst, arith}
 use Rattle.std.proofs.Math.Nat.{div-mul-le_self, lt-div-mul-add}
 use Rattle.std.proofs.lemmas.Nat.{pow_pos}
-use Rattle.locality_laws.specs.Needed.{luma_line}
+use Rattle.sample_lines.specs.LocalityLaws.{luma_line}
 use Rattle.sample_words.specs.Contents.{component_side}
 
 -- what is known of a line and of the first one of its row

@@ -7,22 +7,22 @@ use Rattle.header_types.specs.declared.sps.PictureFormat.{PictureFormat}
 use Rattle.header_types.specs.SequenceParameterSets.{ctb_log2}
 use Rattle.plan_types.specs.declared.picture_plan.PicturePlan.{PicturePlan}
 use Rattle.spec_inter_prediction.specs.Taps.{clamped}
-use Rattle.spec_picture_trees.specs.Shapes.{picture_shape}
+use Rattle.spec_picture_build.specs.SpecPictureTrees.{picture_shape}
 use Rattle.spec_picture_build.specs.Border.{has_sample}
 use Rattle.spec_picture_build.specs.References.{DecodedPicture, format_height, format_width, greatest_sample}
 use Rattle.spec_picture_build.specs.References.{reference_sample}
-use Rattle.spec_decoded_pictures.specs.Decoded.{decoded_by, samples_filtered}
+use Rattle.sample_lines.specs.SpecDecodedPictures.{decoded_by, samples_filtered}
 use Rattle.inter_pred.proofs.Inside.{clamped_below}
-use Rattle.locality_laws.specs.Needed.{luma_line}
+use Rattle.sample_lines.specs.LocalityLaws.{luma_line}
 use Rattle.flight_plan.specs.declared.row_range.Reference.TheVariants.{Flight}
 use Rattle.board_core.specs.Places.{line_of}
 use Rattle.sample_words.specs.declared.sizes.FlightSizes.{FlightSizes}
 use Rattle.sample_words.specs.Contents.{component_side}
 use Rattle.sample_words.specs.Sizes.{IsFlight as AreSizes, ctb_size}
 use Rattle.sample_words.specs.Words.{IsLine}
-use Rattle.spec_flights.specs.Pictures.{PlannedFlight, folded_at, folded_in, known_decoded}
-use Rattle.spec_flights.specs.Pictures.{pictures_before}
-use Rattle.spec_flights.specs.Words.{flight_sizes}
+use Rattle.sample_lines.specs.SpecFlights.{PlannedFlight, folded_at, folded_in, known_decoded}
+use Rattle.sample_lines.specs.SpecFlights.{pictures_before}
+use Rattle.sample_lines.specs.SpecFlights.{flight_sizes}
 use Rattle.sample_lines.proofs.FactsOfFlights.{last_phase}
 use Rattle.line_words.specs.Places.{HasSizes, UnitAt}
 use Rattle.sample_lines.specs.FactsOfFlights.{FlightFacts}

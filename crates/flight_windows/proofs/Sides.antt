@@ -5,7 +5,7 @@ use Rattle.std.proofs.lemmas.Bool.{and_from, lt-ltb}
 use Rattle.header_types.specs.declared.sps.SpsFields.{SpsFields}
 use Rattle.header_types.specs.declared.pps.PpsFields.{PpsFields}
 use Rattle.spec_slice_data.specs.Residual.{samples_of_place}
-use Rattle.spec_picture_trees.specs.Shapes.{picture_shape}
+use Rattle.spec_picture_build.specs.SpecPictureTrees.{picture_shape}
 use Rattle.spec_picture_build.specs.Border.{has_sample}
 use Rattle.sample_words.specs.Contents.{component_side}
 

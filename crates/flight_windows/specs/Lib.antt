@@ -3,3 +3,4 @@ pub mod Pictures
 pub mod Windows
 pub mod Lines
 pub mod Reading
+pub mod SpecPictureMotion

@@ -2,7 +2,7 @@
 use Rattle.std.specs.Prelude.{ℕ, ◌≡◌, ◌+◌, ◌*◌, ◌/◌, ◌^◌, ◌<◌, ◌≤◌, pos, ◌+ℤ◌, ◌≤ℤ◌, true, false, MatchOption}
 use Rattle.hv_base.specs.declared.line.Phase.TheVariants.{S}
 use Rattle.spec_inter_prediction.specs.Taps.{clamped}
-use Rattle.locality_laws.specs.Needed.{luma_line}
+use Rattle.sample_lines.specs.LocalityLaws.{luma_line}
 use Rattle.board_core.specs.Places.{line_of}
 use Rattle.sample_words.specs.declared.sizes.FlightSizes.{FlightSizes}
 use Rattle.sample_words.specs.Contents.{component_side}

@@ -4,15 +4,15 @@ use Rattle.std.specs.Prelude.{ℕ, ◌/◌, ◌^◌, List, map, Option, Some, No
 use Rattle.header_types.specs.declared.sps.PictureFormat.{PictureFormat}
 use Rattle.header_types.specs.SequenceParameterSets.{ctb_log2}
 use Rattle.plan_types.specs.declared.picture_plan.PicturePlan.{PicturePlan}
-use Rattle.spec_picture_motion.specs.Field.{no_motions}
+use Rattle.spec_picture_build.specs.SpecPictureMotion.{no_motions}
 use Rattle.spec_picture_build.specs.Border.{Samples, no_samples}
 use Rattle.spec_picture_build.specs.References.{DecodedPicture}
-use Rattle.spec_decoder.specs.Decoder.{BufferPicture}
-use Rattle.locality_laws.specs.Needed.{luma_line}
+use Rattle.sample_lines.specs.SpecDecoder.{BufferPicture}
+use Rattle.sample_lines.specs.LocalityLaws.{luma_line}
 use Rattle.flight_plan.specs.declared.row_range.Reference.{Reference}
 use Rattle.flight_plan.specs.declared.row_range.Reference.TheVariants.{Base, Flight}
-use Rattle.spec_flights.specs.Pictures.{PlannedFlight, known_decoded, pictures_before}
-use Rattle.spec_flights.specs.References.{names_before}
+use Rattle.sample_lines.specs.SpecFlights.{PlannedFlight, known_decoded, pictures_before}
+use Rattle.sample_lines.specs.SpecFlights.{names_before}
 use Rattle.flight_windows.specs.Seen.{SeenFlags, is_seen}
 
 -- a picture without samples and without motion, where there is none

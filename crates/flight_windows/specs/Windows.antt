@@ -9,7 +9,7 @@ use Rattle.progress_words.specs.declared.view.View.{View}
 use Rattle.progress_words.specs.Passes.{view}
 use Rattle.spec_picture_build.specs.References.{pictures_of, reference_sample}
 use Rattle.spec_reconstruction.specs.Inter.{Pictures}
-use Rattle.spec_decoder.specs.Decoder.{pictures_in}
+use Rattle.sample_lines.specs.SpecDecoder.{pictures_in}
 use Rattle.sample_lines.specs.FactsOfFlights.{FlightFacts}
 use Rattle.sample_lines.specs.FactsOfFlights.{flight_in}
 use Rattle.flight_windows.specs.Pictures.{pictures_named, seen_picture}

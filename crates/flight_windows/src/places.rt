@@ -1,7 +1,7 @@
 //! Sides and lines of components.
 
 ghost use Rattle.std.specs.Prelude.{◌≡◌, ◌≤◌};
-ghost use Rattle.locality_laws.specs.Needed.{luma_line};
+ghost use Rattle.sample_lines.specs.LocalityLaws.{luma_line};
 ghost use Rattle.sample_words.specs.Contents.{component_side};
 
 /// A component's side, by that of luma.

@@ -1,7 +1,7 @@
 //! The row of coding tree blocks that has a line.
 
 ghost use Rattle.std.specs.Prelude.{◌≡◌, ◌+◌, ◌-◌, ◌*◌, ◌/◌, ◌%◌, ◌^◌, ◌<◌, ◌≤◌, min};
-ghost use Rattle.locality_laws.specs.Needed.{luma_line};
+ghost use Rattle.sample_lines.specs.LocalityLaws.{luma_line};
 ghost use Rattle.sample_words.specs.Contents.{component_side};
 ghost use Rattle.flight_windows.specs.Lines.{IsRowPlace};
 

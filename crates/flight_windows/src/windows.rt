@@ -1,10 +1,10 @@
 //! The reference pictures of a picture of a flight.
 
 ghost use Rattle.std.specs.Prelude.{◌≡◌, ℕ};
-ghost use Rattle.inter_samples.specs.Inter.{AreSmall};
+ghost use Rattle.sample_lines.specs.InterSamples.{AreSmall};
 ghost use Rattle.sample_lines.specs.FactsOfFlights.{HasDepths};
 ghost use Rattle.progress_words.specs.Passes.{IsPassOf, view};
-ghost use Rattle.spec_flights.specs.References.{names_before};
+ghost use Rattle.sample_lines.specs.SpecFlights.{names_before};
 ghost use Rattle.spec_picture_build.specs.References.{pictures_of};
 ghost use Rattle.spec_reconstruction.specs.declared.format.UnitFormat.{UnitFormat};
 ghost use Rattle.sample_lines.specs.FactsOfFlights.{flight_in};

@@ -3,7 +3,7 @@
 ghost use Rattle.std.specs.Prelude.{◌≡◌};
 ghost use Rattle.spec_stated_hashes.specs.Digests.{digest_of};
 
-use hv_base::Digest;
+use spec_stated_hashes::Digest;
 
 /// The digest of these bytes.
 #[tactic(auto, unfolding(spec_stated_hashes::specs::Digests::digest_of))]

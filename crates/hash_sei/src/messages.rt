@@ -4,7 +4,7 @@ ghost use Rattle.std.specs.Prelude.{◌≡◌, ◌+◌, ◌*◌, ◌^◌, ◌<�
 ghost use Rattle.spec_stated_hashes.specs.StatedHashes.{coded_after, message_at, stated_hashes};
 ghost use Rattle.hash_sei.specs.Messages.{hashes_in, seen};
 
-use hv_base::Nal;
+use spec_stated_hashes::Nal;
 
 /// payloadType of a decoded picture hash (D.2.1).
 const DECODED_PICTURE_HASH: usize = 132;

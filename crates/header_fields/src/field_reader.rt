@@ -1,7 +1,7 @@
 //! A reader of the fields of a structure.
 
 ghost use Rattle.std.specs.Prelude.{◌≡◌, ◌^◌, ◌-◌, ◌<◌, ◌≤◌, ◌≤ℤ◌, neg_ℤ, pos, IfOk, true};
-ghost use Rattle.spec_bits.specs.Bits.{bits};
+ghost use Rattle.hv_bits.specs.SpecBits.{bits};
 ghost use Rattle.spec_formats.specs.Fields.{flag, ranged, se, se_within, u, ue, ue_to};
 ghost use Rattle.header_fields.specs.Takes.{Takes};
 

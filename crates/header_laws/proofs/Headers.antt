@@ -15,19 +15,20 @@ use Rattle.slice_types.specs.declared.slice.SliceFields.{SliceFields}
 use Rattle.slice_types.specs.declared.slice.SliceHeaderFields.{SliceHeaderFields}
 use Rattle.header_types.specs.SequenceParameterSets.{max_lsb}
 use Rattle.slice_types.specs.SliceHeaders.{IsSliceFields, IsSliceHeader}
-use Rattle.plan_types.specs.declared.segment_plan.SegmentPlan.{SegmentPlan}
+use Rattle.spec_slice_headers.specs.PlanTypes.{SegmentPlan}
 use Rattle.spec_bits.specs.Bits.{bits}
 use Rattle.spec_formats.specs.Format.{when◌then◌else◌}
 use Rattle.spec_formats.specs.Fields.{read, give}
 use Rattle.spec_formats.proofs.Values.{CanBe, can_be}
-use Rattle.spec_reference_pictures.specs.PictureOrderCount.{is_idr}
+use Rattle.spec_slice_headers.specs.SpecReferencePictures.{is_idr}
 use Rattle.spec_slice_headers.specs.Context.{Context, first_of}
 use Rattle.spec_slice_headers.specs.Context.{slice_header}
 use Rattle.spec_slice_headers.specs.NamedSets.{Named, named_by}
 use Rattle.spec_slice_headers.specs.References.{coded_references}
 use Rattle.spec_slice_headers.specs.References.{no_references}
 use Rattle.spec_slice_headers.specs.References.{reference_fields}
-use Rattle.spec_slice_headers.specs.SegmentHeader.{aligned, alignment, taken_fields, entry_point, entry_points, placed}
+use Rattle.spec_slice_headers.specs.SegmentHeader.{aligned, alignment, taken_fields, entry_point, entry_points}
+use Rattle.spec_slice_headers.specs.SegmentHeader.{placed}
 use Rattle.spec_slice_headers.specs.SegmentHeader.{slice_header_of, slice_segment_header}
 use Rattle.spec_slice_headers.specs.SegmentStart.{front, later_place, place}
 use Rattle.spec_slice_headers.specs.SliceFields.{later_fields}

@@ -18,7 +18,8 @@ use Rattle.spec_formats.specs.Fields.{Header, optional}
 use Rattle.spec_formats.proofs.Values.{CanBe}
 use Rattle.spec_slice_headers.specs.Context.{flag_or}
 use Rattle.spec_slice_headers.specs.Context.{ue_or}
-use Rattle.spec_slice_headers.specs.InterFields.{collocated, collocated_minus1, entries_1, index_to, inter_fields, is_b}
+use Rattle.spec_slice_headers.specs.InterFields.{collocated, collocated_minus1, entries_1, index_to, inter_fields}
+use Rattle.spec_slice_headers.specs.InterFields.{is_b}
 use Rattle.spec_slice_headers.specs.InterFields.{list_entry, modification}
 use Rattle.spec_slice_headers.specs.SliceFields.{inter_of}
 use Rattle.spec_slice_headers.specs.Weights.{pred_weight_table}

@@ -14,7 +14,7 @@ use Rattle.header_types.specs.declared.sps.SpsFields.{SpsFields}
 use Rattle.header_types.specs.PictureParameterSet.{IsPps}
 use Rattle.header_types.specs.SequenceParameterSets.{IsSps}
 use Rattle.spec_formats.proofs.Values.{CanBe}
-use Rattle.spec_parameter_sets.specs.Fits.{fits}
+use Rattle.spec_slice_headers.specs.SpecParameterSets.{fits}
 use Rattle.spec_slice_headers.specs.Context.{Context, ◌>>=◌, agrees, fault, first_of, judged, kept}
 use Rattle.spec_slice_headers.specs.Context.{no_rasl_output_flag}
 use Rattle.spec_slice_headers.specs.NamedSets.{Named, is_active, named_by, named_sets, with_pps, with_sps}

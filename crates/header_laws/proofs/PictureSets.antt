@@ -12,11 +12,11 @@ use Rattle.header_types.specs.PictureParameterSet.{IsPpsQuantization, IsPpsSlice
 use Rattle.header_types.specs.Scaling.{IsScalingLists}
 use Rattle.spec_bits.specs.Bits.{bits}
 use Rattle.spec_formats.proofs.Values.{CanBe}
-use Rattle.spec_parameter_sets.specs.PictureParameterSet.{deblocking_control, deblocking_offset, picture_parameter_set}
-use Rattle.spec_parameter_sets.specs.PictureParameterSet.{picture_parameter_set_of, pps_filters, pps_identity}
-use Rattle.spec_parameter_sets.specs.PictureParameterSet.{pps_quantization, pps_slice_defaults}
-use Rattle.spec_parameter_sets.specs.Scaling.{scaling_list_data}
-use Rattle.spec_parameter_sets.proofs.Ranges.{data_can_be}
+use Rattle.spec_slice_headers.specs.SpecParameterSets.{deblocking_control, deblocking_offset, picture_parameter_set}
+use Rattle.spec_slice_headers.specs.SpecParameterSets.{picture_parameter_set_of, pps_filters, pps_identity}
+use Rattle.spec_slice_headers.specs.SpecParameterSets.{pps_quantization, pps_slice_defaults}
+use Rattle.spec_slice_headers.specs.SpecParameterSets.{scaling_list_data}
+use Rattle.spec_slice_headers.proofs.SpecParameterSetsLemmas.{data_can_be}
 use Rattle.header_laws.proofs.Values.{no_offset, optional_is, parsed_is, within}
 
 offset_is : (disabled : Bool) (z : ℤ) → CanBe (deblocking_offset disabled) z → IsWithin 6 6 z

@@ -20,8 +20,8 @@ use Rattle.header_types.proofs.ReferencePictures.{IsStRps-weaker}
 use Rattle.spec_formats.specs.Format.{when◌then◌else◌}
 use Rattle.spec_formats.specs.Fields.{give}
 use Rattle.spec_formats.proofs.Values.{CanBe}
-use Rattle.spec_reference_pictures.specs.PictureOrderCount.{is_idr}
-use Rattle.spec_reference_pictures.proofs.Sets.{can_be_near}
+use Rattle.spec_slice_headers.specs.SpecReferencePictures.{is_idr}
+use Rattle.spec_slice_headers.proofs.SpecReferencePicturesLemmas.{can_be_near}
 use Rattle.spec_slice_headers.specs.References.{coded_references, coded_short_term, empty_set, long_term}
 use Rattle.spec_slice_headers.specs.References.{long_term_entry, long_term_of, named_short_term, no_references}
 use Rattle.spec_slice_headers.specs.References.{reference_fields, ShortTerm, short_term}

@@ -1,5 +1,6 @@
 -- The ranges of sequence parameter sets that are read.
-use Rattle.std.proofs.Common.{◌≡◌, ◌∙◌, ℕ, zero, suc, ◌+◌, ◌-◌, ◌*◌, ◌%◌, ◌^◌, ◌<◌, ◌≤◌, Bool, true, false, ◌&&◌, ◌==◌}
+use Rattle.std.proofs.Common.{◌≡◌, ◌∙◌, ℕ, zero, suc, ◌+◌, ◌-◌, ◌*◌, ◌%◌, ◌^◌, ◌<◌, ◌≤◌, Bool, true, false, ◌&&◌}
+use Rattle.std.proofs.Common.{◌==◌}
 use Rattle.std.proofs.Common.{List, [], ◌∷◌, ◌++◌, length, Option, IfSome, All, Ok, min, sym, length-append, arith}
 use Rattle.std.proofs.Common.{if◌then◌else◌}
 use Rattle.std.specs.Prelude.{nat_le}
@@ -29,19 +30,19 @@ use Rattle.header_types.specs.SequenceParameterSets.{highest_ordering, max_lsb_o
 use Rattle.header_types.proofs.ReferencePictures.{All-IsStRps-weaker}
 use Rattle.spec_bits.specs.Bits.{bits}
 use Rattle.spec_formats.proofs.Values.{CanBe}
-use Rattle.spec_parameter_sets.specs.ProfileTierLevel.{greatest_depth_minus8, is_main_10}
-use Rattle.spec_parameter_sets.specs.Scaling.{scaling_list_data}
-use Rattle.spec_parameter_sets.specs.SequenceParameterSet.{bit_depth, block_sizes, conformance_window}
-use Rattle.spec_parameter_sets.specs.SequenceParameterSet.{long_term_candidate, long_term_candidates, main_only}
-use Rattle.spec_parameter_sets.specs.SequenceParameterSet.{ordered_sub_layers, pcm_bit_depth, pcm_format}
-use Rattle.spec_parameter_sets.specs.SequenceParameterSet.{picture_format}
-use Rattle.spec_parameter_sets.specs.SequenceParameterSet.{present_scaling_lists, scaling_lists, sequence_parameter_set}
-use Rattle.spec_parameter_sets.specs.SequenceParameterSet.{sequence_parameter_set_of, sets_behind}
-use Rattle.spec_parameter_sets.specs.SequenceParameterSet.{short_term_ref_pic_sets, side, sub_layer_ordering}
-use Rattle.spec_parameter_sets.specs.SequenceParameterSet.{sps_identity, sps_order, sps_references, sps_tools}
-use Rattle.spec_parameter_sets.specs.SequenceParameterSet.{sub_layers}
-use Rattle.spec_parameter_sets.proofs.Ranges.{data_can_be}
-use Rattle.spec_reference_pictures.proofs.Sets.{can_be_near}
+use Rattle.spec_slice_headers.specs.SpecParameterSets.{greatest_depth_minus8, is_main_10}
+use Rattle.spec_slice_headers.specs.SpecParameterSets.{scaling_list_data}
+use Rattle.spec_slice_headers.specs.SpecParameterSets.{bit_depth, block_sizes, conformance_window}
+use Rattle.spec_slice_headers.specs.SpecParameterSets.{long_term_candidate, long_term_candidates, main_only}
+use Rattle.spec_slice_headers.specs.SpecParameterSets.{ordered_sub_layers, pcm_bit_depth, pcm_format}
+use Rattle.spec_slice_headers.specs.SpecParameterSets.{picture_format}
+use Rattle.spec_slice_headers.specs.SpecParameterSets.{present_scaling_lists, scaling_lists, sequence_parameter_set}
+use Rattle.spec_slice_headers.specs.SpecParameterSets.{sequence_parameter_set_of, sets_behind}
+use Rattle.spec_slice_headers.specs.SpecParameterSets.{short_term_ref_pic_sets, side, sub_layer_ordering}
+use Rattle.spec_slice_headers.specs.SpecParameterSets.{sps_identity, sps_order, sps_references, sps_tools}
+use Rattle.spec_slice_headers.specs.SpecParameterSets.{sub_layers}
+use Rattle.spec_slice_headers.proofs.SpecParameterSetsLemmas.{data_can_be}
+use Rattle.spec_slice_headers.proofs.SpecReferencePicturesLemmas.{can_be_near}
 use Rattle.header_laws.proofs.Values.{optional_is, parsed_is, repeated_is, wanted_is}
 
 -- ---- the format of pictures

@@ -8,7 +8,7 @@ use Rattle.slice_types.specs.declared.slice.SegmentFields.{SegmentFields}
 use Rattle.slice_types.specs.declared.slice.SliceFields.{SliceFields}
 use Rattle.slice_types.specs.declared.slice.SliceHeaderFields.{SliceHeaderFields}
 use Rattle.slice_types.specs.SliceHeaders.{IsSliceFields}
-use Rattle.plan_types.specs.declared.segment_plan.SegmentPlan.{SegmentPlan}
+use Rattle.spec_slice_headers.specs.PlanTypes.{SegmentPlan}
 use Rattle.spec_formats.specs.Format.{when◌then◌else◌}
 use Rattle.spec_formats.proofs.Values.{CanBe}
 use Rattle.spec_slice_headers.specs.Context.{Context, first_of, header_of}

@@ -4,7 +4,7 @@ use Rattle.header_types.specs.declared.former.Sets.{Sets}
 use Rattle.header_types.specs.PictureParameterSet.{IsPps}
 use Rattle.header_types.specs.SequenceParameterSets.{IsSps}
 use Rattle.slice_types.specs.SliceHeaders.{IsSliceFields}
-use Rattle.plan_types.specs.declared.segment_plan.SegmentPlan.{SegmentPlan}
+use Rattle.spec_slice_headers.specs.PlanTypes.{SegmentPlan}
 use Rattle.spec_slice_headers.specs.NamedSets.{Named}
 
 -- accepted parameter sets that are in range

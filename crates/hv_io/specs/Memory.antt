@@ -1,5 +1,6 @@
 -- What a call on a source or a sink in memory answers, and how it leaves it.
-use Rattle.std.specs.Prelude.{ℕ, ◌-◌, ◌==◌, ◌&&◌, ◌||◌, Bool, nat_lt, if◌then◌else◌, min, List, [], ◌++◌, length, take}
+use Rattle.std.specs.Prelude.{ℕ, ◌-◌, ◌==◌, ◌&&◌, ◌||◌, Bool, nat_lt, if◌then◌else◌, min, List, [], ◌++◌, length}
+use Rattle.std.specs.Prelude.{take}
 use Rattle.std.specs.Prelude.{drop, Option, Some, None}
 use Rattle.std.specs.List.{list_any}
 use Rattle.hv_io.specs.Streams.{counted}

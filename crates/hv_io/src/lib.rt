@@ -15,6 +15,7 @@ pub use failed::Failed;
 pub use files::{FileSink, FileSource};
 pub use gate::{Gate, OpenGate};
 pub use hold_gate::HoldGate;
+pub use hv_base::UnitNumber;
 pub use memory_sink::MemSink;
 pub use memory_source::MemSource;
 pub use sink::Sink;

@@ -2,7 +2,7 @@
 
 use crate::byte_text::number_of;
 use crate::row_error::RowError;
-use decoder::{Form, Options, Session};
+use command_line::{Form, Options, Session};
 use std::alloc::{AllocError, Global};
 
 /// What the words of a row ask of a session.

@@ -2,10 +2,17 @@
 
 use crate::byte_text::number_of;
 use crate::row_error::RowError;
+use hv_io::HoldGate;
 use std::alloc::{AllocError, Global};
 
 /// How many bytes a sink takes where a row doesn't say it.
 pub(crate) const ROOM: usize = 1 << 20;
+
+/// For how many turns a gate keeps a unit back.
+const TURNS: u64 = 1_000_000_000;
+
+/// The number of no unit.
+const NO_UNIT: u64 = u64::MAX;
 
 /// What is another from run to run.
 #[derive(Clone, Copy, PartialEq, Eq)]
@@ -38,6 +45,8 @@ pub(crate) struct Ends {
     pub(crate) reads: Vec<u64>,
     pub(crate) writes: Vec<u64>,
     pub(crate) tells: Vec<u64>,
+    hold: u64,
+    until: u64,
     turns: Option<Turns>,
     number: u32,
 }
@@ -46,7 +55,8 @@ impl Ends {
     /// The words: `by=N` for pieces of N bytes; `room=N` for an output of N bytes; `read=N`, `write=N` and `tell=N` for
     /// a failing call of the source, of the output and of the error sink, from 0; `reads=A-B`, `writes=A-B` and
     /// `tells=A-B` for a run for each of these numbers, in which that call fails; `cut=A-B` for a run for each of these
-    /// lengths of the stream; `-` for none.
+    /// lengths of the stream; `hold=N` and `until=M` for a gate that keeps unit N back until unit M has come; `-` for
+    /// none.
     pub(crate) fn read(alloc: Global, text: &str) -> Result<Ends, RowError> {
         let mut ends = Ends::whole(alloc);
         for word in text.split_whitespace() {
@@ -67,6 +77,8 @@ impl Ends {
             reads: Vec::new(alloc),
             writes: Vec::new(alloc),
             tells: Vec::new(alloc),
+            hold: NO_UNIT,
+            until: NO_UNIT,
             turns: None,
             number: 0,
         }
@@ -91,6 +103,8 @@ impl Ends {
             "read" => self.reads.push(u64::from(number))?,
             "write" => self.writes.push(u64::from(number))?,
             "tell" => self.tells.push(u64::from(number))?,
+            "hold" => self.hold = u64::from(number),
+            "until" => self.until = u64::from(number),
             _ => return Err(RowError::Unreadable),
         }
         Ok(())
@@ -156,6 +170,16 @@ impl Ends {
     /// Whether the error sink takes all that is told.
     pub(crate) fn is_told_whole(&self) -> bool {
         self.tells.is_empty()
+    }
+
+    /// A gate that keeps back the unit that the words name.
+    pub(crate) fn gate(&self) -> HoldGate {
+        HoldGate::new(self.hold, self.until, TURNS)
+    }
+
+    /// Whether no unit was to be kept back, or the one that was awaited has come.
+    pub(crate) fn is_released(&self, gate: &HoldGate) -> bool {
+        self.hold == NO_UNIT || gate.released()
     }
 
     /// The front of a stream that these ends give.

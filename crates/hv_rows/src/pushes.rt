@@ -3,7 +3,7 @@
 ghost use Rattle.std.specs.Prelude.{◌<◌};
 
 use crate::asked::Asked;
-use decoder::Session;
+use command_line::Session;
 use hv_base::Outcome;
 use hv_io::{MemSink, OpenGate};
 use std::sync::Wait;

@@ -11,7 +11,7 @@ use crate::row_output::RowOutput;
 use crate::tally::Tally;
 use command_line::run;
 use hv_base::{Outcome, Status};
-use hv_io::{MemSink, MemSource, OpenGate};
+use hv_io::{MemSink, MemSource};
 use std::alloc::Global;
 use std::sync::Wait;
 use std::thread::Threads;
@@ -216,6 +216,7 @@ fn difference<R: Threads + Wait + Sync>(
     let mut src = MemSource::new(stream, size, ends.reads.as_slice());
     let mut out = MemSink::new(alloc, ends.room, size, ends.writes.as_slice())?;
     let mut err = MemSink::new(alloc, ROOM, size, ends.tells.as_slice())?;
+    let gate = ends.gate();
     let Status(status) = run(
         rt,
         alloc,
@@ -223,8 +224,13 @@ fn difference<R: Threads + Wait + Sync>(
         &mut src,
         &mut out,
         &mut err,
-        &OpenGate,
+        &gate,
     );
+    if !ends.is_released(&gate) {
+        return Ok(Some(format!(in alloc;
+            "pieces of {piece}: the unit that is awaited doesn't come"
+        )?));
+    }
     difference_of(alloc, row, piece, status, out.bytes(), err.bytes())
 }
 

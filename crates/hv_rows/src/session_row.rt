@@ -9,7 +9,7 @@ use crate::outcome_text::outcome_text;
 use crate::row_error::RowError;
 use crate::row_output::RowOutput;
 use crate::tally::Tally;
-use decoder::Session;
+use command_line::Session;
 use hv_base::Outcome;
 use hv_io::{MemSink, OpenGate};
 use std::alloc::Global;

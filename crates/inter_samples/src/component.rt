@@ -8,7 +8,7 @@ ghost use Rattle.spec_inter_prediction.specs.Tables.{IsSliceWeighting};
 ghost use Rattle.spec_motion.specs.Derivation.{IsBlock};
 ghost use Rattle.spec_reconstruction.specs.Inter.{index_of, inter_sample};
 ghost use Rattle.spec_reconstruction.specs.Sound.{IsFormat};
-ghost use Rattle.spec_slice_data.specs.Residual.{samples_of_place};
+ghost use Rattle.spec_reconstruction.specs.SpecSliceData.{samples_of_place};
 
 use crate::inter::UnitInter;
 use crate::lists::{Part, by_both, by_one};

@@ -11,5 +11,6 @@ mod weights;
 
 pub use component::predict;
 pub use inter::UnitInter;
+pub use inter_pred::RefWindow;
 pub use place::samples_of_place;
 pub use scratch::InterScratch;

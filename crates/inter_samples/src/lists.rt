@@ -12,10 +12,10 @@ ghost use Rattle.spec_reconstruction.specs.Sound.{IsFormat};
 use crate::inter::UnitInter;
 use crate::place::depth_of;
 use crate::scratch::InterScratch;
+use ctu_motion::reference_in;
 use inter_pred::{
     Prediction, PredictionBlock, RefWindow, Scratch, chroma, luma, weigh_one, weigh_two,
 };
-use motion_candidates::reference_in;
 use spec_inter_prediction::Weighting;
 use spec_motion::Vector;
 use spec_reconstruction::UnitFormat;

@@ -5,7 +5,7 @@ ghost use Rattle.spec_motion.specs.Derivation.{IsBlock};
 ghost use Rattle.spec_inter_prediction.specs.Taps.{IsDepth};
 ghost use Rattle.spec_reconstruction.specs.Parameters.{depth_of};
 ghost use Rattle.spec_reconstruction.specs.Sound.{IsFormat};
-ghost use Rattle.spec_slice_data.specs.Residual.{samples_of_place};
+ghost use Rattle.spec_reconstruction.specs.SpecSliceData.{samples_of_place};
 
 use ctu_records::Rectangle;
 use inter_pred::PredictionBlock;

@@ -4,7 +4,8 @@ use Rattle.std.proofs.Common.{arith}
 use Rattle.std.proofs.lemmas.Grind.{common_steps}
 use Rattle.std.proofs.lemmas.Bool.Decides.{nat_tests}
 use Rattle.spec_intra_prediction.specs.Neighbours.{at}
-use Rattle.spec_intra_prediction.specs.Smoothing.{is_filtered, is_strong, smoothed, smoothed_at, straightened, filtered}
+use Rattle.spec_intra_prediction.specs.Smoothing.{is_filtered, is_strong, smoothed, smoothed_at, straightened}
+use Rattle.spec_intra_prediction.specs.Smoothing.{filtered}
 
 pub end_stays : (edge before : List ℕ) (j k : ℕ) → 2 ≤ length edge → length edge ≤ 129 → length before ≡ 129 →
     length edge - 1 ≤ j →

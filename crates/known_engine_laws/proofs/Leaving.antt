@@ -1,5 +1,6 @@
 -- What known units leave, one after the other.
-use Rattle.std.proofs.Common.{◌≡◌, ℕ, zero, suc, ◌+◌, ◌-◌, ◌/◌, ◌%◌, ◌<◌, ◌≤◌, Bool, true, false, ◌&&◌, ◌||◌, List, []}
+use Rattle.std.proofs.Common.{◌≡◌, ℕ, zero, suc, ◌+◌, ◌-◌, ◌/◌, ◌%◌, ◌<◌, ◌≤◌, Bool, true, false, ◌&&◌, ◌||◌, List}
+use Rattle.std.proofs.Common.{[]}
 use Rattle.std.proofs.Common.{◌∷◌, ◌++◌, length, Option, Some, None, is_some, Result, Ok, Err, if◌then◌else◌}
 use Rattle.std.proofs.Common.{refl, ap, sym}
 use Rattle.std.proofs.Common.{subst, ◌∙◌, arith, nat_lt}
@@ -21,10 +22,12 @@ use Rattle.spec_slice_data.specs.Segment.{begins_substream}
 use Rattle.spec_slice_data.specs.Segment.{behind_unit, contexts_before, has_stored, is_first, is_last, judged_end}
 use Rattle.spec_slice_data.specs.Segment.{next_unit}
 use Rattle.spec_slice_data.specs.Segment.{stored_behind}
-use Rattle.spec_slice_data.specs.Segment.{qp_before, read_unit, restarted, substream_of, syntax_at, then_unit, unit_at}
+use Rattle.spec_slice_data.specs.Segment.{qp_before, read_unit, restarted, substream_of, syntax_at, then_unit}
+use Rattle.spec_slice_data.specs.Segment.{unit_at}
 use Rattle.spec_slice_data.specs.Segment.{unit_begins, unit_of, unit_step}
 use Rattle.spec_picture_trees.specs.Picture.{SegmentAt, before_picture}
-use Rattle.spec_known_units.specs.Known.{Entries, KnownUnit, behind_step, between_from, contexts_behind, engine_behind}
+use Rattle.spec_known_units.specs.Known.{Entries, KnownUnit, behind_step, between_from, contexts_behind}
+use Rattle.spec_known_units.specs.Known.{engine_behind}
 use Rattle.spec_known_units.specs.Known.{entries_before, goes_on, if_used, known_of, picture_segments, read_in}
 use Rattle.spec_known_units.specs.Known.{read_uses}
 use Rattle.spec_known_units.specs.Known.{segment_having, unit_read, units_known}

@@ -1,3 +1,4 @@
 pub mod Contexts
 pub mod Segments
 pub mod Leaving
+pub mod KnownUnitLawsLemmas

@@ -1,33 +1,34 @@
 -- What each unit of a picture adds for its loop filters is its step over what stands beside it in the whole picture.
 use Rattle.std.proofs.Common.{◌≡◌, ◌≢◌, ℕ, zero, suc, ◌+◌, ◌-◌, ◌<◌, ◌≤◌, ◌==◌, ◌&&◌, Bool}
-use Rattle.std.proofs.Common.{true, false, Option, Some, None, List, [], ◌∷◌, ◌++◌, All, get_or, length, nat_le, nat_lt}
+use Rattle.std.proofs.Common.{true, false, Option, Some, None, List, [], ◌∷◌, ◌++◌, All, get_or, length, nat_le}
+use Rattle.std.proofs.Common.{nat_lt}
 use Rattle.std.proofs.Common.{refl, sym, ap, ◌∙◌, if◌then◌else◌, slice_get, fold, arith}
 use Rattle.std.proofs.lemmas.Bool.{and_from, and_parts, eqb-true, leb-true, ltb-true}
 use Rattle.std.proofs.lemmas.Bool.Decides.{nat_tests}
 use Rattle.header_types.specs.SequenceParameterSets.{height_in_ctbs}
-use Rattle.plan_types.specs.declared.segment_plan.SegmentPlan.{SegmentPlan}
-use Rattle.plan_types.specs.declared.picture_plan.PicturePlan.{PicturePlan}
-use Rattle.picture_buffer.specs.declared.place_motion.PlaceMotion.{PlaceMotion}
-use Rattle.spec_slice_data.specs.Segment.{PictureShape, column_of, row_of}
-use Rattle.spec_boundary_strengths.specs.declared.place.UnitPlace.{UnitPlace}
-use Rattle.spec_deblocking.specs.declared.place.Place.{Place}
-use Rattle.spec_sample_adaptive_offset.specs.declared.unit.OffsetUnit.{OffsetUnit}
-use Rattle.spec_picture_trees.specs.Picture.{TreeUnit}
-use Rattle.spec_picture_trees.specs.Places.{first_column, first_row, has_place, is_of_unit, is_there, unit_at}
-use Rattle.spec_picture_trees.specs.Places.{unit_places}
-use Rattle.spec_picture_trees.specs.Shapes.{picture_shape, qp_bd_offset}
-use Rattle.spec_picture_motion.specs.Derived.{unit_added as motion_added, units_derived}
-use Rattle.spec_picture_motion.specs.Field.{Motions}
-use Rattle.spec_picture_build.specs.References.{DecodedPicture, motions_of}
-use Rattle.spec_picture_filters.specs.Data.{FilterData}
-use Rattle.spec_picture_filters.specs.Units.{beside_unit, coded_laid, coded_near, is_component, motion_near}
-use Rattle.spec_picture_filters.specs.Units.{pcm_disabled}
-use Rattle.spec_picture_filters.specs.Units.{place_of, places_laid, places_read, read_added}
-use Rattle.spec_picture_filters.specs.Units.{unit_added as filters_added}
-use Rattle.spec_picture_filters.specs.Units.{units_laid}
-use Rattle.spec_decoded_pictures.specs.Decoded.{DecodedUnits, decoded_in, no_units, unit_decoded, units_folded}
-use Rattle.spec_decoded_pictures.specs.Decoded.{with_unit}
-use Rattle.spec_decoded_pictures.proofs.OneFold.{one_fold}
+use Rattle.known_unit_laws.specs.PlanTypes.{SegmentPlan}
+use Rattle.known_unit_laws.specs.PlanTypes.{PicturePlan}
+use Rattle.locality_laws.specs.PictureBuffer.{PlaceMotion}
+use Rattle.known_unit_laws.specs.SpecSliceData.{PictureShape, column_of, row_of}
+use Rattle.spec_flights.specs.SpecBoundaryStrengths.{UnitPlace}
+use Rattle.spec_flights.specs.SpecDeblocking.{Place}
+use Rattle.spec_flights.specs.SpecSampleAdaptiveOffset.{OffsetUnit}
+use Rattle.known_unit_laws.specs.SpecPictureTrees.{TreeUnit}
+use Rattle.known_unit_laws.specs.SpecPictureTrees.{first_column, first_row, has_place, is_of_unit, is_there, unit_at}
+use Rattle.known_unit_laws.specs.SpecPictureTrees.{unit_places}
+use Rattle.known_unit_laws.specs.SpecPictureTrees.{picture_shape, qp_bd_offset}
+use Rattle.locality_laws.specs.SpecPictureMotion.{unit_added as motion_added, units_derived}
+use Rattle.locality_laws.specs.SpecPictureMotion.{Motions}
+use Rattle.locality_laws.specs.SpecPictureBuild.{DecodedPicture, motions_of}
+use Rattle.spec_flights.specs.SpecPictureFilters.{FilterData}
+use Rattle.spec_flights.specs.SpecPictureFilters.{beside_unit, coded_laid, coded_near, is_component, motion_near}
+use Rattle.spec_flights.specs.SpecPictureFilters.{pcm_disabled}
+use Rattle.spec_flights.specs.SpecPictureFilters.{place_of, places_laid, places_read, read_added}
+use Rattle.spec_flights.specs.SpecPictureFilters.{unit_added as filters_added}
+use Rattle.spec_flights.specs.SpecPictureFilters.{units_laid}
+use Rattle.spec_flights.specs.SpecDecodedPictures.{DecodedUnits, decoded_in, no_units, unit_decoded, units_folded}
+use Rattle.spec_flights.specs.SpecDecodedPictures.{with_unit}
+use Rattle.spec_flights.proofs.SpecDecodedPicturesLemmas.{one_fold}
 use Rattle.locality_laws.proofs.Motion.{place_is, some_places}
 use Rattle.locality_laws.proofs.Moved.{motion_is_final}
 use Rattle.locality_laws.proofs.Places.{above_of, left_of, same_address}

@@ -8,3 +8,12 @@ pub mod Phases
 pub mod KnownUnitLaws
 pub mod LocalityLaws
 pub mod UnitTreeLaws
+pub mod KnownUnitLawsEntries
+pub mod PictureLayoutLemmas
+pub mod FilterLocalityLawsLemmas
+pub mod KnownUnitLawsBeside
+pub mod CodingQuadtreeLemmas
+pub mod UnitTreesLemmas
+pub mod CabacContextsLemmas
+pub mod LocalityLawsMoved
+pub mod LocalityLawsMotion

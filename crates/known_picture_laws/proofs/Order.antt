@@ -7,10 +7,10 @@ use Rattle.std.proofs.lemmas.List.Concat.{flat_map-cons}
 use Rattle.std.proofs.lemmas.List.Elements.{All-append, All-cons, All-nil}
 use Rattle.std.proofs.lemmas.List.Folds.{flat_map-map}
 use Rattle.header_types.specs.SequenceParameterSets.{size_in_ctbs}
-use Rattle.plan_types.specs.declared.picture_plan.PicturePlan.{PicturePlan}
-use Rattle.block_geometry.specs.CodingTreeBlocks.{ctb_scan}
-use Rattle.spec_picture_trees.specs.Picture.{TreeUnit}
-use Rattle.spec_known_units.specs.Known.{KnownUnit, as_given, known_before, known_units, units_known}
+use Rattle.known_unit_laws.specs.PlanTypes.{PicturePlan}
+use Rattle.locality_laws.specs.BlockGeometry.{ctb_scan}
+use Rattle.known_unit_laws.specs.SpecPictureTrees.{TreeUnit}
+use Rattle.known_unit_laws.specs.SpecKnownUnits.{KnownUnit, as_given, known_before, known_units, units_known}
 use Rattle.spec_flights.specs.References.{given_at}
 use Rattle.known_picture_laws.specs.Order.{IsInOrder}
 

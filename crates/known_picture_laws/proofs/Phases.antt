@@ -1,13 +1,13 @@
 -- The samples of a decoded picture are those of its last phase.
 use Rattle.std.proofs.Common.{◌≡◌, ℕ, true, List, ◌∙◌}
 use Rattle.hv_base.specs.declared.line.Phase.TheVariants.{S}
-use Rattle.plan_types.specs.declared.picture_plan.PicturePlan.{PicturePlan}
-use Rattle.spec_picture_trees.specs.Shapes.{picture_shape}
-use Rattle.filter_locality_laws.proofs.Rows.{three_steps}
-use Rattle.spec_picture_filters.specs.Filtered.{filtered, loop_filters}
-use Rattle.spec_picture_build.specs.Border.{has_sample}
-use Rattle.spec_picture_build.specs.References.{DecodedPicture}
-use Rattle.spec_decoded_pictures.specs.Decoded.{DecodedUnits, decoded_by, samples_filtered}
+use Rattle.known_unit_laws.specs.PlanTypes.{PicturePlan}
+use Rattle.known_unit_laws.specs.SpecPictureTrees.{picture_shape}
+use Rattle.spec_flights.proofs.FilterLocalityLawsLemmas.{three_steps}
+use Rattle.spec_flights.specs.SpecPictureFilters.{filtered, loop_filters}
+use Rattle.locality_laws.specs.SpecPictureBuild.{has_sample}
+use Rattle.locality_laws.specs.SpecPictureBuild.{DecodedPicture}
+use Rattle.spec_flights.specs.SpecDecodedPictures.{DecodedUnits, decoded_by, samples_filtered}
 use Rattle.spec_flights.specs.Pictures.{known_decoded, known_folded}
 use Rattle.spec_flights.specs.Phases.{horizontal_samples, offset_samples, phase_samples, vertical_samples}
 use Rattle.known_picture_laws.proofs.FilterData.{where_it_is}

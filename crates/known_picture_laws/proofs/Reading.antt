@@ -4,20 +4,21 @@ use Rattle.std.proofs.Common.{Ok, Err, is_some, get_or, refl, sym, ap, subst, â—
 use Rattle.std.specs.List.{list_all}
 use Rattle.std.proofs.lemmas.List.{get_or_push}
 use Rattle.hv_base.specs.declared.breach.Breach.{Breach}
-use Rattle.plan_types.specs.declared.picture_plan.PicturePlan.{PicturePlan}
+use Rattle.known_unit_laws.specs.PlanTypes.{PicturePlan}
 use Rattle.ctu_records.specs.Tree.{Ctu}
-use Rattle.spec_slice_data.specs.Segment.{Between, no_group, nothing_read, unit_of, unit_step}
-use Rattle.spec_picture_trees.specs.Picture.{Halt, Progress, SegmentAt, picture_read}
+use Rattle.known_unit_laws.specs.SpecSliceData.{Between, no_group, nothing_read, unit_of, unit_step}
+use Rattle.known_unit_laws.specs.SpecPictureTrees.{Halt, Progress, SegmentAt, picture_read}
 use Rattle.known_unit_laws.specs.UnitTreeLaws.{AddsSame, Agree, IsSameStep}
 use Rattle.known_unit_laws.proofs.UnitTreeLaws.{steps_same}
-use Rattle.spec_known_units.specs.InOrder.{IsAsInOrder}
-use Rattle.spec_known_units.specs.Known.{KnownUnit, behind_step, between_from, entries_before, picture_segments}
-use Rattle.spec_known_units.specs.Known.{read_in}
-use Rattle.spec_known_units.specs.Known.{read_uses, segment_having, unit_read, units_known}
+use Rattle.known_unit_laws.specs.SpecKnownUnits.{IsAsInOrder}
+use Rattle.known_unit_laws.specs.SpecKnownUnits.{KnownUnit, behind_step, between_from, entries_before}
+use Rattle.known_unit_laws.specs.SpecKnownUnits.{picture_segments}
+use Rattle.known_unit_laws.specs.SpecKnownUnits.{read_in}
+use Rattle.known_unit_laws.specs.SpecKnownUnits.{read_uses, segment_having, unit_read, units_known}
 use Rattle.known_unit_laws.proofs.Beside.{long_from}
 use Rattle.known_unit_laws.proofs.Reading.{as_in_order}
-use Rattle.spec_picture_build.specs.References.{DecodedPicture}
-use Rattle.spec_decoded_pictures.specs.Decoded.{picture_decoded, reading_decoded, units_decoded}
+use Rattle.locality_laws.specs.SpecPictureBuild.{DecodedPicture}
+use Rattle.spec_flights.specs.SpecDecodedPictures.{picture_decoded, reading_decoded, units_decoded}
 use Rattle.spec_flights.specs.Rows.{broken_at, broken_by}
 use Rattle.known_picture_laws.specs.Decoded.{IsDecodedAsKnown}
 use Rattle.known_picture_laws.specs.Reading.{IsReadAs, Leaves}

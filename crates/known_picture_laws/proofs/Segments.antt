@@ -6,14 +6,16 @@ use Rattle.std.specs.List.{list_all}
 use Rattle.std.specs.Option.{option_and_then}
 use Rattle.hv_base.specs.declared.breach.Breach.{Breach}
 use Rattle.header_types.specs.SequenceParameterSets.{size_in_ctbs}
-use Rattle.plan_types.specs.declared.picture_plan.PicturePlan.{PicturePlan}
-use Rattle.plan_types.specs.declared.segment_plan.SegmentPlan.{SegmentPlan}
-use Rattle.spec_slice_data.specs.Segment.{Between, unit_step}
-use Rattle.spec_picture_trees.specs.Picture.{SegmentAt, segment_at}
-use Rattle.spec_picture_trees.specs.Shapes.{end_of}
-use Rattle.spec_known_units.specs.Known.{Entries, KnownUnit, behind_step, between_from, entries_before, is_in, known_of}
-use Rattle.spec_known_units.specs.Known.{picture_segments, read_in, read_uses, segment_having, segments_from, unit_read}
-use Rattle.spec_known_units.specs.Known.{units_known}
+use Rattle.known_unit_laws.specs.PlanTypes.{PicturePlan}
+use Rattle.known_unit_laws.specs.PlanTypes.{SegmentPlan}
+use Rattle.known_unit_laws.specs.SpecSliceData.{Between, unit_step}
+use Rattle.known_unit_laws.specs.SpecPictureTrees.{SegmentAt, segment_at}
+use Rattle.known_unit_laws.specs.SpecPictureTrees.{end_of}
+use Rattle.known_unit_laws.specs.SpecKnownUnits.{Entries, KnownUnit, behind_step, between_from, entries_before, is_in}
+use Rattle.known_unit_laws.specs.SpecKnownUnits.{known_of}
+use Rattle.known_unit_laws.specs.SpecKnownUnits.{picture_segments, read_in, read_uses, segment_having, segments_from}
+use Rattle.known_unit_laws.specs.SpecKnownUnits.{unit_read}
+use Rattle.known_unit_laws.specs.SpecKnownUnits.{units_known}
 use Rattle.known_unit_laws.proofs.Entries.{known_step}
 use Rattle.spec_flights.specs.References.{segment_of}
 

@@ -3,22 +3,22 @@ use Rattle.std.proofs.Common.{◌≡◌, ℕ, ◌+◌, ◌<◌, ◌≤◌, ◌==
 use Rattle.std.proofs.Common.{List, ◌∷◌, ◌++◌, All, Some, slice_get, refl, sym, ap, subst, ◌∙◌, arith}
 use Rattle.std.proofs.lemmas.Bool.{and_parts, eqb-true, leb-true, ltb-true}
 use Rattle.header_types.specs.SequenceParameterSets.{IsSps, ctb_log2, size_in_ctbs}
-use Rattle.plan_types.specs.declared.segment_plan.SegmentPlan.{SegmentPlan}
-use Rattle.plan_types.specs.declared.picture_plan.PicturePlan.{PicturePlan}
-use Rattle.spec_slice_data.specs.Segment.{PictureShape}
-use Rattle.spec_picture_trees.specs.Picture.{TreeUnit}
-use Rattle.spec_picture_trees.specs.Places.{first_column, first_row, has_place, unit_at, unit_places}
-use Rattle.spec_picture_trees.specs.Places.{is_of_unit as has_place_of}
-use Rattle.spec_picture_trees.specs.Shapes.{picture_shape}
-use Rattle.spec_known_units.specs.Known.{KnownUnit, known_units, units_known}
-use Rattle.spec_picture_motion.specs.Derived.{known_of_unit, unit_added as motion_added}
-use Rattle.spec_picture_motion.specs.Field.{Motions}
-use Rattle.spec_picture_motion.specs.Slices.{slice_motion}
-use Rattle.spec_picture_build.specs.Built.{is_of_unit, units_built}
-use Rattle.spec_picture_build.specs.References.{DecodedPicture, motions_of}
-use Rattle.spec_picture_filters.specs.Filtered.{units_filtered}
-use Rattle.spec_decoded_pictures.specs.Decoded.{DecodedUnits, joined, unit_decoded, units_folded}
-use Rattle.spec_decoded_pictures.proofs.OneFold.{one_fold}
+use Rattle.known_unit_laws.specs.PlanTypes.{SegmentPlan}
+use Rattle.known_unit_laws.specs.PlanTypes.{PicturePlan}
+use Rattle.known_unit_laws.specs.SpecSliceData.{PictureShape}
+use Rattle.known_unit_laws.specs.SpecPictureTrees.{TreeUnit}
+use Rattle.known_unit_laws.specs.SpecPictureTrees.{first_column, first_row, has_place, unit_at, unit_places}
+use Rattle.known_unit_laws.specs.SpecPictureTrees.{is_of_unit as has_place_of}
+use Rattle.known_unit_laws.specs.SpecPictureTrees.{picture_shape}
+use Rattle.known_unit_laws.specs.SpecKnownUnits.{KnownUnit, known_units, units_known}
+use Rattle.locality_laws.specs.SpecPictureMotion.{known_of_unit, unit_added as motion_added}
+use Rattle.locality_laws.specs.SpecPictureMotion.{Motions}
+use Rattle.locality_laws.specs.SpecPictureMotion.{slice_motion}
+use Rattle.locality_laws.specs.SpecPictureBuild.{is_of_unit, units_built}
+use Rattle.locality_laws.specs.SpecPictureBuild.{DecodedPicture, motions_of}
+use Rattle.spec_flights.specs.SpecPictureFilters.{units_filtered}
+use Rattle.spec_flights.specs.SpecDecodedPictures.{DecodedUnits, joined, unit_decoded, units_folded}
+use Rattle.spec_flights.proofs.SpecDecodedPicturesLemmas.{one_fold}
 use Rattle.locality_laws.proofs.Motion.{motion_stays, some_places}
 use Rattle.locality_laws.proofs.Moved.{motion_is_its_step}
 use Rattle.locality_laws.proofs.Places.{above_of, left_of}

@@ -3,13 +3,13 @@ use Rattle.std.proofs.Common.{◌≡◌, ℕ, ◌+◌, ◌==◌, ◌&&◌, ◌||
 use Rattle.std.proofs.Common.{if◌then◌else◌, arith}
 use Rattle.std.proofs.lemmas.Bool.Decides.{nat_tests}
 use Rattle.ctu_records.specs.declared.item.Item.{Item}
-use Rattle.picture_buffer.specs.declared.place_motion.PlaceMotion.{PlaceMotion}
-use Rattle.spec_boundary_strengths.specs.declared.place.UnitPlace.{UnitPlace}
-use Rattle.spec_boundary_strengths.specs.Edges.{is_prediction_left, is_prediction_top, is_transform_left}
-use Rattle.spec_boundary_strengths.specs.Edges.{is_transform_top}
-use Rattle.spec_boundary_strengths.specs.Places.{unit_place}
-use Rattle.spec_boundary_strengths.specs.Strengths.{Beside, coded_around, is_filtered, left_strength}
-use Rattle.spec_boundary_strengths.specs.Strengths.{strength, top_strength}
+use Rattle.locality_laws.specs.PictureBuffer.{PlaceMotion}
+use Rattle.spec_flights.specs.SpecBoundaryStrengths.{UnitPlace}
+use Rattle.spec_flights.specs.SpecBoundaryStrengths.{is_prediction_left, is_prediction_top, is_transform_left}
+use Rattle.spec_flights.specs.SpecBoundaryStrengths.{is_transform_top}
+use Rattle.spec_flights.specs.SpecBoundaryStrengths.{unit_place}
+use Rattle.spec_flights.specs.SpecBoundaryStrengths.{Beside, coded_around, is_filtered, left_strength}
+use Rattle.spec_flights.specs.SpecBoundaryStrengths.{strength, top_strength}
 
 -- the strength of an edge by what it depends on
 unfoldable strength_by : Bool → Bool → ℕ → Bool → Bool → Bool → Bool → Option PlaceMotion → Option PlaceMotion → ℕ

@@ -1,12 +1,12 @@
 -- A decoded picture beside the one that its known units make.
 use Rattle.std.specs.Prelude.{◌≡◌, ◌≢◌, ◌<◌, List, [], Some, Result, Ok, Err}
 use Rattle.header_types.specs.SequenceParameterSets.{size_in_ctbs}
-use Rattle.plan_types.specs.declared.picture_plan.PicturePlan.{PicturePlan}
-use Rattle.block_geometry.specs.CodingTreeBlocks.{ctb_place}
-use Rattle.spec_picture_trees.specs.Picture.{PictureBroken, SegmentAt}
-use Rattle.spec_known_units.specs.InOrder.{AreAllKnown, AreKnownTo}
-use Rattle.spec_known_units.specs.Known.{picture_segments, segment_having}
-use Rattle.spec_picture_build.specs.References.{DecodedPicture}
+use Rattle.known_unit_laws.specs.PlanTypes.{PicturePlan}
+use Rattle.locality_laws.specs.BlockGeometry.{ctb_place}
+use Rattle.known_unit_laws.specs.SpecPictureTrees.{PictureBroken, SegmentAt}
+use Rattle.known_unit_laws.specs.SpecKnownUnits.{AreAllKnown, AreKnownTo}
+use Rattle.known_unit_laws.specs.SpecKnownUnits.{picture_segments, segment_having}
+use Rattle.locality_laws.specs.SpecPictureBuild.{DecodedPicture}
 use Rattle.spec_flights.specs.Pictures.{known_decoded}
 use Rattle.spec_flights.specs.Rows.{broken_at}
 

@@ -1,8 +1,8 @@
 -- Motion, and what is coded, that agree where what a coding tree unit adds for the loop filters depends on them.
 use Rattle.std.specs.Prelude.{◌≡◌, ℕ, ◌+◌, ◌==◌, ◌&&◌, ◌||◌, nat_le, nat_lt, Bool, true}
-use Rattle.spec_slice_data.specs.Segment.{PictureShape}
-use Rattle.spec_picture_trees.specs.Places.{first_column, first_row, has_place, is_of_unit, unit_places}
-use Rattle.spec_picture_motion.specs.Field.{Motions}
+use Rattle.known_unit_laws.specs.SpecSliceData.{PictureShape}
+use Rattle.known_unit_laws.specs.SpecPictureTrees.{first_column, first_row, has_place, is_of_unit, unit_places}
+use Rattle.locality_laws.specs.SpecPictureMotion.{Motions}
 
 -- whether a column and a line are directly beside a square of so many columns and lines from a first column and line
 -- on: in the column on its left, or in the line above

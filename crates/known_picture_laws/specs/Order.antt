@@ -1,6 +1,6 @@
 -- Units of a picture in the order of their addresses.
 use Rattle.std.specs.Prelude.{◌≡◌, ◌<◌, ◌∷◌, ◌++◌, List, All}
-use Rattle.spec_picture_trees.specs.Picture.{TreeUnit}
+use Rattle.known_unit_laws.specs.SpecPictureTrees.{TreeUnit}
 
 -- a unit is one of these: those with lower addresses stand before it, those with higher ones behind it
 pub record IsInOrder (units : List TreeUnit) (unit : TreeUnit) : Type 0 where

@@ -1,9 +1,9 @@
 -- A unit that is read, beside what is known of it.
 use Rattle.std.specs.Prelude.{◌≡◌, ◌++◌, ◌∷◌, [], Result, Ok, Err}
 use Rattle.hv_base.specs.declared.breach.Breach.{Breach}
-use Rattle.spec_slice_data.specs.Segment.{Between}
-use Rattle.spec_picture_trees.specs.Picture.{SegmentAt}
-use Rattle.spec_known_units.specs.Known.{KnownUnit}
+use Rattle.known_unit_laws.specs.SpecSliceData.{Between}
+use Rattle.known_unit_laws.specs.SpecPictureTrees.{SegmentAt}
+use Rattle.known_unit_laws.specs.SpecKnownUnits.{KnownUnit}
 
 -- what stands behind a unit of a segment, read over what stood before it, is what is known of the unit
 pub record Leaves (at : SegmentAt) (before : Between) (known : KnownUnit) (after : Between) : Type 0 where

@@ -1,18 +1,18 @@
 -- What a known unit is decoded from, where that agrees with the picture, and that what it is decoded to does.
 use Rattle.std.specs.Prelude.{◌≡◌, ℕ, true, List, All}
 use Rattle.header_types.specs.SequenceParameterSets.{ctb_log2}
-use Rattle.plan_types.specs.declared.segment_plan.SegmentPlan.{SegmentPlan}
-use Rattle.plan_types.specs.declared.picture_plan.PicturePlan.{PicturePlan}
-use Rattle.plan_types.specs.Segments.{address_of}
-use Rattle.spec_picture_trees.specs.Picture.{TreeUnit}
-use Rattle.spec_picture_trees.specs.Places.{is_of_unit as has_place_of}
-use Rattle.spec_picture_trees.specs.Shapes.{picture_shape, slice_start}
-use Rattle.spec_picture_motion.specs.Derived.{collocated_motions}
-use Rattle.spec_picture_motion.specs.Slices.{collocated_entry}
-use Rattle.spec_picture_build.specs.Built.{is_of_unit, unit_inter}
-use Rattle.spec_picture_build.specs.References.{DecodedPicture, motions_of}
-use Rattle.spec_picture_filters.specs.Units.{is_component}
-use Rattle.spec_decoded_pictures.specs.Decoded.{DecodedUnits}
+use Rattle.known_unit_laws.specs.PlanTypes.{SegmentPlan}
+use Rattle.known_unit_laws.specs.PlanTypes.{PicturePlan}
+use Rattle.known_unit_laws.specs.PlanTypes.{address_of}
+use Rattle.known_unit_laws.specs.SpecPictureTrees.{TreeUnit}
+use Rattle.known_unit_laws.specs.SpecPictureTrees.{is_of_unit as has_place_of}
+use Rattle.known_unit_laws.specs.SpecPictureTrees.{picture_shape, slice_start}
+use Rattle.locality_laws.specs.SpecPictureMotion.{collocated_motions}
+use Rattle.locality_laws.specs.SpecPictureMotion.{collocated_entry}
+use Rattle.locality_laws.specs.SpecPictureBuild.{is_of_unit, unit_inter}
+use Rattle.locality_laws.specs.SpecPictureBuild.{DecodedPicture, motions_of}
+use Rattle.spec_flights.specs.SpecPictureFilters.{is_component}
+use Rattle.spec_flights.specs.SpecDecodedPictures.{DecodedUnits}
 use Rattle.locality_laws.specs.Beside.{SamplesAgreeBeside}
 use Rattle.locality_laws.specs.Motion.{MotionAgreesBeneath, MotionAgreesBeside}
 use Rattle.locality_laws.specs.Needed.{AgreeForItem}

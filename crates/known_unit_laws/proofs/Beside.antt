@@ -1,5 +1,6 @@
 -- What stands before a unit by the units that are known is, as far as it reads it, what stands before it in order.
-use Rattle.std.proofs.Common.{◌≡◌, ℕ, zero, suc, ◌+◌, ◌-◌, ◌*◌, ◌/◌, ◌%◌, ◌^◌, ◌<◌, ◌≤◌, Bool, true, false, ◌&&◌, ◌||◌}
+use Rattle.std.proofs.Common.{◌≡◌, ℕ, zero, suc, ◌+◌, ◌-◌, ◌*◌, ◌/◌, ◌%◌, ◌^◌, ◌<◌, ◌≤◌, Bool, true, false, ◌&&◌}
+use Rattle.std.proofs.Common.{◌||◌}
 use Rattle.std.proofs.Common.{not}
 use Rattle.std.proofs.Common.{List, [], ◌∷◌, ◌++◌, map, length, get_or, Option, Some, None, is_some, if◌then◌else◌}
 use Rattle.std.proofs.Common.{nat_lt, nat_le}
@@ -9,12 +10,13 @@ use Rattle.std.proofs.lemmas.Bool.{and_from, eqb-true, leb-true, ltb-true, eq-eq
 use Rattle.std.proofs.lemmas.List.FromFn.{get_or-map-range_with_len, length-map-range_with_len}
 use Rattle.std.proofs.lemmas.List.Folds.{list_all-append}
 use Rattle.std.proofs.lemmas.Nat.{mod-mul-add, le-div}
-use Rattle.plan_types.specs.declared.picture_plan.PicturePlan.{PicturePlan}
+use Rattle.spec_known_units.specs.PlanTypes.{PicturePlan}
 use Rattle.ctu_records.specs.Tree.{Ctu}
-use Rattle.spec_slice_data.specs.Segment.{PictureShape, Between, begins_row, column_of, has_above, has_left, has_stored}
-use Rattle.spec_slice_data.specs.Segment.{no_group, nothing_read, unit_of}
-use Rattle.spec_picture_trees.specs.Picture.{SegmentAt, before_picture}
-use Rattle.unit_trees.specs.Edges.{bottom_of, right_of}
+use Rattle.unit_tree_laws.specs.SpecSliceData.{PictureShape, Between, begins_row, column_of, has_above, has_left}
+use Rattle.unit_tree_laws.specs.SpecSliceData.{has_stored}
+use Rattle.unit_tree_laws.specs.SpecSliceData.{no_group, nothing_read, unit_of}
+use Rattle.spec_known_units.specs.SpecPictureTrees.{SegmentAt, before_picture}
+use Rattle.unit_tree_laws.specs.UnitTrees.{bottom_of, right_of}
 use Rattle.unit_tree_laws.specs.Agreement.{Agree, stores}
 use Rattle.spec_known_units.specs.Known.{Entries, KnownUnit, between_from, contexts_behind, ctu_of, engine_behind}
 use Rattle.spec_known_units.specs.Known.{entries_before}

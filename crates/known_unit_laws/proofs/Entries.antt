@@ -2,12 +2,13 @@
 use Rattle.std.proofs.Common.{◌≡◌, ℕ, zero, suc, ◌+◌, ◌-◌, ◌<◌, ◌≤◌, Bool, true, false, Option, None, eqb, refl, sym}
 use Rattle.std.proofs.Common.{ap}
 use Rattle.std.proofs.Common.{◌∙◌}
-use Rattle.std.proofs.Common.{if◌then◌else◌, arith, true-eqb, false-eqb, eq-eqb, ne_eqb, lt-ltb, nat_lt, [], ◌∷◌, List}
+use Rattle.std.proofs.Common.{if◌then◌else◌, arith, true-eqb, false-eqb, eq-eqb, ne_eqb, lt-ltb, nat_lt, [], ◌∷◌}
+use Rattle.std.proofs.Common.{List}
 use Rattle.std.proofs.lemmas.Bool.{cases_Bool, eqb-false, ltb-true}
 use Rattle.std.proofs.Math.Path.{fun_ext}
 use Rattle.header_types.specs.SequenceParameterSets.{size_in_ctbs}
-use Rattle.plan_types.specs.declared.picture_plan.PicturePlan.{PicturePlan}
-use Rattle.block_geometry.specs.CodingTreeBlocks.{is_decoded_before}
+use Rattle.spec_known_units.specs.PlanTypes.{PicturePlan}
+use Rattle.unit_tree_laws.specs.BlockGeometry.{is_decoded_before}
 use Rattle.spec_known_units.specs.Known.{Entries, KnownUnit, entries_before, known_of, picture_segments, read_in}
 use Rattle.spec_known_units.specs.Known.{segment_having, unit_read, units_known, units_to}
 

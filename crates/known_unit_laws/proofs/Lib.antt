@@ -3,3 +3,5 @@ pub mod Lookup
 pub mod Beside
 pub mod Reading
 pub mod UnitTreeLaws
+pub mod CodingQuadtreeLemmas
+pub mod UnitTreesLemmas

@@ -1,13 +1,14 @@
 -- Which segment has a unit.
-use Rattle.std.proofs.Common.{◌≡◌, ℕ, ◌+◌, ◌-◌, ◌<◌, ◌≤◌, Bool, true, false, ◌&&◌, List, [], ◌∷◌, Option, Some, nat_le}
+use Rattle.std.proofs.Common.{◌≡◌, ℕ, ◌+◌, ◌-◌, ◌<◌, ◌≤◌, Bool, true, false, ◌&&◌, List, [], ◌∷◌, Option, Some}
+use Rattle.std.proofs.Common.{nat_le}
 use Rattle.std.proofs.Common.{nat_lt}
 use Rattle.std.proofs.Common.{if◌then◌else◌, refl, ap, ◌∙◌, arith, le-leb, lt-ltb, max, min}
 use Rattle.std.proofs.lemmas.Bool.{and_from, and_right, false_from_ne_true, ltb-true}
 use Rattle.header_types.specs.SequenceParameterSets.{size_in_ctbs}
-use Rattle.plan_types.specs.declared.picture_plan.PicturePlan.{PicturePlan}
-use Rattle.plan_types.specs.declared.segment_plan.SegmentPlan.{SegmentPlan}
-use Rattle.spec_picture_trees.specs.Picture.{SegmentAt, segment_at}
-use Rattle.spec_picture_trees.specs.Shapes.{end_of, segment_shape}
+use Rattle.spec_known_units.specs.PlanTypes.{PicturePlan}
+use Rattle.spec_known_units.specs.PlanTypes.{SegmentPlan}
+use Rattle.spec_known_units.specs.SpecPictureTrees.{SegmentAt, segment_at}
+use Rattle.spec_known_units.specs.SpecPictureTrees.{end_of, segment_shape}
 use Rattle.spec_known_units.specs.Known.{is_in, segment_having, segments_from}
 
 not_below : (a b : ℕ) → b ≤ a → nat_lt a b ≡ false

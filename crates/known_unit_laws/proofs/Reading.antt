@@ -13,18 +13,19 @@ use Rattle.std.proofs.lemmas.List.{get_or_append_left, get_or_push, length_push}
 use Rattle.std.proofs.lemmas.List.FromFn.{map-range_with_len_more}
 use Rattle.hv_base.specs.declared.breach.Breach.{Breach}
 use Rattle.header_types.specs.SequenceParameterSets.{height_in_ctbs, size_in_ctbs, width_in_ctbs}
-use Rattle.plan_types.specs.declared.picture_plan.PicturePlan.{PicturePlan}
-use Rattle.plan_types.specs.declared.segment_plan.SegmentPlan.{SegmentPlan}
-use Rattle.block_geometry.specs.CodingTreeBlocks.{ctb_scan}
+use Rattle.spec_known_units.specs.PlanTypes.{PicturePlan}
+use Rattle.spec_known_units.specs.PlanTypes.{SegmentPlan}
+use Rattle.unit_tree_laws.specs.BlockGeometry.{ctb_scan}
 use Rattle.ctu_records.specs.Tree.{Ctu}
-use Rattle.spec_slice_data.specs.Segment.{PictureShape, Between, and_then, no_group, nothing_read, unit_of, unit_step}
-use Rattle.spec_slice_data.specs.Segment.{units_from}
-use Rattle.spec_picture_trees.specs.Shapes.{end_of, picture_shape, segment_shape}
-use Rattle.spec_picture_trees.specs.Picture.{Halt, Progress, SegmentAt, TreeUnit, and_segments, before_picture}
-use Rattle.spec_picture_trees.specs.Picture.{picture_read, segment_at, segment_read, segments_read, then_units}
-use Rattle.spec_picture_trees.specs.Picture.{unit_given}
-use Rattle.spec_picture_trees.specs.Picture.{units_read, with_unit}
-use Rattle.spec_picture_trees.specs.Units.{units_between}
+use Rattle.unit_tree_laws.specs.SpecSliceData.{PictureShape, Between, and_then, no_group, nothing_read, unit_of}
+use Rattle.unit_tree_laws.specs.SpecSliceData.{unit_step}
+use Rattle.unit_tree_laws.specs.SpecSliceData.{units_from}
+use Rattle.spec_known_units.specs.SpecPictureTrees.{end_of, picture_shape, segment_shape}
+use Rattle.spec_known_units.specs.SpecPictureTrees.{Halt, Progress, SegmentAt, TreeUnit, and_segments, before_picture}
+use Rattle.spec_known_units.specs.SpecPictureTrees.{picture_read, segment_at, segment_read, segments_read, then_units}
+use Rattle.spec_known_units.specs.SpecPictureTrees.{unit_given}
+use Rattle.spec_known_units.specs.SpecPictureTrees.{units_read, with_unit}
+use Rattle.spec_known_units.specs.SpecPictureTrees.{units_between}
 use Rattle.unit_tree_laws.specs.Agreement.{AddsSame, IsSameStep, stores}
 use Rattle.unit_tree_laws.proofs.Stored.{second_stores, units_keep}
 use Rattle.unit_tree_laws.proofs.Units.{steps_same}

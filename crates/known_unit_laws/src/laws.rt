@@ -2,8 +2,8 @@
 
 ghost use Rattle.std.specs.Prelude.{◌≡◌, ℕ, ◌<◌, []};
 ghost use Rattle.header_types.specs.SequenceParameterSets.{size_in_ctbs};
-ghost use Rattle.plan_types.specs.declared.picture_plan.PicturePlan.{PicturePlan};
-ghost use Rattle.spec_picture_trees.specs.Picture.{picture_read};
+ghost use Rattle.spec_known_units.specs.PlanTypes.{PicturePlan};
+ghost use Rattle.spec_known_units.specs.SpecPictureTrees.{picture_read};
 ghost use Rattle.spec_known_units.specs.InOrder.{IsAsInOrder};
 ghost use Rattle.spec_known_units.specs.Known.{known_of, unit_read, units_known};
 

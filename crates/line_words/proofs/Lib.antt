@@ -3,3 +3,4 @@ pub mod Bad
 pub mod Waiting
 pub mod Drawing
 pub mod Apart
+pub mod FlightLinesLemmas

@@ -14,8 +14,7 @@ use crate::row_facts::RowFacts;
 use board_core::Needs;
 use flight_lines::need_at;
 use hv_base::UnitNumber;
-use hv_io::Gate;
-use progress_words::{Board, Pass, Waited};
+use progress_words::{Board, Gate, Pass, Waited};
 use sample_words::Layout;
 use std::sync::Wait;
 

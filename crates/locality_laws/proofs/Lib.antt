@@ -9,3 +9,4 @@ pub mod Needed
 pub mod Motion
 pub mod Moved
 pub mod Whole
+pub mod PictureLayoutLemmas

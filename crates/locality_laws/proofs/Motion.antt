@@ -6,17 +6,18 @@ use Rattle.std.proofs.lemmas.Bool.Decides.{nat_tests}
 use Rattle.std.proofs.lemmas.Nat.{pow_pos}
 use Rattle.block_geometry.specs.CodingTreeBlocks.{is_from}
 use Rattle.header_types.specs.declared.reference_pictures.RefEntry.{RefEntry}
-use Rattle.plan_types.specs.declared.picture_plan.PicturePlan.{PicturePlan}
-use Rattle.plan_types.specs.declared.segment_plan.SegmentPlan.{SegmentPlan}
-use Rattle.plan_types.specs.Segments.{address_of}
-use Rattle.spec_slice_data.specs.Segment.{PictureShape}
+use Rattle.picture_layout.specs.PlanTypes.{PicturePlan}
+use Rattle.picture_layout.specs.PlanTypes.{SegmentPlan}
+use Rattle.picture_layout.specs.PlanTypes.{address_of}
+use Rattle.picture_layout.specs.SpecSliceData.{PictureShape}
 use Rattle.spec_motion.specs.declared.slice_motion.SliceMotion.{SliceMotion}
 use Rattle.spec_motion.specs.Units.{unit_derived}
 use Rattle.spec_motion.specs.Vectors.{Beneath, Known}
-use Rattle.spec_picture_trees.specs.Picture.{TreeUnit}
-use Rattle.spec_picture_trees.specs.Places.{first_column, first_row, has_place, is_available, is_of_unit, unit_at}
-use Rattle.spec_picture_trees.specs.Places.{unit_places}
-use Rattle.spec_picture_trees.specs.Shapes.{picture_shape, slice_start}
+use Rattle.picture_layout.specs.SpecPictureTrees.{TreeUnit}
+use Rattle.picture_layout.specs.SpecPictureTrees.{first_column, first_row, has_place, is_available, is_of_unit}
+use Rattle.picture_layout.specs.SpecPictureTrees.{unit_at}
+use Rattle.picture_layout.specs.SpecPictureTrees.{unit_places}
+use Rattle.picture_layout.specs.SpecPictureTrees.{picture_shape, slice_start}
 use Rattle.spec_picture_motion.specs.Derived.{References, collocated_motions, known_of_unit}
 use Rattle.spec_picture_motion.specs.Field.{Motions, beneath_unit, collocated_of, is_border, known_beside}
 use Rattle.spec_picture_motion.specs.Field.{motion_beside}

@@ -3,15 +3,15 @@ use Rattle.std.proofs.Common.{◌≡◌, ◌≢◌, ℕ, suc, ◌+◌, ◌-◌, 
 use Rattle.std.proofs.Common.{◌∷◌}
 use Rattle.std.proofs.Common.{◌++◌, All, refl, sym, ap, ◌∙◌, if◌then◌else◌, slice_get, fold, arith}
 use Rattle.std.proofs.lemmas.Bool.{false≢true}
-use Rattle.plan_types.specs.declared.segment_plan.SegmentPlan.{SegmentPlan}
-use Rattle.plan_types.specs.declared.picture_plan.PicturePlan.{PicturePlan}
-use Rattle.plan_types.specs.Segments.{address_of}
-use Rattle.picture_buffer.specs.declared.place_motion.PlaceMotion.{PlaceMotion}
-use Rattle.spec_slice_data.specs.Segment.{PictureShape}
+use Rattle.picture_layout.specs.PlanTypes.{SegmentPlan}
+use Rattle.picture_layout.specs.PlanTypes.{PicturePlan}
+use Rattle.picture_layout.specs.PlanTypes.{address_of}
+use Rattle.spec_picture_motion.specs.PictureBuffer.{PlaceMotion}
+use Rattle.picture_layout.specs.SpecSliceData.{PictureShape}
 use Rattle.spec_motion.specs.Vectors.{Known}
-use Rattle.spec_picture_trees.specs.Picture.{TreeUnit}
-use Rattle.spec_picture_trees.specs.Places.{first_column, first_row, is_of_unit, unit_at, unit_places}
-use Rattle.spec_picture_trees.specs.Shapes.{picture_shape, slice_start}
+use Rattle.picture_layout.specs.SpecPictureTrees.{TreeUnit}
+use Rattle.picture_layout.specs.SpecPictureTrees.{first_column, first_row, is_of_unit, unit_at, unit_places}
+use Rattle.picture_layout.specs.SpecPictureTrees.{picture_shape, slice_start}
 use Rattle.spec_picture_motion.specs.Derived.{References, added_in, collocated_motions, known_of_unit, unit_added}
 use Rattle.spec_picture_motion.specs.Derived.{units_derived, with_unit}
 use Rattle.spec_picture_motion.specs.Field.{Motions, no_motions, pointing_motion, unit_laid}

@@ -26,13 +26,14 @@ use Rattle.spec_inter_prediction.specs.Taps.{clamped}
 use Rattle.spec_inter_prediction.specs.Chroma.{chroma_sample}
 use Rattle.spec_inter_prediction.specs.Luma.{luma_sample}
 use Rattle.spec_inter_prediction.proofs.Filters.{block_same}
-use Rattle.spec_reconstruction.specs.declared.format.UnitFormat.{UnitFormat}
-use Rattle.spec_reconstruction.specs.Inter.{InterUnit, Pictures, inter_sample, motion_weighting, predicted_by}
-use Rattle.spec_reconstruction.specs.Inter.{sample_by, samples_of}
-use Rattle.spec_reconstruction.specs.Known.{Known}
-use Rattle.spec_reconstruction.specs.Parameters.{depth_of}
-use Rattle.spec_reconstruction.specs.Unit.{unit_built}
-use Rattle.spec_slice_data.specs.Residual.{samples_of_place}
+use Rattle.spec_picture_build.specs.SpecReconstruction.{UnitFormat}
+use Rattle.spec_picture_build.specs.SpecReconstruction.{InterUnit, Pictures, inter_sample, motion_weighting}
+use Rattle.spec_picture_build.specs.SpecReconstruction.{predicted_by}
+use Rattle.spec_picture_build.specs.SpecReconstruction.{sample_by, samples_of}
+use Rattle.spec_picture_build.specs.SpecReconstruction.{Known}
+use Rattle.spec_picture_build.specs.SpecReconstruction.{depth_of}
+use Rattle.spec_picture_build.specs.SpecReconstruction.{unit_built}
+use Rattle.picture_layout.specs.SpecSliceData.{samples_of_place}
 use Rattle.spec_picture_build.specs.References.{DecodedPicture, format_height, format_width, greatest_sample}
 use Rattle.spec_picture_build.specs.References.{pictures_of, reference_sample}
 use Rattle.locality_laws.specs.Needed.{AgreeAlong, AgreeByMotion, AgreeForItem, AgreeWhereNeeded, HaveSameRows}

@@ -10,12 +10,13 @@ use Rattle.ctu_records.specs.declared.prediction.PredictionUnit.{PredictionUnit}
 use Rattle.ctu_records.specs.declared.prediction.Rectangle.{Rectangle}
 use Rattle.ctu_records.specs.Prediction.{is_inside, part_block, rectangle}
 use Rattle.spec_motion.specs.declared.vectors.Motion.{Motion}
-use Rattle.spec_reconstruction.specs.declared.format.UnitFormat.{UnitFormat}
-use Rattle.spec_reconstruction.specs.Inter.{InterUnit, Pictures, block_predicted_by, component_predicted, inter_sample}
-use Rattle.spec_reconstruction.specs.Inter.{prediction_laid, rectangle_laid, samples_of}
-use Rattle.spec_reconstruction.specs.Known.{Known}
-use Rattle.spec_reconstruction.specs.Unit.{Building, before_unit, item_built, items_built, unit_built}
-use Rattle.spec_slice_data.specs.Residual.{samples_of_place}
+use Rattle.spec_picture_build.specs.SpecReconstruction.{UnitFormat}
+use Rattle.spec_picture_build.specs.SpecReconstruction.{InterUnit, Pictures, block_predicted_by, component_predicted}
+use Rattle.spec_picture_build.specs.SpecReconstruction.{inter_sample}
+use Rattle.spec_picture_build.specs.SpecReconstruction.{prediction_laid, rectangle_laid, samples_of}
+use Rattle.spec_picture_build.specs.SpecReconstruction.{Known}
+use Rattle.spec_picture_build.specs.SpecReconstruction.{Building, before_unit, item_built, items_built, unit_built}
+use Rattle.picture_layout.specs.SpecSliceData.{samples_of_place}
 use Rattle.locality_laws.specs.References.{ReadsSame, SamplesSame, part_of, with_pictures}
 
 some_if : (b : Bool) (x y : ℕ) (k : Option ℕ) → (b ≡ true → x ≡ y)

@@ -5,10 +5,10 @@ use Rattle.std.proofs.Common.{Option, Some, None, refl, sym, ap, ◌∙◌, if�
 use Rattle.std.proofs.lemmas.Bool.{and_parts, eqb-true, leb-true, ltb-true}
 use Rattle.std.proofs.lemmas.Nat.{pow_pos}
 use Rattle.block_geometry.specs.CodingTreeBlocks.{is_from}
-use Rattle.spec_slice_data.specs.Residual.{samples_of_place}
-use Rattle.spec_slice_data.specs.Segment.{PictureShape}
-use Rattle.spec_reconstruction.specs.Known.{Known}
-use Rattle.spec_picture_trees.specs.Places.{unit_at}
+use Rattle.picture_layout.specs.SpecSliceData.{samples_of_place}
+use Rattle.picture_layout.specs.SpecSliceData.{PictureShape}
+use Rattle.spec_picture_build.specs.SpecReconstruction.{Known}
+use Rattle.picture_layout.specs.SpecPictureTrees.{unit_at}
 use Rattle.spec_picture_build.specs.Border.{Samples, has_sample, is_available, is_inside, known_beside, sample_beside}
 use Rattle.spec_picture_build.specs.Border.{unit_column, unit_line, unit_side}
 use Rattle.spec_picture_build.specs.Built.{is_of_unit, unit_laid}

@@ -4,16 +4,16 @@ use Rattle.std.proofs.Common.{List, []}
 use Rattle.std.proofs.Common.{◌∷◌, ◌++◌, All, refl, sym, ap, ◌∙◌, if◌then◌else◌, slice_get, fold, arith, subst}
 use Rattle.std.proofs.lemmas.Bool.{false≢true}
 use Rattle.std.specs.Option.{unwrap_or}
-use Rattle.spec_reconstruction.specs.Known.{Known}
-use Rattle.plan_types.specs.declared.segment_plan.SegmentPlan.{SegmentPlan}
-use Rattle.plan_types.specs.declared.picture_plan.PicturePlan.{PicturePlan}
-use Rattle.plan_types.specs.Segments.{address_of}
-use Rattle.spec_slice_data.specs.Segment.{PictureShape}
-use Rattle.spec_picture_trees.specs.Picture.{TreeUnit}
-use Rattle.spec_picture_trees.specs.Places.{unit_at}
-use Rattle.spec_picture_trees.specs.Shapes.{picture_shape, slice_start}
-use Rattle.spec_reconstruction.specs.Inter.{InterUnit}
-use Rattle.spec_reconstruction.specs.Unit.{unit_built}
+use Rattle.spec_picture_build.specs.SpecReconstruction.{Known}
+use Rattle.picture_layout.specs.PlanTypes.{SegmentPlan}
+use Rattle.picture_layout.specs.PlanTypes.{PicturePlan}
+use Rattle.picture_layout.specs.PlanTypes.{address_of}
+use Rattle.picture_layout.specs.SpecSliceData.{PictureShape}
+use Rattle.picture_layout.specs.SpecPictureTrees.{TreeUnit}
+use Rattle.picture_layout.specs.SpecPictureTrees.{unit_at}
+use Rattle.picture_layout.specs.SpecPictureTrees.{picture_shape, slice_start}
+use Rattle.spec_picture_build.specs.SpecReconstruction.{InterUnit}
+use Rattle.spec_picture_build.specs.SpecReconstruction.{unit_built}
 use Rattle.spec_picture_build.specs.Border.{Samples, known_beside, unit_column, unit_line, unit_side}
 use Rattle.spec_picture_build.specs.Built.{BuiltPicture, added_in, is_of_unit, no_picture, samples_added, unit_added}
 use Rattle.spec_picture_build.specs.Built.{unit_inter, unit_laid, units_built, with_unit}

@@ -1,21 +1,22 @@
 -- The samples of each unit of a picture are the step of what stands beside it, and of the pictures that it refers to.
-use Rattle.std.proofs.Common.{◌≡◌, ℕ, ◌<◌, ◌≤◌, Option, Some, None, List, [], ◌∷◌, ◌++◌, All, refl, sym, ap, ◌∙◌, true}
+use Rattle.std.proofs.Common.{◌≡◌, ℕ, ◌<◌, ◌≤◌, Option, Some, None, List, [], ◌∷◌, ◌++◌, All, refl, sym, ap, ◌∙◌}
+use Rattle.std.proofs.Common.{true}
 use Rattle.std.proofs.Common.{slice_get, fold}
-use Rattle.plan_types.specs.declared.segment_plan.SegmentPlan.{SegmentPlan}
-use Rattle.plan_types.specs.declared.picture_plan.PicturePlan.{PicturePlan}
-use Rattle.plan_types.specs.Segments.{address_of}
-use Rattle.spec_slice_data.specs.Segment.{PictureShape}
+use Rattle.picture_layout.specs.PlanTypes.{SegmentPlan}
+use Rattle.picture_layout.specs.PlanTypes.{PicturePlan}
+use Rattle.picture_layout.specs.PlanTypes.{address_of}
+use Rattle.picture_layout.specs.SpecSliceData.{PictureShape}
 use Rattle.spec_motion.specs.Vectors as motion
-use Rattle.spec_picture_trees.specs.Picture.{TreeUnit}
-use Rattle.spec_picture_trees.specs.Places.{first_column, first_row}
-use Rattle.spec_picture_trees.specs.Shapes.{picture_shape, slice_start}
+use Rattle.picture_layout.specs.SpecPictureTrees.{TreeUnit}
+use Rattle.picture_layout.specs.SpecPictureTrees.{first_column, first_row}
+use Rattle.picture_layout.specs.SpecPictureTrees.{picture_shape, slice_start}
 use Rattle.spec_picture_motion.specs.Derived.{collocated_motions, known_of_unit, units_derived}
 use Rattle.spec_picture_motion.specs.Derived as derived
 use Rattle.spec_picture_motion.specs.Field.{Motions}
 use Rattle.spec_picture_motion.specs.Slices.{collocated_entry, slice_motion}
-use Rattle.spec_reconstruction.specs.Inter.{InterUnit}
-use Rattle.spec_reconstruction.specs.Known.{Known}
-use Rattle.spec_reconstruction.specs.Unit.{unit_built}
+use Rattle.spec_picture_build.specs.SpecReconstruction.{InterUnit}
+use Rattle.spec_picture_build.specs.SpecReconstruction.{Known}
+use Rattle.spec_picture_build.specs.SpecReconstruction.{unit_built}
 use Rattle.spec_picture_build.specs.Border.{Samples, known_beside}
 use Rattle.spec_picture_build.specs.Built.{BuiltPicture, added_in, is_of_unit, no_picture, samples_added, unit_added}
 use Rattle.spec_picture_build.specs.Built.{unit_inter, unit_laid, units_built, with_unit}

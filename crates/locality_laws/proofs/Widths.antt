@@ -4,8 +4,8 @@ use Rattle.std.proofs.lemmas.Nat.{le-div, mod-mul-add, pow-add, pow_pos}
 use Rattle.picture_layout.proofs.Places.{whole}
 use Rattle.header_types.specs.declared.sps.SpsFields.{SpsFields}
 use Rattle.header_types.specs.SequenceParameterSets.{IsSps, blocks_across, ctb_log2, min_cb_log2}
-use Rattle.plan_types.specs.declared.picture_plan.PicturePlan.{PicturePlan}
-use Rattle.spec_picture_trees.specs.Shapes.{picture_shape}
+use Rattle.picture_layout.specs.PlanTypes.{PicturePlan}
+use Rattle.picture_layout.specs.SpecPictureTrees.{picture_shape}
 use Rattle.locality_laws.specs.Needed.{IsHalved}
 
 some_blocks : (block side : ℕ) → 0 < block → 1 ≤ side → 1 ≤ blocks_across block side

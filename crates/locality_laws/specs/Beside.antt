@@ -1,6 +1,6 @@
 -- Samples that agree where a coding tree unit may read them.
 use Rattle.std.specs.Prelude.{◌≡◌, ℕ, ◌+◌, ◌*◌, ◌==◌, ◌&&◌, ◌||◌, nat_le, nat_lt, Bool, true}
-use Rattle.spec_slice_data.specs.Segment.{PictureShape}
+use Rattle.picture_layout.specs.SpecSliceData.{PictureShape}
 use Rattle.spec_picture_build.specs.Border.{Samples, is_available, unit_column, unit_line, unit_side}
 
 -- whether a column and a line are at the border of a square of so many columns and lines from a first column and line

@@ -2,3 +2,8 @@ pub mod Beside
 pub mod Motion
 pub mod References
 pub mod Needed
+pub mod SpecPictureBuild
+pub mod SpecReconstruction
+pub mod SpecPictureMotion
+pub mod PictureBuffer
+pub mod BlockGeometry

@@ -1,7 +1,7 @@
 -- Motion that agrees where a coding tree unit may read it.
 use Rattle.std.specs.Prelude.{◌≡◌, ℕ, ◌+◌, ◌*◌, ◌<◌, ◌≤◌, true}
-use Rattle.spec_slice_data.specs.Segment.{PictureShape}
-use Rattle.spec_picture_trees.specs.Places.{first_column, first_row, is_available, unit_places}
+use Rattle.picture_layout.specs.SpecSliceData.{PictureShape}
+use Rattle.picture_layout.specs.SpecPictureTrees.{first_column, first_row, is_available, unit_places}
 use Rattle.spec_picture_motion.specs.Field.{Motions}
 use Rattle.locality_laws.specs.Beside.{is_at_border}
 

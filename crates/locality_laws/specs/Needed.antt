@@ -1,5 +1,6 @@
 -- Pictures of two buffers that agree in the rows of coding tree blocks that the prediction units of a unit need.
-use Rattle.std.specs.Prelude.{◌≡◌, ℕ, ◌+◌, ◌-◌, ◌*◌, ◌/◌, ◌%◌, ◌^◌, ◌<◌, ◌≤◌, ◌==◌, ℤ, pos, ◌+ℤ◌, ◌-ℤ◌, List, slice_get}
+use Rattle.std.specs.Prelude.{◌≡◌, ℕ, ◌+◌, ◌-◌, ◌*◌, ◌/◌, ◌%◌, ◌^◌, ◌<◌, ◌≤◌, ◌==◌, ℤ, pos, ◌+ℤ◌, ◌-ℤ◌, List}
+use Rattle.std.specs.Prelude.{slice_get}
 use Rattle.std.specs.Prelude.{Option, Some, None, ⊤, if◌then◌else◌}
 use Rattle.std.specs.Int.{int_shr}
 use Rattle.block_geometry.specs.Rows.{row_of_line}
@@ -11,7 +12,7 @@ use Rattle.header_types.specs.declared.sps.PictureFormat.{PictureFormat}
 use Rattle.spec_motion.specs.declared.vectors.Motion.{Motion}
 use Rattle.spec_motion.specs.declared.vectors.Vector.{Vector}
 use Rattle.spec_motion.specs.Vectors.{reference_in}
-use Rattle.spec_reconstruction.specs.Inter.{InterUnit}
+use Rattle.spec_picture_build.specs.SpecReconstruction.{InterUnit}
 use Rattle.spec_picture_build.specs.References.{DecodedPicture, format_height, format_width}
 
 -- sides of which chroma has half, in whole samples

@@ -6,9 +6,9 @@ use Rattle.ctu_records.specs.declared.item.Item.TheVariants.{Delta, Block, Level
 use Rattle.ctu_records.specs.declared.prediction.Rectangle.{Rectangle}
 use Rattle.ctu_records.specs.Prediction.{is_inside, part_block, rectangle}
 use Rattle.spec_motion.specs.declared.vectors.Motion.{Motion}
-use Rattle.spec_reconstruction.specs.declared.format.UnitFormat.{UnitFormat}
-use Rattle.spec_reconstruction.specs.Inter.{InterUnit, Pictures, inter_sample, samples_of}
-use Rattle.spec_slice_data.specs.Residual.{samples_of_place}
+use Rattle.spec_picture_build.specs.SpecReconstruction.{UnitFormat}
+use Rattle.spec_picture_build.specs.SpecReconstruction.{InterUnit, Pictures, inter_sample, samples_of}
+use Rattle.picture_layout.specs.SpecSliceData.{samples_of_place}
 
 abbrev pub with_pictures : InterUnit → Pictures → InterUnit
 with_pictures inter f = record {

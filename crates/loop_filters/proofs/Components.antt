@@ -1,6 +1,6 @@
 -- Components of a format.
 use Rattle.std.proofs.Common.{◌≡◌, ℕ, zero, suc, ◌/◌, ◌%◌, ◌<◌, refl, sym, ◌∙◌, arith}
-use Rattle.spec_deblocking.specs.declared.place.Plane.TheVariants.{Luma}
+use Rattle.spec_loop_filters.specs.SpecDeblocking.{Luma}
 use Rattle.spec_loop_filters.specs.declared.format.FilterFormat.{FilterFormat}
 use Rattle.spec_loop_filters.specs.Filters.{height_of, width_of}
 use Rattle.picture_buffer.specs.Planes.{HasSides, PictureSamples, plane_height, plane_width}

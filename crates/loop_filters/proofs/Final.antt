@@ -2,13 +2,14 @@
 use Rattle.std.proofs.Common.{◌≡◌, ℕ, ◌%◌, ◌<◌, List, refl, ap, sym, subst, ◌∙◌, arith}
 use Rattle.std.proofs.Math.Path.{fun_ext}
 use Rattle.deblock.specs.Windows.{at}
-use Rattle.spec_deblocking.specs.declared.place.Place.{Place}
-use Rattle.spec_deblocking.specs.declared.place.Plane.{Plane}
-use Rattle.spec_deblocking.specs.Planes.{deblocked, vertical}
-use Rattle.spec_deblocking.proofs.Locality.{horizontal_rows, vertical_rows}
+use Rattle.spec_loop_filters.specs.SpecDeblocking.{Place}
+use Rattle.spec_loop_filters.specs.SpecDeblocking.{Plane}
+use Rattle.spec_loop_filters.specs.SpecDeblocking.{deblocked, vertical}
+use Rattle.spec_loop_filters.proofs.SpecDeblockingLemmas.{horizontal_rows, vertical_rows}
 use Rattle.spec_sample_adaptive_offset.specs.Plane.{OffsetPlane, offset_sample}
 use Rattle.spec_sample_adaptive_offset.proofs.Samples.{beside_alone}
-use Rattle.spec_loop_filters.specs.Filters.{LoopFilters, Samples, deblocked_samples, depth_of, final_samples, height_of}
+use Rattle.spec_loop_filters.specs.Filters.{LoopFilters, Samples, deblocked_samples, depth_of, final_samples}
+use Rattle.spec_loop_filters.specs.Filters.{height_of}
 use Rattle.spec_loop_filters.specs.Filters.{offset_plane, plane_of, width_of}
 use Rattle.loop_filters.specs.declared.component.Component.{Component}
 use Rattle.loop_filters.specs.Formats.{IsComponent}

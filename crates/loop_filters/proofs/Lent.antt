@@ -1,6 +1,7 @@
 -- The samples of a component that are lent by the planes of a picture.
 use Rattle.std.proofs.Common.{◌≡◌, ℕ, ◌*◌, ◌<◌, List, length, ap, sym, subst, ◌∙◌}
-use Rattle.picture_buffer.specs.Planes.{HasSides, PictureSamples, plane_height, plane_samples, plane_width, samples_of}
+use Rattle.picture_buffer.specs.Planes.{HasSides, PictureSamples, plane_height, plane_samples, plane_width}
+use Rattle.picture_buffer.specs.Planes.{samples_of}
 use Rattle.picture_buffer.specs.Planes.{with_component}
 use Rattle.picture_buffer.proofs.Lent.{read_at, written_at}
 use Rattle.deblock.specs.Windows.{at}

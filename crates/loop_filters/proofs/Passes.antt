@@ -1,5 +1,6 @@
 -- The edges of a row of coding tree blocks.
-use Rattle.std.proofs.Common.{◌≡◌, ℕ, ◌-◌, ◌+◌, ◌*◌, ◌/◌, ◌%◌, ◌<◌, ◌≤◌, ◌&&◌, Bool, true, false, cond, nat_le, nat_lt}
+use Rattle.std.proofs.Common.{◌≡◌, ℕ, ◌-◌, ◌+◌, ◌*◌, ◌/◌, ◌%◌, ◌<◌, ◌≤◌, ◌&&◌, Bool, true, false, cond, nat_le}
+use Rattle.std.proofs.Common.{nat_lt}
 use Rattle.std.proofs.Common.{List, inl, inr, refl, ap, sym, ◌∙◌, arith}
 use Rattle.std.specs.Prelude.{min}
 use Rattle.std.proofs.Math.Path.{fun_ext}
@@ -10,13 +11,13 @@ use Rattle.deblock.specs.Windows.{at}
 use Rattle.deblock.proofs.Edges.{edge_alone}
 use Rattle.deblock.proofs.Laying.{cond_no, cond_yes}
 use Rattle.deblock.proofs.Lines.{beside_of}
-use Rattle.spec_deblocking.specs.declared.place.Place.{Place}
-use Rattle.spec_deblocking.specs.declared.place.Plane.{Plane}
-use Rattle.spec_deblocking.specs.declared.place.Plane.TheVariants.{Luma, Chroma}
-use Rattle.spec_deblocking.specs.Places.{side, turned}
-use Rattle.spec_deblocking.specs.Planes.{deblocked, vertical, horizontal}
-use Rattle.spec_deblocking.proofs.Across.{if_same}
-use Rattle.spec_deblocking.proofs.Locality.{first_line, vertical_rows}
+use Rattle.spec_loop_filters.specs.SpecDeblocking.{Place}
+use Rattle.spec_loop_filters.specs.SpecDeblocking.{Plane}
+use Rattle.spec_loop_filters.specs.SpecDeblocking.{Luma, Chroma}
+use Rattle.spec_loop_filters.specs.SpecDeblocking.{side, turned}
+use Rattle.spec_loop_filters.specs.SpecDeblocking.{deblocked, vertical, horizontal}
+use Rattle.spec_loop_filters.proofs.SpecDeblockingLemmas.{if_same}
+use Rattle.spec_loop_filters.proofs.SpecDeblockingLemmas.{first_line, vertical_rows}
 use Rattle.loop_filters.specs.declared.component.Component.{Component}
 use Rattle.loop_filters.specs.Formats.{IsPlane}
 use Rattle.loop_filters.specs.Rows.{IsStage, row_of}

@@ -3,10 +3,10 @@ use Rattle.std.proofs.Common.{◌^◌, Bool, false, ◌≡◌, ℕ, ◌+◌, ◌
 use Rattle.std.proofs.Common.{◌∙◌, arith}
 use Rattle.std.specs.Prelude.{min}
 use Rattle.std.proofs.Math.Nat.{mul-le-mul_left, mul-le-mul, lt_of_mul-lt-mul_left, mul-add-div}
-use Rattle.spec_deblocking.specs.declared.place.Place.{Place}
-use Rattle.spec_deblocking.specs.declared.place.Plane.{Plane}
-use Rattle.spec_deblocking.specs.declared.place.Plane.TheVariants.{Luma, Chroma}
-use Rattle.spec_deblocking.specs.Places.{side}
+use Rattle.spec_loop_filters.specs.SpecDeblocking.{Place}
+use Rattle.spec_loop_filters.specs.SpecDeblocking.{Plane}
+use Rattle.spec_loop_filters.specs.SpecDeblocking.{Luma, Chroma}
+use Rattle.spec_loop_filters.specs.SpecDeblocking.{side}
 use Rattle.loop_filters.proofs.Copied.{line_below}
 
 -- each row begins in the plane

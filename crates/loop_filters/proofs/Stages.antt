@@ -7,8 +7,8 @@ use Rattle.deblock.specs.Samples.{IsBounded}
 use Rattle.deblock.specs.Windows.{at}
 use Rattle.deblock.proofs.Depths.{power_few}
 use Rattle.deblock.proofs.Laying.{cond_no, cond_yes}
-use Rattle.spec_deblocking.specs.declared.place.Place.{Place}
-use Rattle.spec_deblocking.specs.Planes.{deblocked, vertical}
+use Rattle.spec_loop_filters.specs.SpecDeblocking.{Place}
+use Rattle.spec_loop_filters.specs.SpecDeblocking.{deblocked, vertical}
 use Rattle.spec_sample_adaptive_offset.specs.Plane.{OffsetPlane, offset_sample}
 use Rattle.spec_sample_adaptive_offset.proofs.Samples.{in_range}
 use Rattle.loop_filters.specs.declared.component.Component.{Component}

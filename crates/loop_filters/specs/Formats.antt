@@ -1,8 +1,8 @@
 -- Pictures and their components, as the filters take them.
 use Rattle.std.specs.Prelude.{◌≡◌, ◌≤◌, ◌<◌, ℕ, ◌+◌, ◌-◌, ◌*◌, ◌/◌, ◌%◌, ◌^◌, ℤ}
-use Rattle.spec_deblocking.specs.declared.place.Place.{Place}
-use Rattle.spec_deblocking.specs.declared.place.Plane.TheVariants.{Chroma}
-use Rattle.spec_deblocking.specs.Places.{side}
+use Rattle.spec_loop_filters.specs.SpecDeblocking.{Place}
+use Rattle.spec_loop_filters.specs.SpecDeblocking.{Chroma}
+use Rattle.spec_loop_filters.specs.SpecDeblocking.{side}
 use Rattle.spec_sample_adaptive_offset.specs.declared.unit.OffsetUnit.{OffsetUnit}
 use Rattle.spec_loop_filters.specs.declared.format.FilterFormat.{FilterFormat}
 use Rattle.spec_loop_filters.specs.Filters.{LoopFilters, depth_of, height_of, plane_of, size_of, width_of}

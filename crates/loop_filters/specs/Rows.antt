@@ -1,7 +1,7 @@
 -- Rows of coding tree blocks in a plane.
 use Rattle.std.specs.Prelude.{◌≡◌, ◌<◌, ◌≤◌, ℕ, ◌+◌, ◌-◌, ◌*◌, ◌/◌, ◌^◌, List, min, slice_index_or}
-use Rattle.spec_deblocking.specs.declared.place.Place.{Place}
-use Rattle.spec_deblocking.specs.Planes.{deblocked, vertical}
+use Rattle.spec_loop_filters.specs.SpecDeblocking.{Place}
+use Rattle.spec_loop_filters.specs.SpecDeblocking.{deblocked, vertical}
 use Rattle.spec_sample_adaptive_offset.specs.declared.unit.OffsetUnit.{OffsetUnit}
 use Rattle.spec_sample_adaptive_offset.specs.Plane.{offset_sample}
 use Rattle.spec_loop_filters.specs.declared.format.FilterFormat.{FilterFormat}

@@ -4,8 +4,7 @@ ghost use Rattle.std.specs.Prelude.{◌<◌, ◌≡◌, ℕ};
 ghost use Rattle.spec_loop_filters.specs.Filters.{plane_of, depth_of, width_of, height_of, size_of};
 ghost use Rattle.loop_filters.specs.Formats.{IsComponent, IsFormat, halved};
 
-use spec_deblocking::Plane;
-use spec_loop_filters::FilterFormat;
+use spec_loop_filters::{FilterFormat, Plane};
 
 /// A component of a picture. Sides are in its own samples.
 #[derive(Clone, Copy)]

@@ -14,6 +14,7 @@ mod scratch;
 mod view;
 
 pub use component::{Component, component_of};
+pub use deblock::PlaceView;
 pub use edges::filter_edges;
 pub use offsets::offset_lines;
 pub use picture::filter_picture;

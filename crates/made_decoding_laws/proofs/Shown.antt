@@ -11,7 +11,8 @@ use Rattle.plan_types.specs.declared.picture_plan.PicturePlan.{PicturePlan}
 use Rattle.spec_picture_plan.specs.Planned.{Planned, planned_of}
 use Rattle.spec_picture_build.specs.References.{DecodedPicture}
 use Rattle.spec_decoder.specs.Decoder.{BufferPicture, Decoded, compared, decoded, decoded_data, decoded_from}
-use Rattle.spec_decoder.specs.Decoder.{decoded_picture, entered, finished, hashes_judged, is_among, kept_as, kept_from}
+use Rattle.spec_decoder.specs.Decoder.{decoded_picture, entered, finished, hashes_judged, is_among, kept_as}
+use Rattle.spec_decoder.specs.Decoder.{kept_from}
 use Rattle.spec_decoder.specs.Decoder.{next_out, out_at, picture_out, pictures_in, put_out, with_picture}
 use Rattle.spec_decoder.specs.Output.{OutPicture}
 use Rattle.spec_made.specs.Stream.{made}

@@ -4,7 +4,7 @@ use Rattle.std.specs.Prelude.{Result, Ok, Err}
 use Rattle.plan_types.specs.declared.picture_plan.PicturePlan.{PicturePlan}
 use Rattle.spec_picture_trees.specs.Picture.{PictureBroken}
 use Rattle.spec_picture_build.specs.References.{DecodedPicture}
-use Rattle.spec_decoded_pictures.specs.Decoded.{picture_decoded}
+use Rattle.spec_decoder.specs.SpecDecodedPictures.{picture_decoded}
 use Rattle.made_laws.specs.Outputs.{number_at}
 use Rattle.made_laws.specs.Streams.{plan_of}
 use Rattle.made_picture_laws.specs.Pictures.{IsDecodedAs, IsDrawn}

@@ -4,3 +4,4 @@
 mod laws;
 
 pub use laws::{drawn_pictures_are_shown_in_order, made_streams_decode_as_drawn};
+pub use made_decoding_laws::made_streams_are_decoded;

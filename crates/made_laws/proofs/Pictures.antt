@@ -19,7 +19,8 @@ use Rattle.made_laws.proofs.Lists.{units_from}
 use Rattle.made_laws.proofs.Computed.{plans_computed}
 use Rattle.made_laws.proofs.Facts.{Facts, facts_first, facts_later}
 use Rattle.made_laws.specs.Formers.{former_at}
-use Rattle.made_laws.proofs.Steps.{close_opened, closed_to, opened, plan_by, ready, ready_first, slice_unit, step_hash}
+use Rattle.made_laws.proofs.Steps.{close_opened, closed_to, opened, plan_by, ready, ready_first, slice_unit}
+use Rattle.made_laws.proofs.Steps.{step_hash}
 use Rattle.made_laws.proofs.Steps.{between_sets, step_pps, step_slice, step_sps}
 use Rattle.made_laws.specs.Streams.{slice_in}
 

@@ -12,7 +12,8 @@ use Rattle.spec_bits.proofs.Digits.{length-u_bits}
 use Rattle.spec_cabac.specs.Bins.{Decision, Bypass, Terminate, PcmStart, Sample, PcmEnd, Bin, BinValue}
 use Rattle.spec_cabac.specs.Engine.{doublings}
 use Rattle.spec_formats.specs.Format.{Word}
-use Rattle.cabac_writer.specs.Coding.{Coding, Writing, coded_bits, filling, flushed_bits, is_mps, no_bins, with_bypass}
+use Rattle.cabac_writer.specs.Coding.{Coding, Writing, coded_bits, filling, flushed_bits, is_mps, no_bins}
+use Rattle.cabac_writer.specs.Coding.{with_bypass}
 use Rattle.cabac_writer.specs.Coding.{with_decision, with_terminate, with_word, with_words}
 use Rattle.cabac_writer.specs.Pulses.{section_bits}
 use Rattle.cabac_writer.proofs.ReadBack.{length_coded}

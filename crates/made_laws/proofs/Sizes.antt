@@ -22,7 +22,8 @@ use Rattle.spec_made.specs.InterRows.{size_words, unit_words, vector_words, wher
 use Rattle.rand_pcg.specs.Pcg.{pcg32}
 use Rattle.cabac_writer.specs.Pulses.{contexts_behind}
 use Rattle.spec_made.specs.PcmRows.{Part, bytes_of_part, contexts_behind_parts, later_part, no_samples, part_bytes}
-use Rattle.spec_made.specs.PcmRows.{parts_from, parts_of, pcm_contexts_at, pcm_row, quarter_of, row_bytes, split_parts}
+use Rattle.spec_made.specs.PcmRows.{parts_from, parts_of, pcm_contexts_at, pcm_row, quarter_of, row_bytes}
+use Rattle.spec_made.specs.PcmRows.{split_parts}
 use Rattle.spec_made.specs.PcmRows.{whole_part, whole_word}
 use Rattle.spec_made.specs.Written.{Bins, section_bytes}
 use Rattle.made_laws.proofs.Bytes.{more_before}

@@ -1,6 +1,7 @@
 -- The slice segment headers of a stream that is made (7.3.6.1), in groups of eight pictures: an IDR picture, then P and
 -- B pictures by turns, each P picture two order counts on and the B picture behind it between both.
-use Rattle.std.specs.Prelude.{ℕ, ◌+◌, ◌-◌, ◌%◌, ◌==◌, pos, negsuc, Bool, true, false, List, [], ◌∷◌, Option, Some, None}
+use Rattle.std.specs.Prelude.{ℕ, ◌+◌, ◌-◌, ◌%◌, ◌==◌, pos, negsuc, Bool, true, false, List, [], ◌∷◌, Option, Some}
+use Rattle.std.specs.Prelude.{None}
 use Rattle.std.specs.Prelude.{if◌then◌else◌}
 use Rattle.hv_base.specs.declared.nal_types.TheConstants.{IDR_W_RADL}
 use Rattle.header_types.specs.declared.short_term_set.StRps.{StRps}

@@ -14,7 +14,8 @@ use Rattle.ctu_records.specs.declared.item.Item.{Item}
 use Rattle.spec_boundary_strengths.specs.Places.{unit_place}
 use Rattle.spec_deblocking.specs.declared.place.Place.{Place}
 use Rattle.spec_deblocking.specs.Places.{side}
-use Rattle.spec_loop_filters.specs.Filters.{LoopFilters, height_of as filter_height, plane_of, width_of as filter_width}
+use Rattle.spec_loop_filters.specs.Filters.{LoopFilters, height_of as filter_height, plane_of}
+use Rattle.spec_loop_filters.specs.Filters.{width_of as filter_width}
 use Rattle.spec_reconstruction.specs.Inter.{InterUnit}
 use Rattle.spec_reconstruction.specs.Known.{Known}
 use Rattle.spec_reconstruction.specs.Unit.{unit_built}

@@ -1,6 +1,7 @@
 -- The units of made pictures are spelled by what is written of them.
 use Rattle.std.proofs.Common.{◌≡◌, ℕ, ◌+◌, ◌-◌, ◌*◌, ◌/◌, ◌%◌, ◌<◌, Bool, true, false, List, [], ◌∷◌}
-use Rattle.std.proofs.Common.{◌++◌, length, get_or, refl, sym, ap, ◌∙◌, arith, subst, Option, Some, None, append_assoc}
+use Rattle.std.proofs.Common.{◌++◌, length, get_or, refl, sym, ap, ◌∙◌, arith, subst, Option, Some, None}
+use Rattle.std.proofs.Common.{append_assoc}
 use Rattle.std.proofs.Common.{append-nil}
 use Rattle.std.specs.Prelude.{◌==◌, is_some, if◌then◌else◌}
 use Rattle.ctu_records.specs.declared.item.Item.{Item}
@@ -21,7 +22,8 @@ use Rattle.spec_made.specs.Draws.{no_unit}
 use Rattle.spec_made.specs.Written.{Bins}
 use Rattle.spec_made.specs.InterRows.{left_of, above_of, later_motion, still_where}
 use Rattle.spec_made.specs.PcmRows.{Part, no_samples, parts_of}
-use Rattle.made_row_laws.specs.Shapes.{made_shape, made_inter, made_syntax, made_segment, idr_syntax, predicted_syntax}
+use Rattle.made_row_laws.specs.Shapes.{made_shape, made_inter, made_syntax, made_segment, idr_syntax}
+use Rattle.made_row_laws.specs.Shapes.{predicted_syntax}
 use Rattle.made_row_laws.specs.Units.{IsSecond, IsMotion, inter_items, pcm_items, left_side}
 use Rattle.made_row_laws.specs.Units.{above_side, unit_drawn, units_drawn}
 use Rattle.made_row_laws.specs.Words.{words_of_parts, inter_words, pcm_words, end_behind, flags_behind, pulses_of}

@@ -10,7 +10,8 @@ use Rattle.spec_deblocking.specs.Lines.{across, nth}
 use Rattle.spec_deblocking.specs.Places.{place_before, place_behind, side}
 use Rattle.spec_deblocking.specs.Planes.{deblocked, edge_sample, horizontal, vertical}
 use Rattle.spec_sample_adaptive_offset.specs.Plane.{offset_sample}
-use Rattle.spec_loop_filters.specs.Filters.{LoopFilters, Samples, deblocked_samples, depth_of, final_samples, height_of}
+use Rattle.spec_loop_filters.specs.Filters.{LoopFilters, Samples, deblocked_samples, depth_of, final_samples}
+use Rattle.spec_loop_filters.specs.Filters.{height_of}
 use Rattle.spec_loop_filters.specs.Filters.{plane_of, width_of}
 
 either_true : (b c d : Bool) → c ≡ true → d ≡ true → cond b c d ≡ true

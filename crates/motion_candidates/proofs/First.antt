@@ -1,5 +1,6 @@
 -- The first vector that a function gives of places.
-use Rattle.std.proofs.Common.{◌≡◌, ℕ, zero, suc, ◌+◌, ◌<◌, ◌≤◌, List, [], ◌∷◌, length, drop, map, get_or, Option, Some}
+use Rattle.std.proofs.Common.{◌≡◌, ℕ, zero, suc, ◌+◌, ◌<◌, ◌≤◌, List, [], ◌∷◌, length, drop, map, get_or, Option}
+use Rattle.std.proofs.Common.{Some}
 use Rattle.std.proofs.Common.{None, refl, sym, ap, arith}
 use Rattle.ctu_records.specs.declared.prediction.Mv.{Mv}
 use Rattle.spec_motion.specs.VectorPrediction.{first_of}

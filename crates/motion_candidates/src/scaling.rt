@@ -1,8 +1,8 @@
 //! The scaling of vectors by distances in order counts (8.5.3.2.7, 8.5.3.2.9).
 
 ghost use Rattle.std.specs.Prelude.{◌≡◌, ◌≤◌, ◌/◌, ◌+◌, ◌≢◌, false, pos, negsuc, ◌+ℤ◌, ◌-ℤ◌, ◌*ℤ◌, ◌≤ℤ◌};
-ghost use Rattle.spec_arithmetic.specs.Clipping.{clip3};
-ghost use Rattle.spec_arithmetic.specs.Rounding.{rounded};
+ghost use Rattle.spec_motion.specs.SpecArithmetic.{clip3};
+ghost use Rattle.spec_motion.specs.SpecArithmetic.{rounded};
 ghost use Rattle.spec_motion.specs.Scaling.{dist_scale_factor, distance, is_kept, scaled, scaled_component};
 ghost use Rattle.spec_motion.specs.Scaling.{shortened, stretched, tx};
 

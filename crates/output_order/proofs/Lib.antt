@@ -1,3 +1,4 @@
 pub mod Discarded
 pub mod MarkedPictures
 pub mod Sizes
+pub mod SpecOutputOrderLemmas

@@ -1,11 +1,12 @@
 -- How many pictures are in the buffer, and that a start doesn't ask for an order count.
-use Rattle.std.proofs.Common.{◌≡◌, ℕ, ℤ, ◌+◌, ◌≤◌, true, false, List, length, Option, None, Some, Result, Ok, Err, IfOk}
+use Rattle.std.proofs.Common.{◌≡◌, ℕ, ℤ, ◌+◌, ◌≤◌, true, false, List, length, Option, None, Some, Result, Ok, Err}
+use Rattle.std.proofs.Common.{IfOk}
 use Rattle.std.proofs.Common.{arith, refl}
 use Rattle.std.specs.List.{count_by}
 use Rattle.header_types.specs.declared.reference_pictures.DpbPicture.{DpbPicture}
 use Rattle.header_types.specs.declared.reference_pictures.Mark.{Mark}
-use Rattle.plan_types.specs.declared.outputs.Outputs.{Outputs}
-use Rattle.spec_reference_pictures.specs.ReferencePictureSet.{is_reference}
+use Rattle.spec_output_order.specs.PlanTypes.{Outputs}
+use Rattle.ref_picture_sets.specs.SpecReferencePictures.{is_reference}
 use Rattle.spec_output_order.specs.declared.current_picture.CurrentPicture.{CurrentPicture}
 use Rattle.spec_output_order.specs.Buffer.{HasPlaces, place_outputs, start_of, start_outputs}
 use Rattle.spec_output_order.specs.OutputOrder.{is_full_of_references, started}

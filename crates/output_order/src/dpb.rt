@@ -3,8 +3,8 @@
 ghost use Rattle.std.specs.Prelude.{◌≡◌, ◌+◌, ◌≤◌, ℕ, ℤ, true, false, None, Some, [], IfOk, OnOk, OnErr, length};
 ghost use Rattle.std.specs.List.{count_by};
 ghost use Rattle.header_types.specs.SequenceParameterSets.{highest_ordering};
-ghost use Rattle.spec_reference_pictures.specs.PictureOrderCount.{begins_anew};
-ghost use Rattle.spec_reference_pictures.specs.ReferencePictureSet.{is_reference};
+ghost use Rattle.ref_picture_sets.specs.SpecReferencePictures.{begins_anew};
+ghost use Rattle.ref_picture_sets.specs.SpecReferencePictures.{is_reference};
 ghost use Rattle.spec_output_order.specs.OutputOrder.{is_full_of_references, newest};
 ghost use Rattle.spec_output_order.specs.CurrentPictures.{current_picture};
 ghost use Rattle.spec_output_order.specs.Buffer.{GivesOutputs, HasPlaces, flush_outputs, place_outputs, start_of};
@@ -16,9 +16,8 @@ use crate::marking::all_marked;
 use crate::outputs::{copied, enter, last_outputs, newest, outputs_by, start};
 use header_types::{DpbPicture, FieldList, Mark, Rps, Sps};
 use hv_base::{FaultKind, Refusal};
-use plan_types::Outputs;
 use slice_types::SliceHeader;
-use spec_output_order::CurrentPicture;
+use spec_output_order::{CurrentPicture, Outputs};
 use std::alloc::{AllocError, Global};
 use std::marker::Model;
 

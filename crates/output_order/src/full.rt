@@ -2,7 +2,7 @@
 
 ghost use Rattle.std.specs.Prelude.{◌≡◌};
 ghost use Rattle.std.specs.List.{count_by};
-ghost use Rattle.spec_reference_pictures.specs.ReferencePictureSet.{is_reference};
+ghost use Rattle.ref_picture_sets.specs.SpecReferencePictures.{is_reference};
 ghost use Rattle.spec_output_order.specs.OutputOrder.{is_full_of_references};
 
 use crate::kept::is_reference;

@@ -2,7 +2,7 @@
 
 ghost use Rattle.std.specs.Prelude.{◌≡◌, ◌^◌, ◌<◌, IfOk, length};
 ghost use Rattle.std.specs.List.{filter};
-ghost use Rattle.spec_reference_pictures.specs.ReferencePictureSet.{is_reference};
+ghost use Rattle.ref_picture_sets.specs.SpecReferencePictures.{is_reference};
 ghost use Rattle.spec_output_order.specs.OutputOrder.{kept_from, is_kept};
 
 use header_types::{DpbPicture, FieldList, Mark};

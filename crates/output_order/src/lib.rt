@@ -16,3 +16,4 @@ pub use current::current_picture;
 pub use dpb::Dpb;
 pub use full::is_full_of_references;
 pub use outputs::{last_outputs, outputs_of};
+pub use ref_picture_sets::{begins_anew, build_lists, derive_rps, is_irap, poc_of};

@@ -9,8 +9,7 @@ use crate::bumping::{bump, discard};
 use crate::kept::{kept_pictures, kept_places};
 use crate::marking::all_marked;
 use header_types::{DpbPicture, FieldList, Mark};
-use plan_types::Outputs;
-use spec_output_order::CurrentPicture;
+use spec_output_order::{CurrentPicture, Outputs};
 use std::alloc::{AllocError, Global};
 
 /// What the current picture puts out of the decoded picture buffer, and what it leaves there (C.5.2.2, C.5.2.3), where

@@ -1,6 +1,6 @@
 ghost use Rattle.std.specs.Prelude.{◌≡◌, ◌≤◌, true};
 ghost use Rattle.std.specs.List.{count_by};
-ghost use Rattle.spec_reference_pictures.specs.ReferencePictureSet.{is_reference};
+ghost use Rattle.ref_picture_sets.specs.SpecReferencePictures.{is_reference};
 
 use crate::dpb::Dpb;
 use crate::outputs::newest;

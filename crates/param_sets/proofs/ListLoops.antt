@@ -13,7 +13,7 @@ use Rattle.header_types.proofs.ReferencePictures.{IsStRps-weaker, All-IsStRps-we
 use Rattle.spec_formats.specs.Fields.{read, Reads}
 use Rattle.spec_formats.proofs.Lists.{behind, All-push}
 use Rattle.header_fields.proofs.Loops.{IsLoop, behind_adds, nothing_behind}
-use Rattle.spec_reference_pictures.specs.ShortTermSets.{st_ref_pic_set}
+use Rattle.ref_picture_sets.specs.SpecReferencePictures.{st_ref_pic_set}
 use Rattle.spec_parameter_sets.specs.Scaling.{coded_factor, coded_factors, scaling_list, lists_behind}
 use Rattle.spec_parameter_sets.specs.Scaling.{scaling_list_data}
 use Rattle.spec_parameter_sets.specs.SequenceParameterSet.{sets_behind}

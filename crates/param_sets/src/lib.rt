@@ -11,6 +11,7 @@ mod scaling;
 mod sps;
 mod sub_layers;
 
+pub use header_fields::FieldReader;
 pub use picture_scaling::{default_scaling_lists, picture_scaling_lists};
 pub use scaling::{read_scaling_list_data, read_scaling_lists};
 pub use sps::read_sps;

@@ -4,3 +4,5 @@ pub mod Motion
 pub mod Pictures
 pub mod Lending
 pub mod PictureLending
+pub mod SpecMotion
+pub mod SpecArithmetic

@@ -1,6 +1,6 @@
 -- A place's motion, packed.
 use Rattle.std.specs.Prelude.{ℕ, ℤ, ◌==◌, Option, Some, None, if◌then◌else◌}
-use Rattle.ctu_records.specs.declared.prediction.Mv.{Mv}
+use Rattle.spec_motion.specs.CtuRecords.{Mv}
 use Rattle.picture_buffer.specs.declared.packed.PackedMotion.{PackedMotion}
 use Rattle.picture_buffer.specs.declared.place_motion.PlaceMotion.{PlaceMotion}
 use Rattle.picture_buffer.specs.declared.place_motion.PlaceVector.{PlaceVector}

@@ -4,8 +4,7 @@ ghost use Rattle.std.specs.Prelude.{◌≡◌, ℕ, ◌<◌, Option, Some, IfSom
 ghost use Rattle.picture_buffer.specs.Packed.{mark_of, unpacked, unpacked_vector};
 
 use crate::place_motion::{PlaceMotion, PlaceVector};
-use ctu_records::Mv;
-use spec_motion::{Reference, Vector};
+use spec_motion::{Mv, Reference, Vector};
 
 /// The first mark of a place without motion.
 const WITHOUT_MOTION: u8 = 0;

@@ -1,5 +1,6 @@
 -- A unit is added to a picture.
-use Rattle.std.proofs.Common.{◌≡◌, ℕ, zero, suc, ◌+◌, ◌-◌, ◌*◌, ◌/◌, ◌^◌, ◌<◌, ◌≤◌, ◌==◌, Bool, true, false, List, refl}
+use Rattle.std.proofs.Common.{◌≡◌, ℕ, zero, suc, ◌+◌, ◌-◌, ◌*◌, ◌/◌, ◌^◌, ◌<◌, ◌≤◌, ◌==◌, Bool, true, false, List}
+use Rattle.std.proofs.Common.{refl}
 use Rattle.std.proofs.Common.{sym, ap, subst, ◌∙◌, if◌then◌else◌, ◌⊎◌, inl, inr, arith}
 use Rattle.std.specs.Option.{unwrap_or}
 use Rattle.std.proofs.Math.Nat.{mul-le-mul_left}
@@ -7,7 +8,7 @@ use Rattle.std.proofs.Math.Path.{fun_ext}
 use Rattle.std.proofs.lemmas.Bool.{cases_lt}
 use Rattle.std.proofs.lemmas.Bool.Decides.{nat_tests}
 use Rattle.std.specs.List.{All}
-use Rattle.inter_samples.specs.Inter.{inter_unit}
+use Rattle.unit_build.specs.InterSamples.{inter_unit}
 use Rattle.picture_buffer.specs.Pictures.{HeldPicture}
 use Rattle.spec_motion.specs.Units.{IsPlacedItem}
 use Rattle.spec_reconstruction.specs.Sound.{AreSound}
@@ -15,16 +16,16 @@ use Rattle.picture_build.specs.Pictures.{buffer_of}
 use Rattle.picture_build.proofs.Deriving.{all_placed}
 use Rattle.plan_types.specs.declared.picture_plan.PicturePlan.{PicturePlan}
 use Rattle.plan_types.specs.declared.segment_plan.SegmentPlan.{SegmentPlan}
-use Rattle.picture_layout.specs.Shape.{IsShape}
+use Rattle.picture_trees.specs.PictureLayout.{IsShape}
 use Rattle.spec_inter_prediction.specs.declared.tables.SliceWeighting.{SliceWeighting}
 use Rattle.spec_motion.specs.declared.slice_motion.SliceMotion.{SliceMotion}
 use Rattle.spec_motion.specs.Vectors as motion
-use Rattle.spec_picture_trees.specs.Picture.{TreeUnit}
+use Rattle.picture_trees.specs.SpecPictureTrees.{TreeUnit}
 use Rattle.plan_types.specs.Segments.{address_of}
-use Rattle.spec_picture_trees.specs.Shapes.{picture_shape, slice_start}
+use Rattle.picture_trees.specs.SpecPictureTrees.{picture_shape, slice_start}
 use Rattle.spec_picture_motion.specs.Derived.{References, known_of_unit}
 use Rattle.spec_picture_motion.specs.Derived as derived
-use Rattle.spec_picture_trees.specs.Places.{first_column, first_row, unit_at}
+use Rattle.picture_trees.specs.SpecPictureTrees.{first_column, first_row, unit_at}
 use Rattle.spec_picture_motion.specs.Field.{Motions, unit_laid as motion_laid}
 use Rattle.spec_picture_motion.specs.Slices.{slice_motion}
 use Rattle.spec_picture_build.specs.Border.{Samples, has_sample, height_of, known_beside, unit_column, unit_line}
@@ -40,7 +41,7 @@ use Rattle.spec_reconstruction.specs.Unit.{unit_built}
 use Rattle.spec_slice_data.specs.Residual.{samples_of_place}
 use Rattle.spec_slice_data.specs.Segment.{PictureShape}
 use Rattle.picture_build.proofs.Built.{same_picture}
-use Rattle.picture_layout.proofs.Places.{block_begins}
+use Rattle.picture_trees.proofs.PictureLayoutLemmas.{block_begins}
 use Rattle.unit_build.proofs.Places.{row_is}
 use Rattle.unit_build.proofs.Covering.{covered}
 

@@ -8,15 +8,15 @@ use Rattle.ctu_records.specs.Tree.{Ctu, qp_at}
 use Rattle.plan_types.specs.declared.picture_plan.PicturePlan.{PicturePlan}
 use Rattle.plan_types.specs.declared.segment_plan.SegmentPlan.{SegmentPlan}
 use Rattle.picture_buffer.specs.Pictures.{HeldPicture}
-use Rattle.picture_filters.specs.declared.given.UnitFilters.{UnitFilters}
-use Rattle.picture_filters.specs.Given.{IsGiven}
+use Rattle.unit_build.specs.PictureFilters.{UnitFilters}
+use Rattle.unit_build.specs.PictureFilters.{IsGiven}
 use Rattle.spec_motion.specs.Units.{IsPlacedItem}
-use Rattle.spec_picture_trees.specs.Picture.{TreeUnit}
+use Rattle.picture_trees.specs.SpecPictureTrees.{TreeUnit}
 use Rattle.spec_picture_motion.specs.Derived.{References, unit_added as motion_added}
 use Rattle.spec_picture_motion.specs.Field.{Motions, no_motions}
-use Rattle.spec_picture_filters.specs.Data.{FilterData, no_data}
-use Rattle.spec_picture_filters.specs.Filtered.{Behind, added_in, before_units, both_added, units_behind, with_unit}
-use Rattle.spec_picture_filters.specs.Units.{read_added}
+use Rattle.unit_build.specs.SpecPictureFilters.{FilterData, no_data}
+use Rattle.unit_build.specs.SpecPictureFilters.{Behind, added_in, before_units, both_added, units_behind, with_unit}
+use Rattle.unit_build.specs.SpecPictureFilters.{read_added}
 use Rattle.spec_picture_build.specs.References.{motions_of}
 use Rattle.spec_reconstruction.specs.declared.format.UnitFormat.{UnitFormat}
 use Rattle.spec_reconstruction.specs.Sound.{AreSound}

@@ -9,17 +9,17 @@ use Rattle.std.proofs.lemmas.List.Sums.{fold-append}
 use Rattle.header_types.specs.SequenceParameterSets.{IsSps}
 use Rattle.plan_types.specs.declared.picture_plan.PicturePlan.{PicturePlan}
 use Rattle.plan_types.specs.declared.segment_plan.SegmentPlan.{SegmentPlan}
-use Rattle.spec_picture_trees.specs.Picture.{TreeUnit, Progress, picture_read}
+use Rattle.picture_trees.specs.SpecPictureTrees.{TreeUnit, Progress, picture_read}
 use Rattle.spec_picture_motion.specs.Field.{Motions, no_motions}
-use Rattle.spec_picture_filters.specs.Data.{no_data}
-use Rattle.spec_picture_filters.specs.Filtered.{with_unit as filtered_with_unit}
+use Rattle.unit_build.specs.SpecPictureFilters.{no_data}
+use Rattle.unit_build.specs.SpecPictureFilters.{with_unit as filtered_with_unit}
 use Rattle.spec_picture_build.specs.Border.{Samples, no_samples}
 use Rattle.spec_picture_build.specs.Built.{BuiltPicture, added_in, built_of, no_picture, picture_built, unit_added}
 use Rattle.spec_picture_build.specs.Built.{units_built, with_unit}
 use Rattle.spec_picture_build.specs.References.{DecodedPicture, motions_of as motions_at}
 use Rattle.picture_buffer.specs.Motion.{FieldPlaces, motions_of}
 use Rattle.picture_buffer.specs.Planes.{PictureSamples, samples_of}
-use Rattle.picture_filters.specs.Filtering.{Filtering, data_of}
+use Rattle.unit_build.specs.PictureFilters.{Filtering, data_of}
 use Rattle.picture_trees.specs.Given.{AreAll}
 use Rattle.picture_build.specs.Building.{Building, IsBuilt, IsSoundUnit, behind_by, built_by}
 use Rattle.picture_build.proofs.Behind.{behind_more, behind_none}

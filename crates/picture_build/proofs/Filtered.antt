@@ -7,14 +7,14 @@ use Rattle.std.proofs.lemmas.Bool.Decides.{nat_tests}
 use Rattle.header_types.specs.declared.sps.PictureFormat.{PictureFormat}
 use Rattle.header_types.specs.SequenceParameterSets.{IsSps}
 use Rattle.plan_types.specs.declared.picture_plan.PicturePlan.{PicturePlan}
-use Rattle.spec_decoded_pictures.proofs.OneFold.{one_fold}
-use Rattle.spec_decoded_pictures.specs.Decoded.{DecodedUnits, decoded_by, joined, picture_decoded, reading_decoded}
-use Rattle.spec_decoded_pictures.specs.Decoded.{samples_filtered, units_decoded}
-use Rattle.spec_loop_filters.specs.Filters.{depth_of}
-use Rattle.spec_picture_trees.specs.Picture.{TreeUnit, PictureBroken, picture_read}
-use Rattle.spec_picture_trees.specs.Shapes.{picture_shape}
-use Rattle.spec_picture_filters.specs.Data.{FilterData}
-use Rattle.spec_picture_filters.specs.Filtered.{Behind, filter_format, filtered, units_filtered}
+use Rattle.sample_laws.proofs.SpecDecodedPicturesLemmas.{one_fold}
+use Rattle.sample_laws.specs.SpecDecodedPictures.{DecodedUnits, decoded_by, joined, picture_decoded, reading_decoded}
+use Rattle.sample_laws.specs.SpecDecodedPictures.{samples_filtered, units_decoded}
+use Rattle.unit_build.specs.SpecLoopFilters.{depth_of}
+use Rattle.picture_trees.specs.SpecPictureTrees.{TreeUnit, PictureBroken, picture_read}
+use Rattle.picture_trees.specs.SpecPictureTrees.{picture_shape}
+use Rattle.unit_build.specs.SpecPictureFilters.{FilterData}
+use Rattle.unit_build.specs.SpecPictureFilters.{Behind, filter_format, filtered, units_filtered}
 use Rattle.spec_picture_motion.specs.Field.{Motions}
 use Rattle.spec_picture_build.specs.Border.{Samples, has_sample}
 use Rattle.spec_picture_build.specs.Built.{BuiltPicture, picture_built}
@@ -23,7 +23,7 @@ use Rattle.spec_slice_data.specs.Segment.{PictureShape}
 use Rattle.picture_buffer.specs.Motion.{FieldPlaces, motions_of}
 use Rattle.picture_buffer.specs.Planes.{HasSides, PictureSamples, PlaneSamples, plane_at, plane_height, plane_width}
 use Rattle.picture_buffer.specs.Planes.{samples_of}
-use Rattle.picture_filters.specs.Filtering.{data_of}
+use Rattle.unit_build.specs.PictureFilters.{data_of}
 use Rattle.picture_trees.specs.Given.{ReadsPicture}
 use Rattle.picture_trees.specs.declared.trees.ReadError.{ReadError}
 use Rattle.picture_trees.specs.declared.trees.ReadError.TheVariants as errors

@@ -8,7 +8,7 @@ use Rattle.spec_slice_data.specs.Segment.{PictureShape}
 use Rattle.spec_reconstruction.specs.Known.{Known}
 use Rattle.spec_picture_build.specs.Border.{Samples, has_sample, height_of, unit_column, unit_line, unit_side}
 use Rattle.spec_picture_build.specs.Border.{width_of}
-use Rattle.spec_picture_trees.specs.Places.{unit_at}
+use Rattle.picture_trees.specs.SpecPictureTrees.{unit_at}
 use Rattle.spec_picture_build.specs.Built.{is_of_unit, unit_laid}
 use Rattle.unit_build.specs.declared.part.Part.{Part}
 use Rattle.unit_build.specs.Parts.{IsPart, IsRoom, is_in_part}

@@ -12,12 +12,13 @@ use Rattle.std.proofs.lemmas.List.FromFn.{get_or-map-range_with_len}
 use Rattle.std.proofs.lemmas.Nat.{div-mul-add, div_below, mod-mul-add}
 use Rattle.spec_slice_data.specs.Residual.{samples_of_place}
 use Rattle.spec_slice_data.specs.Segment.{PictureShape}
-use Rattle.spec_picture_trees.specs.Places.{unit_at}
-use Rattle.spec_picture_build.specs.Border.{Samples, has_sample, height_of, unit_column, unit_line, unit_side, width_of}
+use Rattle.picture_trees.specs.SpecPictureTrees.{unit_at}
+use Rattle.spec_picture_build.specs.Border.{Samples, has_sample, height_of, unit_column, unit_line, unit_side}
+use Rattle.spec_picture_build.specs.Border.{width_of}
 use Rattle.spec_picture_build.specs.Built.{is_of_unit, unit_laid}
 use Rattle.spec_reconstruction.specs.Known.{Known}
-use Rattle.picture_layout.specs.Shape.{IsShape}
-use Rattle.picture_layout.proofs.Places.{whole}
+use Rattle.picture_trees.specs.PictureLayout.{IsShape}
+use Rattle.picture_trees.proofs.PictureLayoutLemmas.{whole}
 use Rattle.picture_buffer.specs.Planes.{HasSides, PictureSamples, PlaneSamples, plane_at}
 use Rattle.picture_buffer.specs.Planes.{samples_of}
 use Rattle.unit_build.specs.declared.part.Part.{Part}

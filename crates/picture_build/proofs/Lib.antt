@@ -11,3 +11,6 @@ pub mod Work
 pub mod Eights
 pub mod InnerRows
 pub mod LaidUnits
+pub mod SampleLawsLemmas
+pub mod UnitLawsLemmas
+pub mod SpecDecodedPicturesLemmas

@@ -8,7 +8,7 @@ use Rattle.header_types.specs.declared.pps.PpsFields.{PpsFields}
 use Rattle.header_types.specs.declared.sps.PictureFormat.{PictureFormat}
 use Rattle.header_types.specs.declared.sps.SpsFields.{SpsFields}
 use Rattle.header_types.specs.SequenceParameterSets.{IsPictureFormat}
-use Rattle.inter_samples.specs.Inter.{AreSmall}
+use Rattle.unit_build.specs.InterSamples.{AreSmall}
 use Rattle.slice_types.specs.declared.slice.SliceFields.{SliceFields}
 use Rattle.picture_buffer.specs.Pictures.{HeldPicture}
 use Rattle.picture_buffer.specs.Planes.{HasSides, PictureSamples, plane_height, plane_width, samples_of}

@@ -1,17 +1,17 @@
 -- A unit's work over what is built of its picture, and over the pictures of the buffer, by the definitions.
 use Rattle.std.proofs.Common.{◌≡◌, ℕ, ◌<◌, List, refl, ap, subst, ◌∙◌}
-use Rattle.ctu_motion.specs.Held.{Cells, held as motion_held}
+use Rattle.unit_build.specs.CtuMotion.{Cells, held as motion_held}
 use Rattle.ctu_records.specs.Tree.{Ctu}
-use Rattle.inter_samples.specs.Inter.{inter_unit}
+use Rattle.unit_build.specs.InterSamples.{inter_unit}
 use Rattle.header_types.specs.declared.sps.SpsFields.{SpsFields}
 use Rattle.picture_buffer.specs.Motion.{motions_of}
 use Rattle.picture_buffer.specs.Pictures.{HeldPicture}
 use Rattle.picture_buffer.specs.Planes.{samples_of}
-use Rattle.picture_filters.specs.declared.given.UnitFilters.{UnitFilters}
-use Rattle.picture_filters.specs.Filtering.{IsUnit, data_of}
-use Rattle.picture_filters.specs.Given.{IsGiven}
-use Rattle.picture_motion.specs.Deriving.{derived_over, known_over}
-use Rattle.picture_motion.proofs.Joining.{added_joins, known_joins}
+use Rattle.unit_build.specs.PictureFilters.{UnitFilters}
+use Rattle.unit_build.specs.PictureFilters.{IsUnit, data_of}
+use Rattle.unit_build.specs.PictureFilters.{IsGiven}
+use Rattle.unit_build.specs.PictureMotion.{derived_over, known_over}
+use Rattle.unit_build.proofs.PictureMotionLemmas.{added_joins, known_joins}
 use Rattle.picture_trees.specs.Given.{tree_unit}
 use Rattle.plan_types.specs.declared.picture_plan.PicturePlan.{PicturePlan}
 use Rattle.plan_types.specs.declared.segment_plan.SegmentPlan.{SegmentPlan}
@@ -23,8 +23,8 @@ use Rattle.spec_picture_build.specs.References.{motions_of as motions_at, pictur
 use Rattle.spec_picture_build.specs.Weights.{slice_weighting}
 use Rattle.spec_picture_motion.specs.Derived.{collocated_motions, known_of_unit, unit_added}
 use Rattle.spec_picture_motion.specs.Slices.{collocated_entry, slice_motion}
-use Rattle.spec_picture_trees.specs.Places.{first_column, first_row}
-use Rattle.spec_picture_trees.specs.Shapes.{slice_start}
+use Rattle.picture_trees.specs.SpecPictureTrees.{first_column, first_row}
+use Rattle.picture_trees.specs.SpecPictureTrees.{slice_start}
 use Rattle.spec_reconstruction.specs.declared.format.UnitFormat.{UnitFormat}
 use Rattle.spec_reconstruction.specs.Inter.{InterUnit}
 use Rattle.spec_reconstruction.specs.Known.{Known}

@@ -3,15 +3,15 @@ use Rattle.std.specs.Prelude.{◌≡◌, List, Result, Ok, Err}
 use Rattle.std.specs.List.{All}
 use Rattle.plan_types.specs.declared.segment_plan.SegmentPlan.{SegmentPlan}
 use Rattle.plan_types.specs.declared.picture_plan.PicturePlan.{PicturePlan}
-use Rattle.spec_picture_trees.specs.Picture.{TreeUnit, PictureBroken}
+use Rattle.picture_trees.specs.SpecPictureTrees.{TreeUnit, PictureBroken}
 use Rattle.spec_reconstruction.specs.Sound.{AreSound}
 use Rattle.spec_picture_build.specs.Built.{BuiltPicture, units_built}
-use Rattle.spec_decoded_pictures.specs.Decoded.{DecodedUnits, joined}
-use Rattle.spec_picture_filters.specs.Filtered.{Behind, units_behind}
+use Rattle.sample_laws.specs.SpecDecodedPictures.{DecodedUnits, joined}
+use Rattle.unit_build.specs.SpecPictureFilters.{Behind, units_behind}
 use Rattle.spec_picture_build.specs.Format.{unit_format}
 use Rattle.spec_picture_build.specs.References.{DecodedPicture, motions_of as motions_at}
 use Rattle.picture_buffer.specs.Motion.{FieldPlaces, motions_of}
-use Rattle.picture_filters.specs.Filtering.{Filtering, data_of}
+use Rattle.unit_build.specs.PictureFilters.{Filtering, data_of}
 use Rattle.picture_buffer.specs.Pictures.{HeldPicture}
 use Rattle.picture_buffer.specs.Planes.{PictureSamples, samples_of}
 use Rattle.picture_build.specs.Pictures.{decoded_of}

@@ -4,3 +4,5 @@ pub mod Building
 pub mod Standing
 pub mod Referring
 pub mod Fresh
+pub mod SpecPictureBuild
+pub mod SpecDecodedPictures

@@ -4,8 +4,8 @@ use Rattle.header_types.specs.declared.reference_pictures.RefEntry.{RefEntry}
 use Rattle.picture_buffer.specs.Motion.{FieldPlaces}
 use Rattle.picture_buffer.specs.Pictures.{HeldPicture}
 use Rattle.picture_buffer.specs.Planes.{PictureSamples}
-use Rattle.picture_filters.specs.Filtering.{Filtering}
-use Rattle.picture_layout.specs.declared.coding_tree_unit.CodingTreeUnit.{CodingTreeUnit}
+use Rattle.unit_build.specs.PictureFilters.{Filtering}
+use Rattle.picture_trees.specs.PictureLayout.{CodingTreeUnit}
 use Rattle.spec_picture_build.specs.References.{motions_of as motions_at}
 use Rattle.spec_picture_motion.specs.Derived.{collocated_motions}
 use Rattle.spec_picture_motion.specs.Field.{Motions}

@@ -7,11 +7,9 @@ ghost use Rattle.spec_picture_build.specs.References.{motions_of as motions_at};
 use crate::fresh::FreshPlanes;
 use header_types::RefEntry;
 use picture_buffer::{Bases, MotionField, PlaceMotion};
-use picture_filters::PictureFilters;
-use picture_layout::CodingTreeUnit;
-use picture_motion::{MotionBeneath, MotionBeside};
+use picture_trees::CodingTreeUnit;
 use std::marker::Model;
-use unit_build::{Beside, Part};
+use unit_build::{Beside, MotionBeneath, MotionBeside, Part, PictureFilters};
 
 /// What is built of a picture, beside one of its units, and the pictures of the decoded picture buffer before it.
 #[derive(Drop)]
@@ -101,7 +99,7 @@ impl<'a> MotionBeneath for PictureBeside<'a> {
 
 impl<'a> Beside for PictureBeside<'a> {
     ghost use Rattle.picture_buffer.specs.Planes.{samples_of};
-    ghost use Rattle.picture_filters.specs.Filtering.{data_of};
+    ghost use Rattle.unit_build.specs.PictureFilters.{data_of};
 
     ghost unit_of = { λ v. v.unit };
 

@@ -7,8 +7,8 @@ ghost use Rattle.picture_build.specs.Pictures.{buffer_of, decoded_of};
 ghost use Rattle.picture_buffer.specs.Pictures.{HeldPicture};
 ghost use Rattle.picture_buffer.specs.Planes.{samples_of};
 ghost use Rattle.picture_trees.specs.Given.{tree_unit};
-ghost use Rattle.spec_decoded_pictures.specs.Decoded.{decoded_by};
-ghost use Rattle.spec_picture_filters.specs.Filtered.{added_in, with_unit as filtered_with_unit};
+ghost use Rattle.sample_laws.specs.SpecDecodedPictures.{decoded_by};
+ghost use Rattle.unit_build.specs.SpecPictureFilters.{added_in, with_unit as filtered_with_unit};
 ghost use Rattle.spec_picture_build.specs.Built.{unit_added, with_unit};
 ghost use Rattle.spec_picture_build.specs.Format.{unit_format};
 ghost use Rattle.spec_picture_build.specs.References.{greatest_sample, motions_of as motions_at};
@@ -19,19 +19,16 @@ use crate::format::{common_format, set_slice};
 use crate::fresh::FreshPlanes;
 use crate::spare::spare_parts;
 use crate::unit::build_beside;
-use ctu_build::Scratch;
 use ctu_records::Records;
-use loop_filters::FilterScratch;
 use picture_buffer::{Bases, MotionField, Picture};
-use picture_filters::PictureFilters;
-use picture_layout::{CodingTreeUnit, Layout, slice_address};
-use picture_motion::lay_unit as lay_motion;
-use picture_trees::Trees;
+use picture_trees::{CodingTreeUnit, Layout, Trees, slice_address};
 use plan_types::{PicturePlan, SegmentPlan};
 use spec_reconstruction::UnitFormat;
 use std::alloc::{AllocError, Global};
 use std::marker::{Brand, Model, PhantomData};
-use unit_build::{BuiltUnit, UnitSource};
+use unit_build::{
+    BuiltUnit, FilterScratch, PictureFilters, Scratch, UnitSource, lay_unit as lay_motion,
+};
 
 /// The pictures of the decoded picture buffer, which stay the same while a picture is built.
 pub(crate) trait Buffer {
@@ -64,7 +61,7 @@ impl<'a, B: Buffer> Model for PictureBuilder<'a, B> {
     ghost use Rattle.picture_buffer.specs.Motion.{HasPlaces};
     ghost use Rattle.picture_build.specs.Building.{Building};
     ghost use Rattle.picture_build.specs.Formats.{IsCommon};
-    ghost use Rattle.spec_picture_trees.specs.Shapes.{picture_shape};
+    ghost use Rattle.picture_trees.specs.SpecPictureTrees.{picture_shape};
     ghost use Rattle.spec_reconstruction.specs.Sound.{IsFormat};
 
     ghost Value = { Building };

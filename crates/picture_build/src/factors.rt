@@ -1,7 +1,7 @@
 //! The scaling factors of a picture (7.4.3.2, 7.4.3.3, 7.4.5).
 
 ghost use Rattle.std.specs.Prelude.{◌≡◌, IfOk};
-ghost use Rattle.spec_parameter_sets.specs.PictureScaling.{picture_scaling_lists};
+ghost use Rattle.param_sets.specs.SpecParameterSets.{picture_scaling_lists};
 ghost use Rattle.spec_reconstruction.specs.Factors.{scaling_factors};
 
 use header_types::{Pps, Sps};

@@ -2,8 +2,8 @@
 
 ghost use Rattle.std.specs.Prelude.{◌≡◌, ◌+◌, ◌+ℤ◌, ◌≤◌, true, false, IfOk};
 ghost use Rattle.picture_build.specs.Formats.{IsCommon, of_slice};
-ghost use Rattle.spec_parameter_sets.specs.PictureScaling.{picture_scaling_lists};
-ghost use Rattle.spec_picture_trees.specs.Shapes.{pcm_syntax};
+ghost use Rattle.param_sets.specs.SpecParameterSets.{picture_scaling_lists};
+ghost use Rattle.picture_trees.specs.SpecPictureTrees.{pcm_syntax};
 ghost use Rattle.spec_reconstruction.specs.Factors.{scaling_factors};
 ghost use Rattle.spec_reconstruction.specs.Sound.{IsFormat};
 

@@ -1,18 +1,18 @@
 //! The planes of a picture while its coding tree units are laid.
 
 ghost use Rattle.std.specs.Prelude.{◌≡◌, ℕ, ◌+◌, ◌*◌, ◌<◌, ◌≤◌, max, true, length, slice_index_or};
-ghost use Rattle.ctu_build.specs.Held.{held};
+ghost use Rattle.unit_build.specs.CtuBuild.{held};
 ghost use Rattle.picture_buffer.specs.Planes.{HasSides, samples_of};
-ghost use Rattle.picture_layout.specs.Shape.{IsShape};
+ghost use Rattle.picture_trees.specs.PictureLayout.{IsShape};
 ghost use Rattle.spec_picture_build.specs.Border.{has_sample, height_of, unit_side, width_of};
 ghost use Rattle.spec_picture_build.specs.Built.{unit_laid};
-ghost use Rattle.spec_picture_trees.specs.Places.{unit_at};
+ghost use Rattle.picture_trees.specs.SpecPictureTrees.{unit_at};
 
 use crate::lines::lay_unit;
-use ctu_build::UnitSamples;
 use picture_buffer::Planes;
-use picture_layout::{CodingTreeUnit, Layout};
+use picture_trees::{CodingTreeUnit, Layout};
 use std::marker::Model;
+use unit_build::UnitSamples;
 
 /// Planes of which so many coding tree units are laid, in order of address. What stands in the others counts as 0, so
 /// that nothing has to be cleared where all of them are laid.

@@ -18,5 +18,6 @@ mod unit;
 
 pub use format::{common_format, set_slice};
 pub use picture::build_picture;
+pub use picture_buffer::Bases;
 pub use references::References;
 pub use spare::picture_parts;

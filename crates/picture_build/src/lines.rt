@@ -2,16 +2,15 @@
 
 ghost use Rattle.std.specs.Prelude.{◌≡◌, ℕ, ◌+◌, ◌-◌, ◌*◌, ◌<◌, ◌≤◌, ◌==◌, if◌then◌else◌};
 ghost use Rattle.std.specs.Option.{unwrap_or};
-ghost use Rattle.ctu_build.specs.Held.{held};
+ghost use Rattle.unit_build.specs.CtuBuild.{held};
 ghost use Rattle.picture_buffer.specs.Planes.{HasSides, samples_of};
-ghost use Rattle.picture_layout.specs.Shape.{IsShape};
+ghost use Rattle.picture_trees.specs.PictureLayout.{IsShape};
 ghost use Rattle.unit_build.specs.Parts.{IsPart, IsRoom, is_in_part};
 ghost use Rattle.spec_picture_build.specs.Built.{unit_laid};
 
-use ctu_build::UnitSamples;
 use picture_buffer::Planes;
-use picture_layout::CodingTreeUnit;
-use unit_build::Part;
+use picture_trees::CodingTreeUnit;
+use unit_build::{Part, UnitSamples};
 
 /// Lays the samples of a unit into the picture.
 pub(crate) fn lay_unit(unit: &CodingTreeUnit, samples: &UnitSamples, planes: &mut Planes)

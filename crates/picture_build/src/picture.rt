@@ -3,18 +3,17 @@
 ghost use Rattle.std.specs.Prelude.{◌≡◌};
 ghost use Rattle.picture_build.specs.Building.{BuildsPicture};
 ghost use Rattle.picture_build.specs.Pictures.{buffer_of};
-ghost use Rattle.spec_decoded_pictures.specs.Decoded.{picture_decoded};
+ghost use Rattle.sample_laws.specs.SpecDecodedPictures.{picture_decoded};
 
 use crate::builder::{Buffer, PictureBuilder};
-use loop_filters::FilterScratch;
 use picture_buffer::{Bases, Picture};
 use picture_trees::{ReadError, read_picture};
 use plan_types::PicturePlan;
-use sample_laws::built_samples_are_in_range;
+use sample_laws::{built_samples_are_in_range, units_that_are_read_are_sound};
 use std::alloc::Global;
 use std::marker::Brand;
 use std::mem;
-use unit_laws::units_that_are_read_are_sound;
+use unit_build::FilterScratch;
 
 /// Reads and builds a picture over the pictures of the decoded picture buffer before it, and filters it: its samples
 /// and its motion. The error is the first rule that its data break, or want of memory, which is taken before the first

@@ -4,7 +4,7 @@ ghost use Rattle.std.specs.Prelude.{◌≡◌, ◌+◌, ◌-◌, ◌*◌, ◌^�
 ghost use Rattle.std.specs.Prelude.{Some};
 ghost use Rattle.std.specs.List.{All};
 ghost use Rattle.inter_pred.specs.Passes.{at, IsByte};
-ghost use Rattle.inter_samples.specs.Inter.{AreSmall};
+ghost use Rattle.unit_build.specs.InterSamples.{AreSmall};
 ghost use Rattle.picture_buffer.specs.Planes.{plane_height, plane_width, samples_of};
 ghost use Rattle.picture_build.specs.Pictures.{buffer_of, decoded_of};
 ghost use Rattle.picture_build.specs.Formats.{HasDepths};

@@ -2,15 +2,15 @@
 
 ghost use Rattle.std.specs.Prelude.{◌≡◌, ℕ, ◌<◌, ◌≤◌};
 ghost use Rattle.std.specs.List.{All};
-ghost use Rattle.ctu_build.specs.Held.{held};
-ghost use Rattle.ctu_motion.specs.Held.{held as motion_held};
+ghost use Rattle.unit_build.specs.CtuBuild.{held};
+ghost use Rattle.unit_build.specs.CtuMotion.{held as motion_held};
 ghost use Rattle.ctu_records.specs.Tree.{qp_at};
 ghost use Rattle.picture_build.specs.Formats.{HasDepths};
 ghost use Rattle.picture_build.specs.Pictures.{buffer_of};
 ghost use Rattle.picture_buffer.specs.Motion.{motions_of};
 ghost use Rattle.picture_buffer.specs.Planes.{samples_of};
-ghost use Rattle.picture_filters.specs.Filtering.{IsUnit, data_of};
-ghost use Rattle.picture_filters.specs.Given.{IsGiven};
+ghost use Rattle.unit_build.specs.PictureFilters.{IsUnit, data_of};
+ghost use Rattle.unit_build.specs.PictureFilters.{IsGiven};
 ghost use Rattle.picture_trees.specs.Given.{tree_unit};
 ghost use Rattle.spec_motion.specs.Units.{IsPlacedItem};
 ghost use Rattle.spec_picture_build.specs.Border.{known_beside};
@@ -18,17 +18,15 @@ ghost use Rattle.spec_picture_build.specs.Built.{unit_inter};
 ghost use Rattle.spec_picture_build.specs.References.{motions_of as motions_at};
 ghost use Rattle.spec_picture_motion.specs.Derived.{known_of_unit, unit_added};
 ghost use Rattle.spec_picture_motion.specs.Slices.{slice_motion};
-ghost use Rattle.spec_picture_trees.specs.Places.{first_row};
+ghost use Rattle.picture_trees.specs.SpecPictureTrees.{first_row};
 ghost use Rattle.spec_reconstruction.specs.Sound.{AreSound, IsFormat};
 ghost use Rattle.spec_reconstruction.specs.Unit.{unit_built};
 
 use crate::beside::{Built, PictureBeside};
 use crate::references::References;
-use ctu_build::Scratch;
 use ctu_records::Records;
-use picture_layout::{CodingTreeUnit, slice_of};
-use picture_motion::collocated_entry;
-use unit_build::{BuiltUnit, UnitSource, build_unit};
+use picture_trees::{CodingTreeUnit, slice_of};
+use unit_build::{BuiltUnit, Scratch, UnitSource, build_unit, collocated_entry};
 
 /// A unit's work over what is built beside it, and over the pictures of the decoded picture buffer.
 pub(crate) fn build_beside(

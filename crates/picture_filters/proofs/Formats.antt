@@ -5,8 +5,8 @@ use Rattle.header_types.specs.SequenceParameterSets.{width_in_ctbs}
 use Rattle.loop_filters.specs.Formats.{IsFormat, columns_of, rows_of}
 use Rattle.picture_buffer.specs.Planes.{HasSides, PictureSamples, plane_height, plane_width}
 use Rattle.plan_types.specs.declared.picture_plan.PicturePlan.{PicturePlan}
-use Rattle.spec_loop_filters.specs.declared.format.FilterFormat.{FilterFormat}
-use Rattle.spec_loop_filters.specs.Filters.{height_of, width_of}
+use Rattle.spec_picture_filters.specs.SpecLoopFilters.{FilterFormat}
+use Rattle.spec_picture_filters.specs.SpecLoopFilters.{height_of, width_of}
 use Rattle.spec_picture_filters.specs.Filtered.{filter_format}
 
 -- sides are multiples of the side of the least coding block

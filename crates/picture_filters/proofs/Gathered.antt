@@ -9,13 +9,13 @@ use Rattle.ctu_records.specs.Tree.{Ctu}
 use Rattle.slice_types.specs.declared.slice.SliceDeblocking.{SliceDeblocking}
 use Rattle.plan_types.specs.declared.segment_plan.SegmentPlan.{SegmentPlan}
 use Rattle.plan_types.specs.declared.picture_plan.PicturePlan.{PicturePlan}
-use Rattle.spec_boundary_strengths.specs.declared.place.UnitPlace.{UnitPlace}
-use Rattle.spec_deblocking.specs.declared.place.Place.{Place}
+use Rattle.boundary_strengths.specs.SpecBoundaryStrengths.{UnitPlace}
+use Rattle.spec_picture_filters.specs.SpecDeblocking.{Place}
 use Rattle.spec_picture_trees.specs.Shapes.{picture_shape}
 use Rattle.spec_picture_trees.specs.Places.{first_column, first_row, unit_places}
-use Rattle.spec_picture_motion.specs.Field.{Motions}
+use Rattle.spec_picture_filters.specs.SpecPictureMotion.{Motions}
 use Rattle.spec_sample_adaptive_offset.specs.declared.unit.OffsetUnit.{OffsetUnit}
-use Rattle.spec_slice_data.specs.Segment.{PictureShape}
+use Rattle.spec_picture_trees.specs.SpecSliceData.{PictureShape}
 use Rattle.spec_picture_filters.specs.Data.{FilterData, no_data}
 use Rattle.spec_picture_filters.specs.Units.{coded_laid, places_laid, places_read, read_added, units_laid}
 use Rattle.picture_layout.specs.declared.coding_tree_unit.CodingTreeUnit.{CodingTreeUnit}

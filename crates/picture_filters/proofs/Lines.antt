@@ -3,7 +3,7 @@ use Rattle.std.proofs.Common.{◌≡◌, ℕ, ◌+◌, ◌-◌, ◌&&◌, cond, 
 use Rattle.std.proofs.lemmas.Bool.Decides.{nat_tests}
 use Rattle.picture_filters.specs.declared.filter_place.FilterPlace.{FilterPlace}
 use Rattle.slice_types.specs.declared.slice.SliceDeblocking.{SliceDeblocking}
-use Rattle.spec_boundary_strengths.specs.declared.place.UnitPlace.{UnitPlace}
+use Rattle.boundary_strengths.specs.SpecBoundaryStrengths.{UnitPlace}
 use Rattle.picture_filters.specs.Filtering.{filter_place, filter_places_laid}
 use Rattle.picture_layout.proofs.Blocks.{of_block}
 use Rattle.picture_layout.specs.Blocks.{IsBlock}

@@ -1,16 +1,17 @@
 -- What a place asks of what stands beside its unit.
-use Rattle.std.proofs.Common.{◌≡◌, ℕ, zero, suc, ◌+◌, ◌-◌, ◌<◌, ◌∙◌, ap, Bool, false, List, slice_index_or, refl, arith}
+use Rattle.std.proofs.Common.{◌≡◌, ℕ, zero, suc, ◌+◌, ◌-◌, ◌<◌, ◌∙◌, ap, Bool, false, List, slice_index_or, refl}
+use Rattle.std.proofs.Common.{arith}
 use Rattle.std.proofs.lemmas.Bool.Decides.{nat_tests}
 use Rattle.ctu_records.specs.declared.item.Item.{Item}
-use Rattle.spec_boundary_strengths.specs.Places.{unit_place}
-use Rattle.spec_boundary_strengths.specs.Strengths.{Beside, coded_around, left_strength, top_strength}
+use Rattle.boundary_strengths.specs.SpecBoundaryStrengths.{unit_place}
+use Rattle.boundary_strengths.specs.SpecBoundaryStrengths.{Beside, coded_around, left_strength, top_strength}
 use Rattle.plan_types.specs.declared.segment_plan.SegmentPlan.{SegmentPlan}
 use Rattle.plan_types.specs.declared.picture_plan.PicturePlan.{PicturePlan}
 use Rattle.boundary_strengths.specs.declared.sides.UnitSides.{UnitSides}
 use Rattle.boundary_strengths.specs.Held.{beside_of, coded_beside}
 use Rattle.spec_picture_trees.specs.Shapes.{qp_bd_offset}
-use Rattle.spec_picture_motion.specs.Field.{Motions}
-use Rattle.spec_slice_data.specs.Segment.{PictureShape}
+use Rattle.spec_picture_filters.specs.SpecPictureMotion.{Motions}
+use Rattle.spec_picture_trees.specs.SpecSliceData.{PictureShape}
 use Rattle.spec_picture_filters.specs.Units.{beside_unit, coded_near, is_left_filtered, is_top_filtered, motion_near}
 use Rattle.spec_picture_filters.specs.Units.{pcm_disabled, places_read}
 use Rattle.picture_layout.specs.declared.coding_tree_unit.CodingTreeUnit.{CodingTreeUnit}

@@ -10,7 +10,7 @@ use Rattle.place_grid.specs.Cells.{cell}
 use Rattle.plan_types.specs.declared.picture_plan.PicturePlan.{PicturePlan}
 use Rattle.plan_types.specs.declared.segment_plan.SegmentPlan.{SegmentPlan}
 use Rattle.spec_picture_filters.specs.Units.{is_across, offset_of, slice_address, unit_read, units_laid}
-use Rattle.spec_slice_data.specs.Segment.{PictureShape, column_of, row_of}
+use Rattle.spec_picture_trees.specs.SpecSliceData.{PictureShape, column_of, row_of}
 use Rattle.spec_picture_trees.specs.Shapes.{picture_shape}
 use Rattle.spec_sample_adaptive_offset.specs.declared.unit.OffsetUnit.{OffsetUnit}
 use Rattle.picture_filters.specs.Given.{offsets_laid}

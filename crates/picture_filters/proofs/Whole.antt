@@ -4,8 +4,8 @@ use Rattle.picture_filters.specs.Places.{FieldPlaces, places_of}
 use Rattle.picture_filters.specs.Units.{FieldUnits, units_of}
 use Rattle.loop_filters.specs.Formats.{filters_of}
 use Rattle.plan_types.specs.declared.picture_plan.PicturePlan.{PicturePlan}
-use Rattle.spec_loop_filters.specs.declared.format.FilterFormat.{FilterFormat}
-use Rattle.spec_loop_filters.specs.Filters.{Samples, final_samples}
+use Rattle.spec_picture_filters.specs.SpecLoopFilters.{FilterFormat}
+use Rattle.spec_picture_filters.specs.SpecLoopFilters.{Samples, final_samples}
 use Rattle.spec_picture_filters.specs.Filtered.{filter_format, filtered}
 use Rattle.picture_filters.specs.Filtering.{Viewed, gathered}
 

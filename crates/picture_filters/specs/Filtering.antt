@@ -7,12 +7,12 @@ use Rattle.picture_filters.specs.Units.{FieldUnits, units_of}
 use Rattle.slice_types.specs.declared.slice.SliceDeblocking.{SliceDeblocking}
 use Rattle.plan_types.specs.declared.segment_plan.SegmentPlan.{SegmentPlan}
 use Rattle.plan_types.specs.declared.picture_plan.PicturePlan.{PicturePlan}
-use Rattle.spec_boundary_strengths.specs.declared.place.UnitPlace.{UnitPlace}
-use Rattle.spec_loop_filters.specs.declared.format.FilterFormat.{FilterFormat}
+use Rattle.boundary_strengths.specs.SpecBoundaryStrengths.{UnitPlace}
+use Rattle.spec_picture_filters.specs.SpecLoopFilters.{FilterFormat}
 use Rattle.spec_picture_trees.specs.Shapes.{picture_shape}
 use Rattle.spec_picture_trees.specs.Places.{first_column, first_row, is_of_unit}
 use Rattle.spec_sample_adaptive_offset.specs.declared.unit.OffsetUnit.{OffsetUnit}
-use Rattle.spec_slice_data.specs.Segment.{PictureShape}
+use Rattle.spec_picture_trees.specs.SpecSliceData.{PictureShape}
 use Rattle.spec_picture_filters.specs.Data.{FilterData}
 use Rattle.spec_picture_filters.specs.Units.{coded_near, place_of, slice_address}
 use Rattle.picture_layout.specs.declared.coding_tree_unit.CodingTreeUnit.{CodingTreeUnit}

@@ -7,11 +7,11 @@ use Rattle.picture_filters.specs.Units.{first_unit}
 use Rattle.plan_types.specs.declared.picture_plan.PicturePlan.{PicturePlan}
 use Rattle.plan_types.specs.declared.segment_plan.SegmentPlan.{SegmentPlan}
 use Rattle.spec_picture_filters.specs.Units.{places_read, unit_read}
-use Rattle.spec_picture_motion.specs.Field.{Motions}
+use Rattle.spec_picture_filters.specs.SpecPictureMotion.{Motions}
 use Rattle.spec_picture_trees.specs.Places.{unit_places}
 use Rattle.spec_picture_trees.specs.Shapes.{picture_shape}
 use Rattle.spec_sample_adaptive_offset.specs.declared.unit.OffsetUnit.{OffsetUnit}
-use Rattle.spec_slice_data.specs.Segment.{PictureShape, column_of, row_of}
+use Rattle.spec_picture_trees.specs.SpecSliceData.{PictureShape, column_of, row_of}
 
 -- that of the unit at an address, a unit of a slice segment, by the motion of the picture behind it and by the places
 -- that are coded before it

@@ -1,6 +1,6 @@
 //! What is kept of a place.
 
-use spec_deblocking::Place;
+use spec_picture_filters::Place;
 
 /// What is known of a place, four columns and four lines of luma samples.
 #[derive(Clone, Copy)]

@@ -6,7 +6,7 @@ ghost use Rattle.header_types.specs.SequenceParameterSets.{IsSps};
 ghost use Rattle.spec_picture_filters.specs.Filtered.{filter_format};
 
 use plan_types::PicturePlan;
-use spec_loop_filters::FilterFormat;
+use spec_picture_filters::FilterFormat;
 
 /// What the loop filters of a planned picture depend on, apart from its places and units.
 #[tactic(auto, unfolding(spec_picture_filters::specs::Filtered::filter_format))]

@@ -6,18 +6,17 @@ ghost use Rattle.ctu_records.specs.Tree.{qp_at};
 ghost use Rattle.picture_filters.specs.Filtering.{IsCodedAbove, IsCodedLeft, IsUnit};
 ghost use Rattle.picture_filters.specs.Given.{IsGiven};
 ghost use Rattle.picture_filters.specs.Units.{first_unit};
-ghost use Rattle.spec_motion.specs.Units.{IsPlacedItem};
+ghost use Rattle.picture_buffer.specs.SpecMotion.{IsPlacedItem};
 ghost use Rattle.spec_picture_filters.specs.Units.{is_across, motion_near, offset_of};
-ghost use Rattle.spec_picture_motion.specs.Field.{Motions};
+ghost use Rattle.spec_picture_filters.specs.SpecPictureMotion.{Motions};
 
 use crate::beside::unit_sides;
 use crate::unit_rows::FIRST_UNIT;
-use boundary_strengths::{PlaceMotions, unit_places};
+use boundary_strengths::{PlaceMotions, UnitPlace, unit_places};
 use ctu_records::{ComponentOffset, Records, Sao};
 use picture_layout::CodingTreeUnit;
 use plan_types::{PicturePlan, SegmentPlan};
 use slice_types::SliceDeblocking;
-use spec_boundary_strengths::UnitPlace;
 use spec_sample_adaptive_offset::OffsetUnit;
 
 /// Which places beside a unit are coded.

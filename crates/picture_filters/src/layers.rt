@@ -8,10 +8,10 @@ ghost use Rattle.spec_picture_filters.specs.Units.{held_offset, place_of};
 
 use crate::filter_place::FilterPlace;
 use crate::place_field::PlaceField;
+use boundary_strengths::UnitPlace;
 use picture_layout::{CodingTreeUnit, PlaceBlock};
 use slice_types::SliceDeblocking;
-use spec_boundary_strengths::UnitPlace;
-use spec_deblocking::Place;
+use spec_picture_filters::Place;
 
 /// The places of a unit, in 16 rows of 16, over those of the picture.
 pub(crate) fn lay_places(

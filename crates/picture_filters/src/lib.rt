@@ -14,6 +14,9 @@ mod planned;
 mod unit_rows;
 mod view;
 
+pub use boundary_strengths::PlaceMotions;
 pub use format::filter_format;
 pub use given::{CodedBeside, UnitFilters, unit_filters};
+pub use loop_filters::FilterScratch;
 pub use picture::PictureFilters;
+pub use plan_types::{PicturePlan, SegmentPlan};

@@ -9,11 +9,11 @@ ghost use Rattle.loop_filters.specs.Scratch.{HasRoom};
 ghost use Rattle.picture_buffer.specs.Planes.{HasSides, plane_height, plane_width, samples_of};
 ghost use Rattle.picture_filters.specs.Filtering.{IsUnit, data_of};
 ghost use Rattle.picture_filters.specs.Given.{IsGiven};
-ghost use Rattle.spec_loop_filters.specs.Filters.{depth_of};
+ghost use Rattle.spec_picture_filters.specs.SpecLoopFilters.{depth_of};
 ghost use Rattle.spec_picture_filters.specs.Data.{no_data};
 ghost use Rattle.spec_picture_filters.specs.Filtered.{filter_format, filtered};
 ghost use Rattle.spec_picture_filters.specs.Units.{read_added};
-ghost use Rattle.spec_picture_motion.specs.Field.{Motions};
+ghost use Rattle.spec_picture_filters.specs.SpecPictureMotion.{Motions};
 
 use crate::given::UnitFilters;
 use crate::layers::lay_places;

@@ -7,7 +7,7 @@ ghost use Rattle.header_types.specs.SequenceParameterSets.{height_in_ctbs, width
 ghost use Rattle.loop_filters.specs.Scratch.{HasRoom};
 ghost use Rattle.picture_buffer.specs.Planes.{HasSides, plane_height, plane_width, samples_of};
 ghost use Rattle.picture_filters.specs.Filtering.{gathered};
-ghost use Rattle.spec_loop_filters.specs.Filters.{depth_of};
+ghost use Rattle.spec_picture_filters.specs.SpecLoopFilters.{depth_of};
 ghost use Rattle.spec_picture_filters.specs.Filtered.{filter_format, filtered};
 
 use crate::format::filter_format;

@@ -7,11 +7,9 @@ ghost use Rattle.loop_filters.specs.Formats.{columns_of, rows_of};
 
 use crate::place_field::PlaceField;
 use crate::unit_rows::unit_row;
-use deblock::PlaceView;
-use loop_filters::FilterView;
+use loop_filters::{FilterView, PlaceView};
 use place_grid::Grid;
-use spec_deblocking::Place;
-use spec_loop_filters::FilterFormat;
+use spec_picture_filters::{FilterFormat, Place};
 use spec_sample_adaptive_offset::OffsetUnit;
 use std::marker::Model;
 

@@ -11,10 +11,10 @@ use Rattle.header_types.specs.declared.sps.SpsFields.{SpsFields}
 use Rattle.header_types.specs.declared.pps.PpsFields.{PpsFields}
 use Rattle.spec_reference_pictures.specs.PictureOrderCount.{begins_anew}
 use Rattle.spec_reference_pictures.specs.ReferencePictureSet.{GivesSet, is_reference, reference_picture_set}
-use Rattle.spec_output_order.specs.CurrentPictures.{current_picture}
-use Rattle.spec_output_order.specs.OutputOrder.{outputs_of}
-use Rattle.spec_output_order.proofs.Anew.{anew_marks_none}
-use Rattle.spec_output_order.proofs.Room.{fits}
+use Rattle.output_order.specs.SpecOutputOrder.{current_picture}
+use Rattle.output_order.specs.SpecOutputOrder.{outputs_of}
+use Rattle.output_order.proofs.SpecOutputOrderLemmas.{anew_marks_none}
+use Rattle.output_order.proofs.SpecOutputOrderLemmas.{fits}
 use Rattle.picture_headers.specs.Bounds.{Fits}
 use Rattle.picture_headers.specs.declared.opening.Parts.{Parts}
 

@@ -6,7 +6,7 @@ use Rattle.slice_types.specs.declared.slice.PictureKind.{PictureKind}
 use Rattle.header_types.specs.declared.sps.SpsFields.{SpsFields}
 use Rattle.header_types.specs.SequenceParameterSets.{highest_ordering}
 use Rattle.spec_reference_pictures.specs.PictureOrderCount.{begins_anew}
-use Rattle.spec_output_order.specs.OutputOrder.{is_full_of_references, size_of}
+use Rattle.output_order.specs.SpecOutputOrder.{is_full_of_references, size_of}
 use Rattle.plan_types.specs.declared.picture_plan.PicturePlan.{PicturePlan}
 
 -- behind a picture of this kind and sequence parameter set, which marks the buffer's pictures so, the buffer holds no

@@ -2,7 +2,7 @@
 
 ghost use Rattle.std.specs.Prelude.{◌≡◌, ◌-◌, ◌/◌, ◌≤◌, None, length, nat_lt, sum};
 ghost use Rattle.header_types.specs.SequenceParameterSets.{highest_ordering};
-ghost use Rattle.spec_output_order.specs.OutputOrder.{size_of};
+ghost use Rattle.output_order.specs.SpecOutputOrder.{size_of};
 ghost use Rattle.picture_headers.specs.Bounds.{IsWithinSize, KeepsFew};
 ghost use Rattle.plan_types.specs.Segments.{address_of, begins_at};
 ghost use Rattle.spec_picture_plan.specs.Closing.{
@@ -19,9 +19,8 @@ ghost use Rattle.spec_picture_plan.specs.Closing.{
 };
 
 use hv_base::{Fault, FaultKind};
-use output_order::is_full_of_references;
+use output_order::{begins_anew, is_full_of_references};
 use plan_types::{PicturePlan, SegmentPlan};
-use ref_picture_sets::begins_anew;
 use slice_headers::data_size;
 
 /// The first rule that a picture breaks as it is closed: of those on its slice segments, and then that the decoded

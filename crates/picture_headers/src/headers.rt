@@ -8,8 +8,8 @@ ghost use Rattle.spec_picture_plan.specs.Steps.{first_flag, judged_header};
 
 use header_types::{Former, Sets};
 use hv_base::{FaultKind, LimitKind, Nal, Refusal};
+use output_order::is_irap;
 use plan_types::SegmentPlan;
-use ref_picture_sets::is_irap;
 use slice_headers::read_slice_header;
 use slice_types::SliceHeader;
 use std::alloc::Global;

@@ -10,4 +10,6 @@ mod segments;
 pub use closing::broken_at_closing;
 pub use headers::{first_flag, judge_header};
 pub use opening::open_picture;
+pub use output_order::{is_irap, last_outputs};
 pub use segments::segment_of;
+pub use slice_headers::{read_pps, read_sps};

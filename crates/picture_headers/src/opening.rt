@@ -4,8 +4,8 @@ ghost use Rattle.std.specs.Prelude.{◌≡◌, ◌<◌, ◌≤◌, ◌∷◌, []
 ghost use Rattle.std.specs.List.{count_by};
 ghost use Rattle.slice_types.specs.SliceHeaders.{IsReferenceFields};
 ghost use Rattle.spec_formats.specs.Fields.{Parses};
-ghost use Rattle.spec_output_order.specs.CurrentPictures.{current_picture};
-ghost use Rattle.spec_output_order.specs.OutputOrder.{outputs_of};
+ghost use Rattle.output_order.specs.SpecOutputOrder.{current_picture};
+ghost use Rattle.output_order.specs.SpecOutputOrder.{outputs_of};
 ghost use Rattle.spec_picture_plan.specs.Steps.{opening, picture_of, segment_of, with_order};
 ghost use Rattle.spec_reference_pictures.specs.PictureOrderCount.{begins_anew, pic_order_cnt_val};
 ghost use Rattle.spec_reference_pictures.specs.ReferencePictureSet.{GivesSet, is_reference, reference_picture_set};
@@ -18,8 +18,8 @@ use crate::outputs::outputs_at;
 use crate::segments::segment_of;
 use header_types::{DpbPicture, FieldList, Former, Pps, Rps, Sets, Shared, Sps};
 use hv_base::{FaultKind, Nal, Refusal};
+use output_order::{derive_rps, poc_of};
 use plan_types::{Outputs, PicturePlan, SegmentPlan};
-use ref_picture_sets::{derive_rps, poc_of};
 use slice_types::{PictureKind, ReferenceFields, SliceHeader};
 use std::alloc::{AllocError, Global};
 

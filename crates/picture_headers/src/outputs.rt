@@ -1,8 +1,8 @@
 //! What a picture puts out (C.5.2).
 
 ghost use Rattle.std.specs.Prelude.{◌≡◌, ◌≤◌, IfOk, length};
-ghost use Rattle.spec_output_order.specs.CurrentPictures.{current_picture};
-ghost use Rattle.spec_output_order.specs.OutputOrder.{outputs_of};
+ghost use Rattle.output_order.specs.SpecOutputOrder.{current_picture};
+ghost use Rattle.output_order.specs.SpecOutputOrder.{outputs_of};
 
 use header_types::{Former, Rps, Sps};
 use output_order::{current_picture, outputs_of};

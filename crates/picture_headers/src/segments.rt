@@ -1,15 +1,15 @@
 //! Slice segments as their picture holds them.
 
 ghost use Rattle.std.specs.Prelude.{◌≡◌, IfOk};
-ghost use Rattle.spec_slice_headers.specs.Substreams.{substream_ranges};
+ghost use Rattle.slice_headers.specs.SpecSliceHeaders.{substream_ranges};
 ghost use Rattle.spec_nal_units.specs.Judged.{unit_of};
-ghost use Rattle.spec_slice_headers.specs.Context.{last_segment, slice_of};
+ghost use Rattle.slice_headers.specs.SpecSliceHeaders.{last_segment, slice_of};
 ghost use Rattle.spec_picture_plan.specs.Steps.{lists_of, segment_of, slice_number};
 
 use header_types::{DpbPicture, FieldList, Lists, Rps};
 use hv_base::Nal;
+use output_order::build_lists;
 use plan_types::{Payload, SegmentPlan};
-use ref_picture_sets::build_lists;
 use slice_headers::substreams;
 use slice_types::{SliceHeader, Substream};
 use std::alloc::{AllocError, Global};

@@ -2,8 +2,8 @@
 use Rattle.std.proofs.Common.{◌≡◌, ℕ, Bool, zero, suc, ◌+◌, ◌-◌, ◌*◌, ◌/◌, ◌%◌, ◌^◌, ◌<◌, ◌≤◌, ap, sym, subst, ◌∙◌}
 use Rattle.std.proofs.Common.{arith}
 use Rattle.std.proofs.lemmas.Nat.{div-mul-add}
-use Rattle.header_types.specs.declared.sps.SpsFields.{SpsFields}
-use Rattle.header_types.specs.SequenceParameterSets.{IsSps, blocks_across, ctb_log2, width_in_ctbs}
+use Rattle.spec_picture_trees.specs.HeaderTypes.{SpsFields}
+use Rattle.spec_picture_trees.specs.HeaderTypes.{IsSps, blocks_across, ctb_log2, width_in_ctbs}
 use Rattle.picture_layout.specs.Shape.{IsShape}
 use Rattle.picture_layout.proofs.Places.{before, block_begins, block_ends, whole}
 

@@ -1,6 +1,6 @@
 -- The size of a picture in coding tree units and in places of 4x4 luma samples (6.3.1).
 use Rattle.std.specs.Prelude.{◌-◌, ◌*◌, ◌^◌, ◌<◌, ◌≤◌}
-use Rattle.spec_slice_data.specs.Segment.{PictureShape}
+use Rattle.spec_picture_trees.specs.SpecSliceData.{PictureShape}
 
 -- a picture of sides up to 8192 luma samples: its units cover each of its rows, and each of them has samples
 pub record IsShape (picture : PictureShape) : Type 0 where

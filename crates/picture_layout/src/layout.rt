@@ -3,9 +3,9 @@
 ghost use Rattle.std.specs.Prelude.{◌≡◌, ◌+◌, ◌-◌, ◌*◌, ◌/◌, ◌%◌, ◌^◌, ◌<◌, ◌≤◌};
 ghost use Rattle.picture_layout.specs.Shape.{IsShape};
 ghost use Rattle.spec_picture_trees.specs.Shapes.{picture_shape};
-ghost use Rattle.spec_slice_data.specs.Segment.{begins_row, column_of, row_of};
+ghost use Rattle.spec_picture_trees.specs.SpecSliceData.{begins_row, column_of, row_of};
 
-use plan_types::PicturePlan;
+use spec_picture_trees::PicturePlan;
 use std::marker::Model;
 
 /// A picture's size in coding tree units and in places of 4x4 luma samples, and whether each row of units has a
@@ -20,7 +20,7 @@ pub struct Layout {
 }
 
 impl Model for Layout {
-    ghost use Rattle.spec_slice_data.specs.Segment.{PictureShape};
+    ghost use Rattle.spec_picture_trees.specs.SpecSliceData.{PictureShape};
     ghost use Rattle.picture_layout.specs.Shape.{IsShape};
 
     ghost Value = { PictureShape };

@@ -1,10 +1,10 @@
 //! Where slice segments begin.
 
 ghost use Rattle.std.specs.Prelude.{◌≡◌};
-ghost use Rattle.plan_types.specs.Segments.{address_of};
+ghost use Rattle.spec_picture_trees.specs.PlanTypes.{address_of};
 ghost use Rattle.spec_picture_trees.specs.Shapes.{slice_start};
 
-use plan_types::{PicturePlan, SegmentPlan};
+use spec_picture_trees::{PicturePlan, SegmentPlan};
 
 /// The segment that begins a segment's slice.
 pub fn slice_of<'a>(plan: &'a PicturePlan, segment: &'a SegmentPlan) -> &'a SegmentPlan

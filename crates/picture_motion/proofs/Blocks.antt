@@ -4,8 +4,8 @@ use Rattle.std.proofs.Math.Path.{fun_ext}
 use Rattle.std.proofs.lemmas.Bool.Decides.{nat_tests}
 use Rattle.spec_motion.specs.Vectors.{Beneath}
 use Rattle.spec_picture_motion.specs.Field.{Motions, beneath_unit}
-use Rattle.spec_picture_trees.specs.Places.{unit_places}
-use Rattle.spec_slice_data.specs.Segment.{PictureShape}
+use Rattle.spec_picture_motion.specs.SpecPictureTrees.{unit_places}
+use Rattle.spec_picture_motion.specs.SpecSliceData.{PictureShape}
 
 blocks_at : (picture : PictureShape) (address : ℕ) (motions : Motions) (old new : Beneath) (i j : ℕ) → old i j ≡ None
     → new i j ≡ cond (nat_le (4 * i) (unit_places picture) && nat_lt (4 * j) (unit_places picture))

@@ -3,15 +3,15 @@ use Rattle.std.proofs.Common.{◌≡◌, ℕ, List, None, refl, arith}
 use Rattle.std.proofs.Math.Path.{fun_ext}
 use Rattle.std.proofs.lemmas.Bool.Decides.{nat_tests}
 use Rattle.ctu_records.specs.declared.item.Item.{Item}
-use Rattle.plan_types.specs.declared.picture_plan.PicturePlan.{PicturePlan}
-use Rattle.plan_types.specs.declared.segment_plan.SegmentPlan.{SegmentPlan}
+use Rattle.spec_picture_motion.specs.PlanTypes.{PicturePlan}
+use Rattle.spec_picture_motion.specs.PlanTypes.{SegmentPlan}
 use Rattle.spec_motion.specs.Units.{unit_derived}
 use Rattle.spec_motion.specs.Vectors.{Beneath, Known}
-use Rattle.plan_types.specs.Segments.{address_of}
-use Rattle.spec_picture_trees.specs.Shapes.{picture_shape, slice_start}
+use Rattle.spec_picture_motion.specs.PlanTypes.{address_of}
+use Rattle.spec_picture_motion.specs.SpecPictureTrees.{picture_shape, slice_start}
 use Rattle.spec_picture_motion.specs.Field.{Motions, beneath_unit, known_beside, no_motions, unit_laid}
 use Rattle.spec_picture_motion.specs.Slices.{slice_motion}
-use Rattle.spec_slice_data.specs.Segment.{PictureShape}
+use Rattle.spec_picture_motion.specs.SpecSliceData.{PictureShape}
 use Rattle.picture_motion.specs.Deriving.{derived_over, known_over}
 use Rattle.picture_layout.specs.declared.coding_tree_unit.CodingTreeUnit.{CodingTreeUnit}
 

@@ -3,7 +3,7 @@ use Rattle.std.proofs.Common.{◌≡◌, ℕ, ◌*◌, ◌==◌, ◌&&◌, cond,
 use Rattle.std.proofs.Math.Path.{fun_ext}
 use Rattle.std.proofs.lemmas.Bool.Decides.{nat_tests}
 use Rattle.ctu_motion.specs.Held.{Cells, held}
-use Rattle.spec_picture_trees.specs.Places.{unit_places}
+use Rattle.spec_picture_motion.specs.SpecPictureTrees.{unit_places}
 use Rattle.spec_picture_motion.specs.Field.{Motions, known_beside}
 use Rattle.picture_motion.specs.Units.{at_border}
 use Rattle.picture_layout.specs.declared.coding_tree_unit.CodingTreeUnit.{CodingTreeUnit}

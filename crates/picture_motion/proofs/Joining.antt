@@ -1,9 +1,9 @@
 -- What a unit's derivation over a collocated picture has in common with the definition of a picture's motion.
 use Rattle.std.proofs.Common.{◌≡◌, refl}
-use Rattle.plan_types.specs.declared.picture_plan.PicturePlan.{PicturePlan}
-use Rattle.plan_types.specs.declared.segment_plan.SegmentPlan.{SegmentPlan}
-use Rattle.spec_picture_trees.specs.Picture.{TreeUnit}
-use Rattle.spec_picture_trees.specs.Shapes.{slice_start}
+use Rattle.spec_picture_motion.specs.PlanTypes.{PicturePlan}
+use Rattle.spec_picture_motion.specs.PlanTypes.{SegmentPlan}
+use Rattle.spec_picture_motion.specs.SpecPictureTrees.{TreeUnit}
+use Rattle.spec_picture_motion.specs.SpecPictureTrees.{slice_start}
 use Rattle.spec_picture_motion.specs.Derived.{References, collocated_motions, known_of_unit, unit_added}
 use Rattle.spec_picture_motion.specs.Field.{Motions}
 use Rattle.spec_picture_motion.specs.Slices.{collocated_entry}

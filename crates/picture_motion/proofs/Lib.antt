@@ -4,3 +4,4 @@ pub mod Lines
 pub mod References
 pub mod Derived
 pub mod Joining
+pub mod PictureLayoutLemmas

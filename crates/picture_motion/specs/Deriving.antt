@@ -3,12 +3,12 @@ use Rattle.std.specs.Prelude.{ℕ, List}
 use Rattle.ctu_motion.specs.Held.{Cells}
 use Rattle.ctu_records.specs.declared.item.Item.{Item}
 use Rattle.picture_buffer.specs.Motion.{FieldPlaces}
-use Rattle.plan_types.specs.declared.segment_plan.SegmentPlan.{SegmentPlan}
-use Rattle.plan_types.specs.declared.picture_plan.PicturePlan.{PicturePlan}
+use Rattle.spec_picture_motion.specs.PlanTypes.{SegmentPlan}
+use Rattle.spec_picture_motion.specs.PlanTypes.{PicturePlan}
 use Rattle.spec_motion.specs.Units.{unit_derived}
 use Rattle.spec_motion.specs.Vectors.{Known}
-use Rattle.plan_types.specs.Segments.{address_of}
-use Rattle.spec_picture_trees.specs.Shapes.{picture_shape, slice_start}
+use Rattle.spec_picture_motion.specs.PlanTypes.{address_of}
+use Rattle.spec_picture_motion.specs.SpecPictureTrees.{picture_shape, slice_start}
 use Rattle.spec_picture_motion.specs.Field.{Motions, beneath_unit, known_beside, unit_laid}
 use Rattle.spec_picture_motion.specs.Slices.{slice_motion}
 

@@ -1,2 +1,4 @@
 pub mod Units
 pub mod Deriving
+pub mod CtuMotion
+pub mod PictureLayout

@@ -3,7 +3,7 @@
 ghost use Rattle.std.specs.Prelude.{◌≡◌, ℕ, ◌+◌, ◌*◌, ◌<◌, ◌≤◌, ◌==◌, ◌&&◌, nat_le, None, if◌then◌else◌};
 ghost use Rattle.ctu_motion.specs.Held.{held, held_beneath};
 ghost use Rattle.spec_picture_motion.specs.Field.{beneath_unit, collocated_of, collocated_vector};
-ghost use Rattle.spec_picture_trees.specs.Places.{unit_places};
+ghost use Rattle.spec_picture_motion.specs.SpecPictureTrees.{unit_places};
 
 use crate::view::MotionBeneath;
 use ctu_motion::UnitMotion;

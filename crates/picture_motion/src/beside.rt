@@ -4,7 +4,7 @@ ghost use Rattle.std.specs.Prelude.{◌≡◌, ℕ, ◌+◌, ◌-◌, ◌*◌, �
 ghost use Rattle.std.specs.Prelude.{if◌then◌else◌};
 ghost use Rattle.ctu_motion.specs.Held.{held, held_beneath};
 ghost use Rattle.picture_motion.specs.Units.{at_border};
-ghost use Rattle.spec_picture_trees.specs.Places.{unit_places};
+ghost use Rattle.spec_picture_motion.specs.SpecPictureTrees.{unit_places};
 ghost use Rattle.spec_picture_motion.specs.Field.{known_beside, motion_beside, motion_of, vector_of};
 
 use crate::view::MotionBeside;

@@ -12,7 +12,10 @@ mod view;
 
 pub use beneath::gather_beneath;
 pub use beside::gather_beside;
+pub use ctu_motion::{MotionView, UnitMotion, derive_motion};
 pub use picture::PictureMotion;
+pub use picture_buffer::PlaceMotion;
+pub use picture_layout::CodingTreeUnit;
 pub use pointing::pointing_motion;
 pub use slice::{collocated_entry, slice_motion};
 pub use unit_lines::lay_unit;

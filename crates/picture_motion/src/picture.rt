@@ -6,8 +6,8 @@ ghost use Rattle.ctu_motion.specs.Held.{held, held_beneath};
 ghost use Rattle.picture_buffer.specs.Motion.{HasPlaces, motions_of};
 ghost use Rattle.picture_motion.specs.Deriving.{derived_over, known_over};
 ghost use Rattle.spec_motion.specs.Units.{IsPlacedItem, unit_derived};
-ghost use Rattle.plan_types.specs.Segments.{address_of};
-ghost use Rattle.spec_picture_trees.specs.Shapes.{picture_shape, slice_start};
+ghost use Rattle.spec_picture_motion.specs.PlanTypes.{address_of};
+ghost use Rattle.spec_picture_motion.specs.SpecPictureTrees.{picture_shape, slice_start};
 ghost use Rattle.spec_picture_motion.specs.Field.{no_motions, unit_laid};
 ghost use Rattle.spec_picture_motion.specs.Slices.{slice_motion};
 
@@ -15,13 +15,12 @@ use crate::beneath::gather_beneath;
 use crate::beside::gather_beside;
 use crate::slice::slice_motion;
 use crate::unit_lines::lay_unit;
-use ctu_motion::{UnitMotion, derive_motion};
+use ctu_motion::{MotionView, UnitMotion, derive_motion};
 use ctu_records::Records;
-use motion_candidates::MotionView;
 use picture_buffer::MotionField;
 use picture_layout::{CodingTreeUnit, Layout, slice_address};
-use plan_types::{PicturePlan, SegmentPlan};
 use spec_motion::Motion;
+use spec_picture_motion::{PicturePlan, SegmentPlan};
 use std::alloc::{AllocError, Global};
 use std::marker::Model;
 
@@ -39,7 +38,7 @@ impl<'a> Model for PictureMotion<'a> {
     ghost use Rattle.std.specs.Prelude.{◌≡◌};
     ghost use Rattle.picture_buffer.specs.Motion.{HasPlaces};
     ghost use Rattle.picture_motion.specs.Deriving.{Deriving};
-    ghost use Rattle.spec_picture_trees.specs.Shapes.{picture_shape};
+    ghost use Rattle.spec_picture_motion.specs.SpecPictureTrees.{picture_shape};
 
     ghost Value = { Deriving };
 

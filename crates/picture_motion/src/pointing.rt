@@ -3,7 +3,7 @@
 ghost use Rattle.std.specs.Prelude.{◌≡◌};
 ghost use Rattle.spec_picture_motion.specs.Field.{pointing_motion, pointing_vector};
 
-use motion_candidates::reference_in;
+use ctu_motion::reference_in;
 use picture_buffer::{PlaceMotion, PlaceVector};
 use spec_motion::{Motion, SliceMotion, Vector};
 

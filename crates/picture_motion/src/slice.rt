@@ -1,7 +1,7 @@
 //! What the motion of a slice's coding tree units depends on (7.4.7.1, 8.3.4).
 
 ghost use Rattle.std.specs.Prelude.{◌≡◌, ◌+◌, ◌-◌, ◌*◌, ◌<◌, ◌≤◌, length, min, if◌then◌else◌};
-ghost use Rattle.spec_picture_trees.specs.Shapes.{picture_shape, slice_start};
+ghost use Rattle.spec_picture_motion.specs.SpecPictureTrees.{picture_shape, slice_start};
 ghost use Rattle.spec_picture_motion.specs.Slices.{collocated_entry, collocation, entries_0, entries_1};
 ghost use Rattle.spec_picture_motion.specs.Slices.{is_bi_predictive, is_from_list_0, is_there, log2_parallel};
 ghost use Rattle.spec_picture_motion.specs.Slices.{max_candidates, motion_of_slice, order_of, reference_at, references};
@@ -9,9 +9,9 @@ ghost use Rattle.spec_picture_motion.specs.Slices.{slice_motion};
 
 use header_types::{Lists, Pps, RefEntry};
 use picture_layout::{CodingTreeUnit, slice_of};
-use plan_types::{PicturePlan, SegmentPlan};
 use slice_types::{Collocated, InterFields, SliceFields, SliceType};
 use spec_motion::{Reference, SliceMotion};
+use spec_picture_motion::{PicturePlan, SegmentPlan};
 
 /// What stands behind the last entry of a list.
 const NO_REFERENCE: Reference = Reference {

@@ -7,8 +7,7 @@ ghost use Rattle.picture_layout.specs.Blocks.{IsSmall};
 ghost use Rattle.spec_picture_motion.specs.Field.{pointing_motion, unit_laid};
 
 use crate::pointing::pointing_motion;
-use ctu_motion::UnitMotion;
-use motion_candidates::MotionView;
+use ctu_motion::{MotionView, UnitMotion};
 use picture_buffer::MotionField;
 use picture_layout::{CodingTreeUnit, PlaceBlock};
 use spec_motion::{Motion, SliceMotion, Vector};

@@ -6,4 +6,5 @@ mod agreement;
 mod pps;
 
 pub use agreement::fits;
+pub use param_sets::read_sps;
 pub use pps::read_pps;

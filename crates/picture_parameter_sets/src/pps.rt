@@ -1,7 +1,7 @@
 //! Picture parameter sets (7.3.2.3, 7.4.3.3).
 
 ghost use Rattle.std.specs.Prelude.{◌≡◌, ℕ, pos, neg_ℤ, ◌≤ℤ◌, List, IfOk, IfSome};
-ghost use Rattle.header_fields.specs.Takes.{Takes};
+ghost use Rattle.param_sets.specs.HeaderFields.{Takes};
 ghost use Rattle.header_types.specs.PictureParameterSet.{IsWithin, IsDeblockingControl, IsPps, IsPpsIdentity};
 ghost use Rattle.header_types.specs.PictureParameterSet.{IsPpsSliceDefaults, IsPpsQuantization, IsPpsFilters};
 ghost use Rattle.spec_formats.specs.Fields.{Parses, optional, ue};
@@ -10,13 +10,12 @@ ghost use Rattle.spec_parameter_sets.specs.PictureParameterSet.{pps_identity, pp
 ghost use Rattle.spec_parameter_sets.specs.PictureParameterSet.{pps_prediction, pps_filters, picture_parameter_set};
 ghost use Rattle.spec_parameter_sets.specs.PictureParameterSet.{picture_parameter_set_of};
 
-use header_fields::FieldReader;
 use header_types::{
     DeblockingControl, Pps, PpsFields, PpsFilters, PpsIdentity, PpsPrediction, PpsQuantization,
     PpsSliceDefaults,
 };
 use hv_base::{LimitKind, PARAMETER_SET_RULES, Refusal};
-use param_sets::read_scaling_lists;
+use param_sets::{FieldReader, read_scaling_lists};
 use std::alloc::Global;
 
 #[tactic(auto, unfolding(spec_parameter_sets::specs::PictureParameterSet::pps_identity))]

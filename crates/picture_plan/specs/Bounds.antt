@@ -2,7 +2,7 @@
 use Rattle.std.specs.Prelude.{◌≤◌, length, IfSome}
 use Rattle.header_types.specs.declared.former.Former.{Former}
 use Rattle.header_types.specs.SequenceParameterSets.{highest_ordering}
-use Rattle.spec_output_order.specs.OutputOrder.{size_of}
+use Rattle.spec_picture_plan.specs.SpecOutputOrder.{size_of}
 use Rattle.plan_types.specs.declared.between.Between.{Between}
 use Rattle.picture_headers.specs.Bounds.{KeepsFew}
 use Rattle.picture_plan.specs.declared.change.Change.{Change}

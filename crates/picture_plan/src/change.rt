@@ -7,8 +7,8 @@ ghost use Rattle.picture_plan.specs.Changes.{Stops, applied, next_of};
 
 use header_types::{Former, Pps, Shared, Sps};
 use hv_base::{Fault, Limit, Refusal, Stop};
+use picture_headers::is_irap;
 use plan_types::{Between, PicturePlan};
-use ref_picture_sets::is_irap;
 use slice_types::PictureKind;
 use std::alloc::AllocError;
 

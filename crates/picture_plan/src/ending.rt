@@ -10,7 +10,7 @@ use crate::change::Closing;
 use crate::state::State;
 use crate::step::Step;
 use header_types::FieldList;
-use output_order::last_outputs;
+use picture_headers::last_outputs;
 use std::alloc::AllocError;
 
 /// What closing the open picture gives at the end of the input, and which pictures go out then.

@@ -2,8 +2,8 @@
 
 ghost use Rattle.std.specs.Prelude.{◌≡◌, IfOk, OnErr};
 ghost use Rattle.spec_nal_units.specs.Judged.{unit_of};
-ghost use Rattle.spec_parameter_sets.specs.PictureParameterSet.{picture_parameter_set_of};
-ghost use Rattle.spec_parameter_sets.specs.SequenceParameterSet.{sequence_parameter_set_of};
+ghost use Rattle.spec_picture_plan.specs.SpecParameterSets.{picture_parameter_set_of};
+ghost use Rattle.spec_picture_plan.specs.SpecParameterSets.{sequence_parameter_set_of};
 ghost use Rattle.plan_types.specs.declared.between.Between.{Between};
 ghost use Rattle.spec_picture_plan.specs.declared.unit_kind.UnitKind.TheVariants as unit;
 ghost use Rattle.spec_picture_plan.specs.Steps.{behind_read, kind_step, put_pps, put_sps, unit_step};
@@ -20,8 +20,7 @@ use crate::unit_kinds::kind_of_type;
 use header_types::Shared;
 use hv_base::{Nal, Stop};
 use nal_stream::Next;
-use param_sets::read_sps;
-use picture_parameter_sets::read_pps;
+use picture_headers::{read_pps, read_sps};
 use spec_picture_plan::UnitKind;
 use std::alloc::{AllocError, Global};
 

@@ -1,19 +1,20 @@
 -- What is kept of the units before one is what the next unit is read by.
-use Rattle.std.proofs.Common.{◌≡◌, ◌≢◌, ℕ, ◌+◌, ◌-◌, ◌^◌, ◌%◌, ◌<◌, ◌≤◌, Bool, true, false, List, [], ◌∷◌, ◌++◌, length}
+use Rattle.std.proofs.Common.{◌≡◌, ◌≢◌, ℕ, ◌+◌, ◌-◌, ◌^◌, ◌%◌, ◌<◌, ◌≤◌, Bool, true, false, List, [], ◌∷◌, ◌++◌}
+use Rattle.std.proofs.Common.{length}
 use Rattle.std.proofs.Common.{get_or, slice_set, refl, ap, sym, ◌∙◌, nat_eq, length-append, Result, Ok, Err, arith}
 use Rattle.std.proofs.lemmas.Bool.Decides.{nat_tests}
 use Rattle.std.proofs.lemmas.List.{get_or-set_same, get_or-set_other, get_or_append_left, length-set}
 use Rattle.std.proofs.Math.Nat.{mod-lt}
 use Rattle.std.proofs.Math.Seq.{get_or-append_seam}
 use Rattle.ctu_records.specs.Tree.{Ctu}
-use Rattle.spec_cabac.specs.Bins.{State}
+use Rattle.spec_slice_data.specs.SpecCabac.{State}
 use Rattle.spec_slice_data.specs.declared.syntax.CtuSyntax.{CtuSyntax}
 use Rattle.spec_slice_data.specs.declared.syntax.End.{End}
 use Rattle.spec_slice_data.specs.Segment.{PictureShape, SegmentShape, Between, column_of, no_group, nothing_read}
 use Rattle.spec_slice_data.specs.Segment.{read_unit, stored_behind}
-use Rattle.coding_quadtree.specs.Judged.{Follows}
-use Rattle.coding_quadtree.specs.Next.{StepsTo, next_between}
-use Rattle.cabac_contexts.specs.Takes.{state_of}
+use Rattle.unit_trees.specs.CodingQuadtree.{Follows}
+use Rattle.unit_trees.specs.CodingQuadtree.{StepsTo, next_between}
+use Rattle.unit_trees.specs.CabacContexts.{state_of}
 use Rattle.hv_base.specs.declared.breach.Breach.{Breach}
 use Rattle.unit_trees.specs.declared.edges.Edge.{Edge}
 use Rattle.unit_trees.specs.declared.units.UnitReader.{UnitReader}

@@ -1,3 +1,4 @@
 pub mod Columns
 pub mod Keeping
 pub mod Segments
+pub mod PictureLayoutLemmas

@@ -1,3 +1,5 @@
 pub mod Beside
 pub mod Given
 pub mod Reading
+pub mod SpecPictureTrees
+pub mod PictureLayout

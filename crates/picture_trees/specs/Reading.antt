@@ -1,8 +1,10 @@
 -- What stands between two units of a picture while it is read.
-use Rattle.std.specs.Prelude.{◌≡◌, ℕ, ◌+◌, ◌-◌, ◌%◌, ◌^◌, ◌<◌, ◌≤◌, List, length, drop, slice_index_or, Result, Ok, Err}
+use Rattle.std.specs.Prelude.{◌≡◌, ℕ, ◌+◌, ◌-◌, ◌%◌, ◌^◌, ◌<◌, ◌≤◌, List, length, drop, slice_index_or, Result, Ok}
+use Rattle.std.specs.Prelude.{Err}
 use Rattle.ctu_records.specs.Tree.{Ctu}
 use Rattle.spec_slice_data.specs.Segment.{PictureShape, Between, no_group, nothing_read}
-use Rattle.spec_picture_trees.specs.Picture.{TreeUnit, Progress, Halt, SegmentAt, segment_at, segments_read, units_read}
+use Rattle.spec_picture_trees.specs.Picture.{TreeUnit, Progress, Halt, SegmentAt, segment_at, segments_read}
+use Rattle.spec_picture_trees.specs.Picture.{units_read}
 use Rattle.spec_picture_trees.specs.Shapes.{picture_shape}
 use Rattle.plan_types.specs.declared.segment_plan.SegmentPlan.{SegmentPlan}
 use Rattle.plan_types.specs.declared.picture_plan.PicturePlan.{PicturePlan}

@@ -9,3 +9,4 @@ mod units;
 
 pub use picture::read_picture;
 pub use trees::{ReadError, Trees};
+pub use unit_trees::{CodingTreeUnit, Layout, slice_address, slice_of};

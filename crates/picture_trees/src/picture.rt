@@ -11,10 +11,9 @@ ghost use Rattle.picture_trees.specs.Reading.{next_segment};
 use crate::trees::{ReadError, Trees};
 use crate::units::Reading;
 use header_types::Sps;
-use picture_layout::{Layout, address_of};
 use plan_types::{PicturePlan, SegmentPlan};
 use std::alloc::Global;
-use unit_trees::SegmentData;
+use unit_trees::{Layout, SegmentData, address_of};
 
 /// Reads all coding tree units of a planned picture, in decoding order, and hands each over once it is read. The
 /// error is the first rule that the data break, or want of memory: that of whom the units are handed to, or of the call

@@ -2,7 +2,7 @@
 
 ghost use Rattle.std.specs.Prelude.{◌≡◌, ◌+◌, ◌*◌, ◌<◌, List, [], ◌∷◌, ◌++◌, OnOk, IfOk, false};
 ghost use Rattle.ctu_records.specs.Tree.{Ctu};
-ghost use Rattle.spec_cabac.specs.Engine.{IsLive};
+ghost use Rattle.spec_slice_data.specs.SpecCabac.{IsLive};
 ghost use Rattle.spec_slice_data.specs.Segment.{before_unit, begins_row, is_last, read_unit, stored_behind, unit_step};
 ghost use Rattle.spec_slice_data.specs.declared.syntax.End.TheVariants as end;
 ghost use Rattle.plan_types.specs.declared.picture_plan.PicturePlan.{PicturePlan};
@@ -13,14 +13,11 @@ ghost use Rattle.picture_trees.specs.Reading.{IsKept, ReadsSegment, between_of, 
 
 use crate::beside::Beside;
 use crate::trees::{ReadError, Trees};
-use cabac_contexts::Contexts;
 use ctu_records::Records;
 use hv_base::Breach;
-use picture_layout::Layout;
-use residual_syntax::Levels;
 use spec_slice_data::End;
 use std::alloc::{AllocError, Global};
-use unit_trees::{SegmentData, UnitReader};
+use unit_trees::{Contexts, Layout, Levels, SegmentData, UnitReader};
 
 /// What stands between two units.
 #[derive(Drop)]

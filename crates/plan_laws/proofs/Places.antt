@@ -12,15 +12,16 @@ use Rattle.slice_types.specs.declared.slice.SegmentFields.{SegmentFields}
 use Rattle.slice_types.specs.declared.slice.SliceHeaderFields.{SliceHeaderFields}
 use Rattle.header_types.specs.SequenceParameterSets.{size_in_ctbs}
 use Rattle.spec_bits.specs.Bits.{bits, flag_at}
-use Rattle.spec_nal_units.specs.Judged.{NalUnit}
+use Rattle.header_laws.specs.SpecNalUnits.{NalUnit}
 use Rattle.spec_formats.specs.Format.{Format, Give, Refuse, One, Then, when◌then◌else◌}
-use Rattle.spec_formats.specs.Fields.{Field, U, Flag, Ue, Se, UeTo, SeWithin, Within, FieldValue, field_at, give, read}
+use Rattle.spec_formats.specs.Fields.{Field, U, Flag, Ue, Se, UeTo, SeWithin, Within, FieldValue, field_at, give}
+use Rattle.spec_formats.specs.Fields.{read}
 use Rattle.spec_formats.proofs.Agreement.{bind_ok}
 use Rattle.spec_formats.proofs.Values.{CanBe, can_be}
-use Rattle.spec_slice_headers.specs.Context.{Context, agrees, first_of, header_of, last_address}
-use Rattle.spec_slice_headers.specs.NamedSets.{Named, named_by}
-use Rattle.spec_slice_headers.specs.SegmentHeader.{slice_header_of, slice_segment_header}
-use Rattle.spec_slice_headers.specs.SegmentStart.{front, is_above, later_place, place}
+use Rattle.header_laws.specs.SpecSliceHeaders.{Context, agrees, first_of, header_of, last_address}
+use Rattle.header_laws.specs.SpecSliceHeaders.{Named, named_by}
+use Rattle.header_laws.specs.SpecSliceHeaders.{slice_header_of, slice_segment_header}
+use Rattle.header_laws.specs.SpecSliceHeaders.{front, is_above, later_place, place}
 use Rattle.spec_picture_plan.specs.Steps.{context_of, first_flag}
 use Rattle.header_laws.proofs.NamedSets.{are_named}
 use Rattle.header_laws.proofs.Headers.{place_id, read_from}

@@ -1,5 +1,6 @@
 -- The open picture as it grows, and the picture that it is once it is closed.
-use Rattle.std.proofs.Common.{◌≡◌, ◌∙◌, ℕ, ◌+◌, ◌-◌, ◌*◌, ◌<◌, ◌≤◌, ◌⊎◌, inl, inr, ℤ, Bool, true, false, ◌==◌, List, []}
+use Rattle.std.proofs.Common.{◌≡◌, ◌∙◌, ℕ, ◌+◌, ◌-◌, ◌*◌, ◌<◌, ◌≤◌, ◌⊎◌, inl, inr, ℤ, Bool, true, false, ◌==◌, List}
+use Rattle.std.proofs.Common.{[]}
 use Rattle.std.proofs.Common.{◌∷◌, ◌++◌, length, Option, Some, None, IfSome, All, Ok, if◌then◌else◌, refl, sym, ap}
 use Rattle.std.proofs.Common.{subst, arith}
 use Rattle.std.specs.Prelude.{slice_get}
@@ -23,15 +24,15 @@ use Rattle.header_types.specs.PictureParameterSet.{IsPps}
 use Rattle.header_types.specs.SequenceParameterSets.{IsSps, blocks_across, ctb_size, height_in_ctbs, size_in_ctbs}
 use Rattle.header_types.specs.SequenceParameterSets.{width_in_ctbs}
 use Rattle.slice_types.specs.SliceHeaders.{IsSliceFields, IsSliceHeader}
-use Rattle.plan_types.specs.declared.picture_plan.PicturePlan.{PicturePlan}
-use Rattle.plan_types.specs.declared.segment_plan.SegmentPlan.{SegmentPlan}
-use Rattle.spec_nal_units.specs.Judged.{NalUnit}
-use Rattle.spec_reference_pictures.specs.ReferenceLists.{IsCurrent, list_0, list_1, reference_lists}
-use Rattle.spec_reference_pictures.specs.ReferencePictureSet.{IsLongTerm, IsMarked, IsShortTerm, reference_picture_set}
-use Rattle.spec_reference_pictures.proofs.DerivedSets.{long_marked, set_is, short_marked}
-use Rattle.spec_reference_pictures.proofs.Entries.{list_0_current, list_1_current}
-use Rattle.spec_slice_headers.specs.Context.{agrees, header_of}
-use Rattle.spec_slice_headers.specs.NamedSets.{Named, named_by}
+use Rattle.header_laws.specs.PlanTypes.{PicturePlan}
+use Rattle.header_laws.specs.PlanTypes.{SegmentPlan}
+use Rattle.header_laws.specs.SpecNalUnits.{NalUnit}
+use Rattle.spec_picture_plan.specs.SpecReferencePictures.{IsCurrent, list_0, list_1, reference_lists}
+use Rattle.spec_picture_plan.specs.SpecReferencePictures.{IsLongTerm, IsMarked, IsShortTerm, reference_picture_set}
+use Rattle.spec_picture_plan.proofs.SpecReferencePicturesLemmas.{long_marked, set_is, short_marked}
+use Rattle.spec_picture_plan.proofs.SpecReferencePicturesLemmas.{list_0_current, list_1_current}
+use Rattle.header_laws.specs.SpecSliceHeaders.{agrees, header_of}
+use Rattle.header_laws.specs.SpecSliceHeaders.{Named, named_by}
 use Rattle.spec_picture_plan.specs.Closing.{broken_from, broken_in}
 use Rattle.spec_picture_plan.specs.Steps.{context_of, lists_of, segment_of, with_segment}
 use Rattle.plan_laws.specs.Plans.{AreReferences, BeginSlicesFrom, HaveRows, IsPlan}

@@ -7,11 +7,13 @@ use Rattle.std.proofs.lemmas.List.Elements.{All-head, All-tail}
 use Rattle.hv_base.specs.declared.fault.Fault.{Fault}
 use Rattle.hv_base.specs.declared.fault.FaultKind.TheVariants as rule
 use Rattle.slice_types.specs.declared.slice.SliceHeaderFields.{SliceHeaderFields}
-use Rattle.plan_types.specs.declared.segment_plan.SegmentPlan.{SegmentPlan}
-use Rattle.spec_slice_headers.specs.Context.{address_of as address_in, header_of, last_address, last_segment, slice_of}
-use Rattle.spec_slice_headers.specs.Substreams.{data_size, ranges_from, substream_ranges, unit_place}
-use Rattle.plan_types.specs.Segments.{Rise, address_of, begins_at}
-use Rattle.spec_picture_plan.specs.Closing.{broken_at, broken_from, entry_points_fit, or_later, passes_row, row_before}
+use Rattle.header_laws.specs.PlanTypes.{SegmentPlan}
+use Rattle.header_laws.specs.SpecSliceHeaders.{address_of as address_in, header_of, last_address, last_segment}
+use Rattle.header_laws.specs.SpecSliceHeaders.{slice_of}
+use Rattle.header_laws.specs.SpecSliceHeaders.{data_size, ranges_from, substream_ranges, unit_place}
+use Rattle.header_laws.specs.PlanTypes.{Rise, address_of, begins_at}
+use Rattle.spec_picture_plan.specs.Closing.{broken_at, broken_from, entry_points_fit, or_later, passes_row}
+use Rattle.spec_picture_plan.specs.Closing.{row_before}
 use Rattle.spec_picture_plan.specs.Closing.{slice_start}
 use Rattle.spec_picture_plan.specs.Steps.{slice_number}
 use Rattle.plan_laws.specs.Plans.{BeginSlicesFrom, HaveRows}

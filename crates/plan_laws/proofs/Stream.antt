@@ -16,15 +16,15 @@ use Rattle.slice_types.specs.declared.slice.SliceHeaderFields.{SliceHeaderFields
 use Rattle.header_types.specs.declared.sps.SpsFields.{SpsFields}
 use Rattle.header_types.specs.PictureParameterSet.{IsPps}
 use Rattle.header_types.specs.SequenceParameterSets.{IsSps}
-use Rattle.plan_types.specs.declared.between.Between.{Between}
-use Rattle.plan_types.specs.declared.picture_plan.PicturePlan.{PicturePlan}
+use Rattle.header_laws.specs.PlanTypes.{Between}
+use Rattle.header_laws.specs.PlanTypes.{PicturePlan}
 use Rattle.spec_bits.specs.Bits.{bits}
-use Rattle.spec_nal_units.specs.Judged.{NalUnit, Told, told_of}
-use Rattle.spec_parameter_sets.specs.PictureParameterSet.{picture_parameter_set_of}
-use Rattle.spec_parameter_sets.specs.SequenceParameterSet.{sequence_parameter_set_of}
-use Rattle.spec_reference_pictures.specs.PictureOrderCount.{pic_order_cnt_val}
-use Rattle.spec_reference_pictures.specs.ReferencePictureSet.{reference_picture_set}
-use Rattle.spec_slice_headers.specs.NamedSets.{Named, named_by}
+use Rattle.header_laws.specs.SpecNalUnits.{NalUnit, Told, told_of}
+use Rattle.header_laws.specs.SpecParameterSets.{picture_parameter_set_of}
+use Rattle.header_laws.specs.SpecParameterSets.{sequence_parameter_set_of}
+use Rattle.spec_picture_plan.specs.SpecReferencePictures.{pic_order_cnt_val}
+use Rattle.spec_picture_plan.specs.SpecReferencePictures.{reference_picture_set}
+use Rattle.header_laws.specs.SpecSliceHeaders.{Named, named_by}
 use Rattle.spec_picture_plan.specs.declared.unit_kind.UnitKind.{UnitKind}
 use Rattle.spec_picture_plan.specs.declared.unit_kind.UnitKind.TheVariants as unit
 use Rattle.spec_picture_plan.specs.UnitKinds.{is_rasl, kind_of_type}

@@ -5,9 +5,9 @@ use Rattle.header_types.specs.declared.reference_pictures.RefEntry.{RefEntry}
 use Rattle.header_types.specs.PictureParameterSet.{IsPps}
 use Rattle.header_types.specs.SequenceParameterSets.{IsSps, size_in_ctbs, width_in_ctbs}
 use Rattle.slice_types.specs.SliceHeaders.{IsSliceHeader}
-use Rattle.plan_types.specs.declared.picture_plan.PicturePlan.{PicturePlan}
-use Rattle.plan_types.specs.declared.segment_plan.SegmentPlan.{SegmentPlan}
-use Rattle.plan_types.specs.Segments.{AreInOrder, address_of, begins_at}
+use Rattle.header_laws.specs.PlanTypes.{PicturePlan}
+use Rattle.header_laws.specs.PlanTypes.{SegmentPlan}
+use Rattle.header_laws.specs.PlanTypes.{AreInOrder, address_of, begins_at}
 use Rattle.spec_picture_plan.specs.Closing.{row_before}
 
 -- the slice of each segment begins at it or at one before it, where the segments are numbered from here

@@ -3,7 +3,7 @@
 ghost use Rattle.std.specs.Prelude.{ℕ, All, Bool, List};
 ghost use Rattle.spec_picture_plan.specs.Pictures.{beginning};
 ghost use Rattle.spec_picture_plan.specs.Planned.{planned_from, planned_of};
-ghost use Rattle.spec_nal_units.specs.Judged.{Told};
+ghost use Rattle.header_laws.specs.SpecNalUnits.{Told};
 ghost use Rattle.plan_laws.specs.Plans.{IsPlan};
 
 /// Each picture that is planned of a byte string (`stream`), or of units that were told (`units`), is in range: it has

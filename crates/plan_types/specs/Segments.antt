@@ -1,7 +1,7 @@
 -- Where the slice segments of a planned picture begin (7.4.7.1).
 use Rattle.std.specs.Prelude.{◌≡◌, ℕ, ◌<◌, List, [], ◌∷◌}
 use Rattle.block_geometry.specs.CodingTreeBlocks.{ctb_place}
-use Rattle.header_types.specs.SequenceParameterSets.{size_in_ctbs}
+use Rattle.slice_types.specs.HeaderTypes.{size_in_ctbs}
 use Rattle.plan_types.specs.declared.segment_plan.SegmentPlan.{SegmentPlan}
 use Rattle.plan_types.specs.declared.picture_plan.PicturePlan.{PicturePlan}
 

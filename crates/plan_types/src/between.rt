@@ -1,7 +1,7 @@
 //! What is known of a stream between two units.
 
 use crate::picture_plan::PicturePlan;
-use header_types::{Former, Sets};
+use slice_types::{Former, Sets};
 
 /// What is known between two units.
 #[derive(Drop)]

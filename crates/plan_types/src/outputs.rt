@@ -1,6 +1,6 @@
 //! What a picture puts out.
 
-use header_types::{DpbPicture, FieldList};
+use slice_types::{DpbPicture, FieldList};
 
 /// What a picture puts out of the decoded picture buffer, and what it leaves there (C.5.2). A picture is named by its
 /// place in the buffer before the current picture, in decoding order, and the current picture by the place behind the

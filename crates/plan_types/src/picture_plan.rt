@@ -3,8 +3,7 @@
 use crate::outputs::Outputs;
 use crate::segment_plan::SegmentPlan;
 use crate::stated_hash::StatedHash;
-use header_types::{FieldList, Pps, Rps, Shared, Sps};
-use slice_types::PictureKind;
+use slice_types::{FieldList, PictureKind, Pps, Rps, Shared, Sps};
 
 /// A picture whose headers are read.
 #[derive(Debug, Drop)]

@@ -1,9 +1,8 @@
 //! A slice segment whose header is read.
 
 use crate::payload::Payload;
-use header_types::{FieldList, Lists};
 use hv_base::BytePlaces;
-use slice_types::{SliceHeader, Substream};
+use slice_types::{FieldList, Lists, SliceHeader, Substream};
 
 /// A slice segment: its header, and its NAL unit.
 #[derive(Debug, Drop)]

@@ -6,7 +6,8 @@ use native.Mathlib.Decide.{ℕ_discrete, dec_le}
 use Rattle.progress_words.specs.Meanings.{Meaning, first_data_word, fault_word, ticket_word, count_word}
 use Rattle.progress_words.specs.Counts.{put}
 use Rattle.progress_words.specs.Faults.{packed}
-use Rattle.progress_words.specs.Core.{count_in, ticket_in, fault_in, AreMet, Core, Event, Draw, Count, Fault, count_of}
+use Rattle.progress_words.specs.Core.{count_in, ticket_in, fault_in, AreMet, Core, Event, Draw, Count, Fault}
+use Rattle.progress_words.specs.Core.{count_of}
 use Rattle.progress_words.specs.Core.{HasNext, IsReady, after, run, AllReady, at_first, IsReached}
 use Rattle.progress_words.proofs.Counts.{put_same, put_other}
 

@@ -9,8 +9,7 @@ use crate::board::Board;
 use crate::facts::Facts;
 use crate::pass::Pass;
 use crossbeam_utils::Backoff;
-use hv_base::UnitNumber;
-use hv_io::Gate;
+use hv_io::{Gate, UnitNumber};
 use std::sync::Wait;
 
 /// How a wait ended.

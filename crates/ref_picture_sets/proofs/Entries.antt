@@ -1,12 +1,13 @@
 -- Reading entries one after the other, as a loop does.
-use Rattle.std.proofs.Common.{◌≡◌, ℕ, suc, ◌-◌, ◌+◌, ℤ, Bool, List, [], ◌∷◌, ◌++◌, length, get_or, drop, ap, append-nil}
+use Rattle.std.proofs.Common.{◌≡◌, ℕ, suc, ◌-◌, ◌+◌, ℤ, Bool, List, [], ◌∷◌, ◌++◌, length, get_or, drop, ap}
+use Rattle.std.proofs.Common.{append-nil}
 use Rattle.std.proofs.Common.{add-one, drop-cons, arith}
 use Rattle.std.specs.Prelude.{Ok}
 use Rattle.std.proofs.Math.ListN.{drop_of_length-le}
 use Rattle.hv_base.specs.declared.field_rules.FieldRules.{FieldRules}
 use Rattle.header_types.specs.declared.short_term_set.ShortTermRef.{ShortTermRef}
-use Rattle.spec_formats.specs.Fields.{read}
-use Rattle.spec_formats.proofs.Lists.{behind}
+use Rattle.header_fields.specs.SpecFormats.{read}
+use Rattle.header_fields.proofs.SpecFormatsLemmas.{behind}
 use Rattle.header_fields.proofs.Loops.{IsLoop, behind_adds}
 use Rattle.spec_reference_pictures.specs.ShortTermSets.{signed, step, outward, use_flags, moved_entry, moved, itself}
 

@@ -4,7 +4,7 @@ use Rattle.std.specs.List.{All}
 use Rattle.hv_base.specs.declared.field_rules.FieldRules.{FieldRules}
 use Rattle.hv_base.specs.declared.refusal.Refusal.{Refusal}
 use Rattle.header_types.specs.declared.short_term_set.StRps.{StRps}
-use Rattle.spec_formats.specs.Fields.{read, Reads}
+use Rattle.header_fields.specs.SpecFormats.{read, Reads}
 use Rattle.header_types.specs.ReferencePictures.{IsStRps}
 use Rattle.spec_reference_pictures.specs.ShortTermSets.{st_ref_pic_set}
 use Rattle.spec_reference_pictures.proofs.Sets.{stays_near}

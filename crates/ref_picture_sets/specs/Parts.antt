@@ -2,7 +2,7 @@
 use Rattle.std.specs.Prelude.{ℕ, ◌+◌, ℤ, true, false, List, [], ◌∷◌, ◌++◌, reverse, length, nat_le}
 use Rattle.header_types.specs.declared.short_term_set.ShortTermRef.{ShortTermRef}
 use Rattle.header_types.specs.declared.short_term_set.StRps.{StRps}
-use Rattle.spec_formats.specs.Fields.{Header, ◌>>=◌, give, ranged}
+use Rattle.header_fields.specs.SpecFormats.{Header, ◌>>=◌, give, ranged}
 use Rattle.spec_reference_pictures.specs.ShortTermSets.{itself, moved, outward, sides}
 
 -- a set of so many entries on each side

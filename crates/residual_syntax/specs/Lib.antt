@@ -1,1 +1,5 @@
 pub mod Judges
+pub mod CabacContexts
+pub mod CabacEngine
+pub mod SpecCabac
+pub mod SpecFormats

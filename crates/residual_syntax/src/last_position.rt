@@ -6,11 +6,10 @@ ghost use Rattle.spec_residuals.specs.LastPosition.{transform_skip_flag, prefix_
 ghost use Rattle.spec_residuals.specs.LastPosition.{last_of, last_position};
 ghost use Rattle.cabac_contexts.specs.Takes.{Takes};
 
-use block_geometry::Scan;
 use cabac_contexts::BinReader;
 use hv_base::Breach;
 use spec_cabac::{LAST_SIG_COEFF_X_PREFIX, LAST_SIG_COEFF_Y_PREFIX, TRANSFORM_SKIP_FLAG};
-use spec_residuals::ResidualBlock;
+use spec_residuals::{ResidualBlock, Scan};
 
 /// transform_skip_flag, where it is there.
 #[tactic(auto, unfolding(spec_residuals::specs::LastPosition::transform_skip_flag))]

@@ -8,6 +8,8 @@ mod remaining;
 mod significance;
 mod sub_block;
 
+pub use cabac_contexts::{BinReader, Contexts, Interval};
 pub use level_list::Levels;
 pub use reading::read_residual;
-pub use spec_residuals::{Level, ResidualBlock};
+pub use spec_cabac::{CBF_CHROMA, CBF_LUMA, CU_QP_DELTA_ABS, SPLIT_TRANSFORM_FLAG};
+pub use spec_residuals::{Level, ResidualBlock, Scan};

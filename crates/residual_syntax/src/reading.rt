@@ -1,7 +1,7 @@
 //! Reading a block.
 
 ghost use Rattle.std.specs.Prelude.{◌≡◌, ◌+◌, ◌-◌, ◌*◌, ◌/◌, ◌^◌, ◌<◌, ◌≤◌, length, OnOk};
-ghost use Rattle.block_geometry.specs.Scans.{scan_index};
+ghost use Rattle.spec_residuals.specs.BlockGeometry.{scan_index};
 ghost use Rattle.spec_cabac.specs.Engine.{IsLive};
 ghost use Rattle.spec_residuals.specs.Residual.{levels_behind, residual_coding, sub_blocks};
 ghost use Rattle.cabac_contexts.specs.Takes.{Leaves};
@@ -9,10 +9,9 @@ ghost use Rattle.cabac_contexts.specs.Takes.{Leaves};
 use crate::last_position::{last_position, transform_skip_flag};
 use crate::level_list::Levels;
 use crate::sub_block::sub_block;
-use block_geometry::scan_index;
 use cabac_contexts::BinReader;
 use hv_base::Breach;
-use spec_residuals::{Progress, ResidualBlock};
+use spec_residuals::{Progress, ResidualBlock, scan_index};
 
 /// Reads transform_skip_flag and the levels of a block into `levels`, in place of what they had: residual_coding of
 /// H.265 7.3.8.11. Where bits lack or a level doesn't fit 16 bits, what `levels` have then is not told.

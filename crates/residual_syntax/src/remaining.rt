@@ -4,7 +4,7 @@ ghost use Rattle.std.specs.Prelude.{◌≡◌, ◌+◌, ◌-◌, ◌*◌, ◌^�
 ghost use Rattle.std.specs.Prelude.{OnOk};
 ghost use Rattle.std.specs.List.{All};
 ghost use Rattle.spec_bits.specs.Bits.{bit_of, digit};
-ghost use Rattle.block_geometry.specs.Scans.{scan_place};
+ghost use Rattle.spec_residuals.specs.BlockGeometry.{scan_place};
 ghost use Rattle.spec_cabac.specs.Engine.{IsLive};
 ghost use Rattle.spec_cabac.specs.declared.init_values.TheConstants.{COEFF_ABS_LEVEL_GREATER1_FLAG};
 ghost use Rattle.spec_cabac.specs.declared.init_values.TheConstants.{COEFF_ABS_LEVEL_GREATER2_FLAG};
@@ -18,11 +18,10 @@ ghost use Rattle.residual_syntax.specs.Judges.{Judges};
 
 use crate::level_list::Levels;
 use crate::significance::Indices;
-use block_geometry::scan;
 use cabac_contexts::BinReader;
 use hv_base::{Breach, FaultKind};
 use spec_cabac::{COEFF_ABS_LEVEL_GREATER1_FLAG, COEFF_ABS_LEVEL_GREATER2_FLAG};
-use spec_residuals::{Greater1Flags, Level, LevelState, ResidualBlock, Signs, SubBlock};
+use spec_residuals::{Greater1Flags, Level, LevelState, ResidualBlock, Signs, SubBlock, scan};
 
 const TOO_GREAT: Breach = Breach::Fault(FaultKind::CoeffRange);
 

@@ -2,7 +2,7 @@
 
 ghost use Rattle.std.specs.Prelude.{◌≡◌, ◌+◌, ◌*◌, ◌^◌, ◌<◌, ◌≤◌, [], length, OnOk};
 ghost use Rattle.std.specs.List.{All};
-ghost use Rattle.block_geometry.specs.Scans.{scan_place};
+ghost use Rattle.spec_residuals.specs.BlockGeometry.{scan_place};
 ghost use Rattle.spec_cabac.specs.Engine.{IsLive};
 ghost use Rattle.spec_residuals.specs.Significance.{sub_block_at, coded_context, coded_sub_block_flag, nearness};
 ghost use Rattle.spec_residuals.specs.Significance.{diagonal_nearness, neighbour_context, size_context, sig_ctx};
@@ -10,11 +10,10 @@ ghost use Rattle.spec_residuals.specs.Significance.{sig_context, sig_coeff_flag,
 ghost use Rattle.cabac_contexts.specs.Takes.{Leaves, Takes};
 
 use arrayvec::ArrayVec;
-use block_geometry::{Scan, scan};
 use cabac_contexts::BinReader;
 use hv_base::Breach;
 use spec_cabac::{CODED_SUB_BLOCK_FLAG, SIG_COEFF_FLAG};
-use spec_residuals::{CTX_IDX_MAP, ResidualBlock, SubBlock};
+use spec_residuals::{CTX_IDX_MAP, ResidualBlock, Scan, SubBlock, scan};
 
 /// The indices of the places of a sub-block that have a level, backwards.
 pub type Indices = ArrayVec<u8, 16>;

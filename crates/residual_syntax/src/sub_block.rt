@@ -12,10 +12,9 @@ ghost use Rattle.cabac_contexts.specs.Takes.{Leaves, Takes};
 use crate::level_list::Levels;
 use crate::remaining::{coded_signs, greater1_flags, greater2_flag, levels_from, sign_hidden};
 use crate::significance::{Indices, coded_indices, coded_sub_block_flag};
-use block_geometry::scan;
 use cabac_contexts::BinReader;
 use hv_base::Breach;
-use spec_residuals::{Progress, ResidualBlock, Signs, SubBlock};
+use spec_residuals::{Progress, ResidualBlock, Signs, SubBlock, scan};
 
 /// Reads the sub-block at index `i` of the scan, behind those of the indices above it. The last level stands at index
 /// `position` of the sub-block `last`.

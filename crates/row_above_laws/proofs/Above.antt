@@ -8,7 +8,7 @@ use Rattle.std.proofs.lemmas.List.Elements.{All-nil}
 use Rattle.std.proofs.lemmas.Nat.{mod-mul-add}
 use Rattle.header_types.specs.SequenceParameterSets.{IsSps, height_in_ctbs, size_in_ctbs, width_in_ctbs}
 use Rattle.plan_types.specs.declared.picture_plan.PicturePlan.{PicturePlan}
-use Rattle.plan_laws.specs.Plans.{IsPlan}
+use Rattle.flight_value_laws.specs.PlanLaws.{IsPlan}
 use Rattle.ctu_records.specs.Tree.{Ctu, no_side}
 use Rattle.spec_slice_data.specs.Segment.{Between, PictureShape, column_of, no_group, nothing_read, side_of}
 use Rattle.spec_slice_data.specs.Segment.{unit_at as unit_elements}
@@ -19,15 +19,15 @@ use Rattle.spec_picture_trees.specs.Places.{first_column, first_row, has_place, 
 use Rattle.spec_picture_trees.specs.Shapes.{picture_shape}
 use Rattle.spec_known_units.specs.Known.{KnownUnit, ctu_of, units_known}
 use Rattle.spec_picture_motion.specs.Field.{motion_of}
-use Rattle.spec_decoded_pictures.specs.Decoded.{DecodedUnits}
-use Rattle.locality_laws.proofs.Motion.{place_is}
+use Rattle.flight_value_laws.specs.SpecDecodedPictures.{DecodedUnits}
+use Rattle.flight_value_laws.proofs.LocalityLawsLemmas.{place_is}
 use Rattle.sample_words.specs.Contents.{PictureValues}
 use Rattle.sample_words.specs.Offsets.{IsSao, first_word, second_word}
 use Rattle.sample_words.specs.Values.{IsMotion, modes_word, vectors_word}
 use Rattle.unit_words.specs.Above.{AreBottom, ArePlace}
 use Rattle.unit_words.specs.Units.{no_motion}
-use Rattle.spec_flights.specs.Pictures.{PlannedFlight, folded_at, pictures_before}
-use Rattle.spec_flights.specs.Words.{flight_sizes, modes_at, values_in}
+use Rattle.flight_value_laws.specs.SpecFlights.{PlannedFlight, folded_at, pictures_before}
+use Rattle.flight_value_laws.specs.SpecFlights.{flight_sizes, modes_at, values_in}
 use Rattle.flight_value_laws.specs.Ranges.{FitWords, IsInRange}
 use Rattle.flight_value_laws.proofs.Known.{IsKnownFit}
 use Rattle.flight_value_laws.proofs.Rows.{in_picture}

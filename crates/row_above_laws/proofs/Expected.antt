@@ -22,8 +22,8 @@ use Rattle.sample_words.specs.Sizes.{ctb_size, height_of, width_of}
 use Rattle.sample_words.specs.Values.{modes_word, vectors_word}
 use Rattle.sample_words.specs.Words.{unit_word}
 use Rattle.sample_words.proofs.Contents.{content_found}
-use Rattle.spec_flights.specs.Pictures.{PlannedFlight, folded_at}
-use Rattle.spec_flights.specs.Words.{expected, expected_in, flight_sizes, values_in}
+use Rattle.flight_value_laws.specs.SpecFlights.{PlannedFlight, folded_at}
+use Rattle.flight_value_laws.specs.SpecFlights.{expected, expected_in, flight_sizes, values_in}
 use Rattle.row_above_laws.specs.Above.{AreAbove, AreExpectedAbove, expected_content, places_across}
 use Rattle.row_above_laws.proofs.Above.{last_row}
 

@@ -22,7 +22,7 @@ use Rattle.spec_picture_trees.specs.Picture.{SegmentAt}
 use Rattle.spec_known_units.specs.Known.{Entries, KnownUnit, behind_step, between_from, ctu_of, entries_before}
 use Rattle.spec_known_units.specs.Known.{known_of, picture_segments, read_in, read_uses, segment_having, unit_read}
 use Rattle.spec_known_units.specs.Known.{units_known}
-use Rattle.known_unit_laws.proofs.Entries.{known_step}
+use Rattle.flight_value_laws.proofs.KnownUnitLawsLemmas.{known_step}
 use Rattle.unit_laws.proofs.Formats.{Gives, cond_holds}
 use Rattle.unit_laws.proofs.Units.{OkHolds}
 

@@ -7,3 +7,4 @@ mod Motion
 mod Parts
 mod Quadtree
 mod Within
+pub mod FlightValueLawsLemmas

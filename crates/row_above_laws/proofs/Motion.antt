@@ -24,17 +24,18 @@ use Rattle.spec_picture_trees.specs.Places.{first_column, first_row, is_of_unit,
 use Rattle.spec_picture_trees.specs.Shapes.{picture_shape}
 use Rattle.spec_known_units.specs.Known.{KnownUnit, known_units, units_known}
 use Rattle.spec_picture_motion.specs.Derived.{known_of_unit, unit_added, units_derived}
-use Rattle.spec_picture_motion.specs.Field.{Motions, is_border, known_beside, motion_beside, motion_of, pointing_motion}
+use Rattle.spec_picture_motion.specs.Field.{Motions, is_border, known_beside, motion_beside, motion_of}
+use Rattle.spec_picture_motion.specs.Field.{pointing_motion}
 use Rattle.spec_picture_motion.specs.Field.{unit_laid}
 use Rattle.spec_picture_motion.specs.Slices.{slice_motion}
-use Rattle.spec_picture_build.specs.References.{DecodedPicture, motions_of}
-use Rattle.spec_decoded_pictures.specs.Decoded.{DecodedUnits, units_folded}
-use Rattle.locality_laws.proofs.Moved.{motion_is_its_step}
-use Rattle.known_picture_laws.specs.Order.{IsInOrder}
-use Rattle.known_picture_laws.proofs.FilterData.{folded_motion}
-use Rattle.known_picture_laws.proofs.Order.{in_order}
-use Rattle.spec_flights.specs.Pictures.{known_folded}
-use Rattle.spec_flights.specs.References.{given_at}
+use Rattle.unit_laws.specs.SpecPictureBuild.{DecodedPicture, motions_of}
+use Rattle.flight_value_laws.specs.SpecDecodedPictures.{DecodedUnits, units_folded}
+use Rattle.flight_value_laws.proofs.LocalityLawsLemmas.{motion_is_its_step}
+use Rattle.flight_value_laws.specs.KnownPictureLaws.{IsInOrder}
+use Rattle.flight_value_laws.proofs.KnownPictureLawsLemmas.{folded_motion}
+use Rattle.flight_value_laws.proofs.KnownPictureLawsLemmas.{in_order}
+use Rattle.flight_value_laws.specs.SpecFlights.{known_folded}
+use Rattle.flight_value_laws.specs.SpecFlights.{given_at}
 use Rattle.row_above_laws.proofs.Laying.{is_predicted, predicts}
 
 and_true : (a : Bool) → (a && true) ≡ a

@@ -13,8 +13,8 @@ use Rattle.sample_words.specs.Offsets.{first_word, second_word}
 use Rattle.sample_words.specs.Sizes.{height_of, width_of}
 use Rattle.sample_words.specs.Values.{modes_word}
 use Rattle.sample_words.specs.Words.{unit_word}
-use Rattle.spec_flights.specs.Pictures.{PlannedFlight}
-use Rattle.spec_flights.specs.Words.{expected, flight_sizes}
+use Rattle.flight_value_laws.specs.SpecFlights.{PlannedFlight}
+use Rattle.flight_value_laws.specs.SpecFlights.{expected, flight_sizes}
 
 -- how many places the picture has in a row of places of the units in this column
 abbrev pub places_across : PictureShape → ℕ → ℕ

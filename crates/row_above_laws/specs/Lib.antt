@@ -1,1 +1,5 @@
 pub mod Above
+pub mod FlightValueLaws
+pub mod UnitTrees
+pub mod UnitWords
+pub mod SpecPictureBuild

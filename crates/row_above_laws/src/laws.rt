@@ -15,8 +15,8 @@ ghost use Rattle.sample_words.specs.Offsets.{first_word, second_word};
 ghost use Rattle.sample_words.specs.Sizes.{height_of, width_of};
 ghost use Rattle.sample_words.specs.Values.{modes_word, vectors_word};
 ghost use Rattle.unit_words.specs.Above.{AreBottom, ArePlace};
-ghost use Rattle.spec_flights.specs.Pictures.{PlannedFlight, folded_at};
-ghost use Rattle.spec_flights.specs.Words.{flight_sizes, values_in};
+ghost use Rattle.flight_value_laws.specs.SpecFlights.{PlannedFlight, folded_at};
+ghost use Rattle.flight_value_laws.specs.SpecFlights.{flight_sizes, values_in};
 ghost use Rattle.flight_value_laws.specs.Ranges.{IsInRange};
 ghost use Rattle.row_above_laws.specs.Above.{AreAbove, AreExpectedAbove, expected_content, places_across};
 

@@ -4,7 +4,9 @@
 
 mod laws;
 
+pub use flight_value_laws::{references_come_back, values_fit_their_words};
 pub use laws::{
     expected_words_are_of_their_places, places_are_intra_or_have_motion,
     words_above_are_of_their_units,
 };
+pub use unit_words::{DoneUnit, Edge, pointing_motion, slice_motion, unpack_bottom, unpack_place};

@@ -14,9 +14,9 @@ use Rattle.spec_picture_motion.specs.Field.{Motions, unit_laid}
 use Rattle.spec_picture_trees.specs.Places.{first_column, first_row, has_place, is_of_unit, is_there, unit_places}
 use Rattle.spec_picture_trees.specs.Shapes.{picture_shape, qp_bd_offset}
 use Rattle.spec_slice_data.specs.Segment.{PictureShape}
-use Rattle.locality_laws.specs.Beside.{is_at_border}
-use Rattle.locality_laws.proofs.Border.{column_at, line_at}
-use Rattle.locality_laws.proofs.Motion.{some_places}
+use Rattle.known_picture_laws.specs.LocalityLaws.{is_at_border}
+use Rattle.known_picture_laws.proofs.LocalityLaws.{column_at, line_at}
+use Rattle.known_picture_laws.proofs.LocalityLaws.{some_places}
 use Rattle.known_picture_laws.proofs.Strengths.{AgreeAt, place_same}
 
 same_if : {A : Type 0} (b : Bool) (x y o : A) → (b ≡ true → x ≡ y) → (if b then x else o) ≡ (if b then y else o)

@@ -5,24 +5,24 @@ use Rattle.std.proofs.Common.{inl, inr, slice_index_or}
 use Rattle.std.proofs.Math.Nat.{mul-le-mul_left}
 use Rattle.std.proofs.lemmas.Bool.{and_parts, cases_lt, eqb-true, leb-true, ltb-true}
 use Rattle.std.specs.List.{All}
-use Rattle.ctu_build.specs.Held.{held}
+use Rattle.unit_build.specs.CtuBuild.{held}
 use Rattle.ctu_motion.specs.Held.{Cells, held as motion_held}
 use Rattle.ctu_records.specs.Tree.{Ctu}
 use Rattle.header_types.specs.SequenceParameterSets.{height_in_ctbs}
-use Rattle.inter_samples.specs.Inter.{inter_unit}
+use Rattle.unit_build.specs.InterSamples.{inter_unit}
 use Rattle.picture_buffer.specs.declared.place_motion.PlaceMotion.{PlaceMotion}
-use Rattle.picture_filters.specs.Filtering.{IsUnit, read_place}
-use Rattle.picture_filters.specs.Given.{IsGiven}
-use Rattle.picture_filters.specs.Units.{first_unit}
+use Rattle.unit_build.specs.PictureFilters.{IsUnit, read_place}
+use Rattle.unit_build.specs.PictureFilters.{IsGiven}
+use Rattle.unit_build.specs.PictureFilters.{first_unit}
 use Rattle.picture_layout.specs.Shape.{IsShape}
 use Rattle.picture_layout.proofs.Places.{block_begins}
-use Rattle.picture_motion.specs.Deriving.{derived_over, known_over}
+use Rattle.unit_build.specs.PictureMotion.{derived_over, known_over}
 use Rattle.plan_types.specs.declared.picture_plan.PicturePlan.{PicturePlan}
 use Rattle.plan_types.specs.declared.segment_plan.SegmentPlan.{SegmentPlan}
 use Rattle.plan_types.specs.Segments.{address_of}
 use Rattle.spec_boundary_strengths.specs.declared.place.UnitPlace.{UnitPlace}
 use Rattle.spec_deblocking.specs.declared.place.Place.{Place}
-use Rattle.spec_decoded_pictures.specs.Decoded.{DecodedUnits, unit_decoded}
+use Rattle.known_picture_laws.specs.SpecDecodedPictures.{DecodedUnits, unit_decoded}
 use Rattle.spec_motion.specs.declared.slice_motion.SliceMotion.{SliceMotion}
 use Rattle.spec_motion.specs.Units.{IsPlacedItem, unit_derived}
 use Rattle.spec_motion.specs.Vectors as vectors
@@ -48,10 +48,10 @@ use Rattle.spec_reconstruction.specs.Unit.{unit_built}
 use Rattle.spec_sample_adaptive_offset.specs.declared.unit.OffsetUnit.{OffsetUnit}
 use Rattle.spec_slice_data.specs.Residual.{samples_of_place}
 use Rattle.spec_slice_data.specs.Segment.{PictureShape, row_of}
-use Rattle.locality_laws.specs.Beside.{SamplesAgreeBeside}
-use Rattle.locality_laws.specs.Motion.{MotionAgreesBeneath, MotionAgreesBeside}
-use Rattle.locality_laws.proofs.Motion.{beneath_agrees, known_motion_agrees}
-use Rattle.locality_laws.proofs.Samples.{known_agrees, some_side}
+use Rattle.known_picture_laws.specs.LocalityLaws.{SamplesAgreeBeside}
+use Rattle.known_picture_laws.specs.LocalityLaws.{MotionAgreesBeneath, MotionAgreesBeside}
+use Rattle.known_picture_laws.proofs.LocalityLaws.{beneath_agrees, known_motion_agrees}
+use Rattle.known_picture_laws.proofs.LocalityLaws.{known_agrees, some_side}
 use Rattle.unit_build.specs.declared.built.BuiltUnit.{BuiltUnit}
 use Rattle.unit_build.proofs.Covering.{covered}
 use Rattle.unit_build.proofs.Places.{row_is}

@@ -2,7 +2,7 @@
 use Rattle.std.proofs.Common.{◌≡◌, ℕ, zero, suc, ◌+◌, ◌-◌, ◌*◌, ◌≤◌, ◌==◌, ◌&&◌, nat_lt, Bool, true, false}
 use Rattle.std.proofs.Common.{refl, sym, ap, ◌∙◌, if◌then◌else◌, unwrap_or, arith}
 use Rattle.std.proofs.lemmas.Bool.Decides.{nat_tests}
-use Rattle.ctu_build.specs.Held.{Cells, held}
+use Rattle.unit_build.specs.CtuBuild.{Cells, held}
 use Rattle.spec_slice_data.specs.Residual.{samples_of_place}
 
 -- one more of a run from 0 on

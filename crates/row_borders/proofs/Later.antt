@@ -7,7 +7,7 @@ use Rattle.picture_layout.specs.Shape.{IsShape}
 use Rattle.plan_types.specs.declared.picture_plan.PicturePlan.{PicturePlan}
 use Rattle.plan_types.specs.declared.segment_plan.SegmentPlan.{SegmentPlan}
 use Rattle.plan_types.specs.Segments.{address_of}
-use Rattle.spec_decoded_pictures.specs.Decoded.{DecodedUnits, unit_decoded}
+use Rattle.known_picture_laws.specs.SpecDecodedPictures.{DecodedUnits, unit_decoded}
 use Rattle.spec_picture_build.specs.Border.{known_beside, unit_side, width_of}
 use Rattle.spec_picture_build.specs.Built.{samples_added, unit_inter}
 use Rattle.spec_picture_build.specs.Format.{unit_format}
@@ -20,8 +20,9 @@ use Rattle.spec_picture_trees.specs.Places.{is_of_unit as has_place_of, unit_at,
 use Rattle.spec_picture_trees.specs.Shapes.{picture_shape, slice_start}
 use Rattle.spec_reconstruction.specs.Unit.{unit_built}
 use Rattle.spec_slice_data.specs.Segment.{PictureShape, row_of}
-use Rattle.locality_laws.proofs.Motion.{motion_stays, place_is, some_places}
-use Rattle.locality_laws.proofs.Samples.{others_stay, some_side}
+use Rattle.known_picture_laws.proofs.LocalityLaws.{motion_stays, some_places}
+use Rattle.known_picture_laws.proofs.LocalityLawsMotion.{place_is}
+use Rattle.known_picture_laws.proofs.LocalityLaws.{others_stay, some_side}
 use Rattle.unit_build.specs.declared.built.BuiltUnit.{BuiltUnit}
 use Rattle.unit_build.proofs.Covering.{covered}
 use Rattle.unit_build.proofs.Places.{row_is}

@@ -8,3 +8,4 @@ pub mod Sound
 pub mod Next
 pub mod Laid
 pub mod Later
+pub mod LocalityLawsLemmas

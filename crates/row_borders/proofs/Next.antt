@@ -8,15 +8,15 @@ use Rattle.picture_layout.specs.declared.coding_tree_unit.CodingTreeUnit.{Coding
 use Rattle.picture_layout.specs.Shape.{IsShape}
 use Rattle.picture_layout.proofs.Places.{whole}
 use Rattle.plan_types.specs.declared.picture_plan.PicturePlan.{PicturePlan}
-use Rattle.spec_decoded_pictures.specs.Decoded.{DecodedUnits}
+use Rattle.known_picture_laws.specs.SpecDecodedPictures.{DecodedUnits}
 use Rattle.spec_picture_build.specs.Border.{has_sample, height_of, unit_column, unit_line, unit_side, width_of}
 use Rattle.spec_picture_build.specs.Built.{is_of_unit}
 use Rattle.spec_picture_trees.specs.Places.{first_column, first_row, is_of_unit as has_place_of, unit_at, unit_places}
 use Rattle.spec_picture_trees.specs.Shapes.{picture_shape}
 use Rattle.spec_slice_data.specs.Residual.{samples_of_place}
 use Rattle.spec_slice_data.specs.Segment.{PictureShape, column_of}
-use Rattle.locality_laws.proofs.Motion.{some_places}
-use Rattle.locality_laws.proofs.Samples.{some_side}
+use Rattle.known_picture_laws.proofs.LocalityLaws.{some_places}
+use Rattle.known_picture_laws.proofs.LocalityLaws.{some_side}
 use Rattle.unit_build.specs.declared.built.BuiltUnit.{BuiltUnit}
 use Rattle.unit_build.proofs.Places.{unit_is}
 use Rattle.row_borders.specs.Borders.{Bordering, at_unit}

@@ -3,7 +3,7 @@ use Rattle.std.proofs.Common.{◌≡◌, ℕ, ◌+◌, ◌-◌, ◌*◌, ◌/◌
 use Rattle.std.proofs.Common.{refl, ap, ◌∙◌, if◌then◌else◌, arith}
 use Rattle.std.proofs.lemmas.Bool.Decides.{nat_tests}
 use Rattle.std.proofs.lemmas.Nat.{div-mul-add}
-use Rattle.locality_laws.specs.Beside.{is_at_border}
+use Rattle.known_picture_laws.specs.LocalityLaws.{is_at_border}
 use Rattle.row_borders.specs.Borders.{at_border}
 
 -- in the line above, and in the column on the left

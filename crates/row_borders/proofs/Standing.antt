@@ -3,14 +3,14 @@ use Rattle.std.proofs.Common.{◌≡◌, ℕ, ◌+◌, ◌-◌, ◌*◌, ◌/◌
 use Rattle.std.proofs.Common.{None, refl, ap, ◌∙◌, if◌then◌else◌, arith}
 use Rattle.std.proofs.lemmas.Bool.{and_parts, ltb-true}
 use Rattle.std.proofs.lemmas.Bool.Decides.{nat_tests}
-use Rattle.spec_decoded_pictures.specs.Decoded.{DecodedUnits}
+use Rattle.known_picture_laws.specs.SpecDecodedPictures.{DecodedUnits}
 use Rattle.spec_picture_build.specs.Border.{has_sample, height_of, unit_column, unit_line, unit_side, width_of}
 use Rattle.spec_picture_build.specs.Border as samples
 use Rattle.spec_picture_motion.specs.Field.{Motions}
 use Rattle.spec_picture_trees.specs.Places.{first_column, first_row, has_place, is_available, unit_places}
 use Rattle.spec_slice_data.specs.Segment.{PictureShape}
-use Rattle.locality_laws.specs.Beside.{SamplesAgreeBeside, is_at_border}
-use Rattle.locality_laws.specs.Motion.{MotionAgreesBeneath, MotionAgreesBeside}
+use Rattle.known_picture_laws.specs.LocalityLaws.{SamplesAgreeBeside, is_at_border}
+use Rattle.known_picture_laws.specs.LocalityLaws.{MotionAgreesBeneath, MotionAgreesBeside}
 use Rattle.row_borders.specs.Borders.{Bordering, block_beneath, coded_above, coded_at, coded_left, collocated_at}
 use Rattle.row_borders.specs.Borders.{column_left, line_above, motion_above, motion_at, motion_left, sample_at}
 use Rattle.row_borders.specs.Building.{IsBeneath, IsBeside}

@@ -1,16 +1,16 @@
 -- What building a coding tree unit leaves, by places of the unit, and what units make of a picture.
 use Rattle.std.specs.Prelude.{◌≡◌, ℕ, ◌+◌, ◌-◌, ◌*◌, ◌<◌, ◌≤◌, Bool, true, Option, slice_index_or, unwrap_or}
 use Rattle.std.specs.List.{All}
-use Rattle.ctu_build.specs.Held.{held}
+use Rattle.unit_build.specs.CtuBuild.{held}
 use Rattle.ctu_motion.specs.Held.{held as motion_held}
 use Rattle.ctu_records.specs.Tree.{Ctu}
 use Rattle.picture_buffer.specs.declared.place_motion.PlaceMotion.{PlaceMotion}
-use Rattle.picture_filters.specs.Filtering.{read_place}
-use Rattle.picture_filters.specs.Units.{first_unit}
-use Rattle.picture_motion.specs.Deriving.{known_over}
+use Rattle.unit_build.specs.PictureFilters.{read_place}
+use Rattle.unit_build.specs.PictureFilters.{first_unit}
+use Rattle.unit_build.specs.PictureMotion.{known_over}
 use Rattle.plan_types.specs.declared.picture_plan.PicturePlan.{PicturePlan}
 use Rattle.plan_types.specs.declared.segment_plan.SegmentPlan.{SegmentPlan}
-use Rattle.spec_decoded_pictures.specs.Decoded.{DecodedUnits}
+use Rattle.known_picture_laws.specs.SpecDecodedPictures.{DecodedUnits}
 use Rattle.spec_deblocking.specs.declared.place.Place.{Place}
 use Rattle.spec_motion.specs.Units.{IsPlacedItem}
 use Rattle.spec_picture_build.specs.Border.{height_of, unit_column, unit_line, unit_side, width_of}

@@ -2,3 +2,8 @@ pub mod Strips
 pub mod Borders
 pub mod Building
 pub mod Next
+pub mod PictureFilters
+pub mod UnitBuild
+pub mod KnownPictureLaws
+pub mod SpecFlights
+pub mod SpecPictureFilters

@@ -3,7 +3,7 @@ use Rattle.std.specs.Prelude.{◌≡◌, ℕ, ◌+◌, ◌-◌, ◌*◌, ◌<◌
 use Rattle.std.specs.Prelude.{length, slice_index, if◌then◌else◌}
 use Rattle.picture_buffer.specs.declared.place_motion.PlaceMotion.{PlaceMotion}
 use Rattle.picture_layout.specs.declared.coding_tree_unit.CodingTreeUnit.{CodingTreeUnit}
-use Rattle.spec_decoded_pictures.specs.Decoded.{DecodedUnits}
+use Rattle.known_picture_laws.specs.SpecDecodedPictures.{DecodedUnits}
 use Rattle.spec_picture_build.specs.Border.{unit_side, width_of}
 use Rattle.spec_picture_trees.specs.Places.{unit_places}
 use Rattle.spec_slice_data.specs.Residual.{samples_of_place}

@@ -5,8 +5,7 @@ ghost use Rattle.std.specs.Prelude.{◌≡◌};
 use crate::border::RowBorder;
 use picture_buffer::PlaceMotion;
 use picture_layout::CodingTreeUnit;
-use picture_motion::{MotionBeneath, MotionBeside};
-use unit_build::{Beside, Part};
+use unit_build::{Beside, MotionBeneath, MotionBeside, Part};
 
 impl MotionBeside for RowBorder {
     ghost use Rattle.row_borders.specs.Borders.{motion_at};

@@ -3,11 +3,11 @@
 ghost use Rattle.std.specs.Prelude.{◌≡◌, ℕ, List};
 ghost use Rattle.std.specs.List.{All};
 ghost use Rattle.ctu_motion.specs.Held.{held};
-ghost use Rattle.inter_samples.specs.Inter.{AreSmall};
-ghost use Rattle.picture_filters.specs.Filtering.{IsUnit};
+ghost use Rattle.unit_build.specs.InterSamples.{AreSmall};
+ghost use Rattle.unit_build.specs.PictureFilters.{IsUnit};
 ghost use Rattle.picture_layout.specs.Shape.{IsShape};
 ghost use Rattle.row_borders.specs.Building.{HoldsUnit, IsBeneath, IsBeside, IsDerived, tree_unit};
-ghost use Rattle.spec_decoded_pictures.specs.Decoded.{DecodedUnits, unit_decoded};
+ghost use Rattle.known_picture_laws.specs.SpecDecodedPictures.{DecodedUnits, unit_decoded};
 ghost use Rattle.spec_motion.specs.Units.{IsPlacedItem};
 ghost use Rattle.spec_picture_build.specs.Format.{unit_format};
 ghost use Rattle.spec_picture_build.specs.References.{DecodedPicture, motions_of, pictures_of};
@@ -17,10 +17,9 @@ ghost use Rattle.spec_picture_trees.specs.Shapes.{slice_start};
 ghost use Rattle.spec_reconstruction.specs.Sound.{AreSound, IsFormat};
 
 use crate::border::RowBorder;
-use ctu_build::Scratch;
 use ctu_records::Records;
 use inter_pred::RefWindow;
-use unit_build::{BuiltUnit, UnitSource, derive_unit, fill_unit};
+use unit_build::{BuiltUnit, Scratch, UnitSource, derive_unit, fill_unit};
 
 /// The first half of the work of the unit that a border stands at: its motion, and the pictures that its vectors point
 /// to, by what was read of it. So it is known which rows of these its samples are predicted from. Where the border has

@@ -1,7 +1,7 @@
 //! The unit on the left of the next one.
 
 ghost use Rattle.std.specs.Prelude.{◌≡◌, ℕ, ◌+◌, ◌-◌, ◌*◌, ◌<◌, ◌≤◌, ◌==◌, ◌&&◌, nat_lt, unwrap_or, if◌then◌else◌};
-ghost use Rattle.ctu_build.specs.Held.{held};
+ghost use Rattle.unit_build.specs.CtuBuild.{held};
 ghost use Rattle.row_borders.specs.Borders.{coded_left, column_left, motion_left, with_left};
 ghost use Rattle.row_borders.specs.Building.{built_coded, built_motion, built_sample};
 ghost use Rattle.row_borders.specs.Next.{HasColumn};
@@ -13,8 +13,7 @@ ghost use Rattle.spec_slice_data.specs.Residual.{samples_of_place};
 use crate::border::RowBorder;
 use crate::strip::Strip;
 use motion_candidates::MotionView;
-use picture_motion::pointing_motion;
-use unit_build::BuiltUnit;
+use unit_build::{BuiltUnit, pointing_motion};
 
 impl RowBorder {
     /// The unit that was built here is on the left of the next one: its rightmost column is laid there, of samples, of

@@ -10,7 +10,7 @@ ghost use Rattle.row_borders.specs.Borders.{Bordering, at_unit};
 ghost use Rattle.row_borders.specs.Building.{HoldsUnit, IsAbove, IsAtLeft, IsBeside};
 ghost use Rattle.row_borders.specs.Next.{HasColumn, HasLine, HasPlaces, IsLaid, IsNextInRow, LaysPlace, LaysSamples};
 ghost use Rattle.row_borders.specs.Strips.{StripPlaces};
-ghost use Rattle.spec_decoded_pictures.specs.Decoded.{DecodedUnits, unit_decoded};
+ghost use Rattle.known_picture_laws.specs.SpecDecodedPictures.{DecodedUnits, unit_decoded};
 ghost use Rattle.spec_picture_build.specs.Border.{unit_side, width_of};
 ghost use Rattle.spec_picture_build.specs.References.{DecodedPicture};
 ghost use Rattle.spec_picture_trees.specs.Picture.{TreeUnit};

@@ -15,3 +15,6 @@ pub use laws::{
     borders_stand_beside_the_next_unit, laid_lines_go_on, laid_lines_stand_above,
     units_leave_what_is_above_them,
 };
+pub use unit_build::{
+    Beside, BuiltUnit, Scratch, UnitSource, collocated_entry, pointing_motion, slice_motion,
+};

@@ -1,22 +1,24 @@
 -- Pictures that are decoded one after the other.
 use Rattle.std.proofs.Common.{◌≡◌, ℕ, suc, ◌+◌, ◌<◌, ◌≤◌, List, [], ◌∷◌, ◌++◌, length, drop, get_or, Option}
-use Rattle.std.proofs.Common.{Some, None, Result, Ok, Err, refl, sym, ap, subst, ◌∙◌, add-one, append_assoc, append-nil}
+use Rattle.std.proofs.Common.{Some, None, Result, Ok, Err, refl, sym, ap, subst, ◌∙◌, add-one, append_assoc}
+use Rattle.std.proofs.Common.{append-nil}
 use Rattle.std.proofs.Common.{drop-cons}
 use Rattle.std.specs.Prelude.{IfOk, IsErrAnd}
 use Rattle.std.proofs.lemmas.List.{drop_all, map-append}
 use Rattle.hv_base.specs.declared.refusal.Stop.{Stop}
 use Rattle.plan_types.specs.declared.picture_plan.PicturePlan.{PicturePlan}
 use Rattle.picture_buffer.specs.Pictures.{HeldPicture}
-use Rattle.picture_build.specs.Building.{BuildsPicture}
-use Rattle.picture_build.specs.Pictures.{buffer_of, decoded_of}
+use Rattle.flight_ranges.specs.PictureBuild.{BuildsPicture}
+use Rattle.flight_ranges.specs.PictureBuild.{buffer_of, decoded_of}
 use Rattle.picture_trees.specs.declared.trees.ReadError.{ReadError}
 use Rattle.picture_trees.specs.declared.trees.ReadError.TheVariants as error
 use Rattle.spec_picture_trees.specs.Picture.{PictureBroken}
 use Rattle.spec_picture_build.specs.References.{DecodedPicture}
-use Rattle.spec_decoded_pictures.specs.Decoded.{picture_decoded}
-use Rattle.spec_decoder.specs.Decoder.{told}
-use Rattle.spec_flights.specs.References.{staying}
-use Rattle.row_jobs.specs.Decoding.{Decodes, TellsError, buffer_with}
+use Rattle.row_workers.specs.SpecDecodedPictures.{picture_decoded}
+use Rattle.row_workers.specs.SpecDecoder.{told}
+use Rattle.row_workers.specs.SpecFlights.{staying}
+use Rattle.flight_results.specs.Decoding.{Decodes, buffer_with}
+use Rattle.row_jobs.specs.Decoding.{TellsError}
 use Rattle.row_jobs.proofs.Keeping.{staying_map}
 
 -- the plan at a place, and those behind it

@@ -6,8 +6,8 @@ use Rattle.std.specs.List.{remove}
 use Rattle.std.proofs.Math.Seq.{take-length, drop-length}
 use Rattle.std.proofs.lemmas.List.{length-take-le}
 use Rattle.std.proofs.lemmas.List.Edits.{length-remove, remove-append_right}
-use Rattle.spec_decoder.specs.Decoder.{is_among}
-use Rattle.spec_flights.specs.References.{staying}
+use Rattle.row_workers.specs.SpecDecoder.{is_among}
+use Rattle.row_workers.specs.SpecFlights.{staying}
 
 -- a list up to a place, the item there, and what stands behind it
 at_place : {X : Type 0} → (n : ℕ) (xs : List X) → n < length xs

@@ -1,3 +1,5 @@
 pub mod Keeping
 pub mod Decoding
-pub mod Flights
+pub mod Boards
+pub mod Held
+pub mod FlightResultsLemmas

@@ -1,2 +1,5 @@
 pub mod Decoding
-pub mod Flights
+pub mod Boards
+pub mod FlightResults
+pub mod PictureBuild
+pub mod SpecFlights

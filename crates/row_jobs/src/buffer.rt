@@ -2,8 +2,8 @@
 
 ghost use Rattle.std.specs.Prelude.{◌≡◌, ◌<◌, ◌++◌, ◌∷◌, [], OnOk, length, if◌then◌else◌};
 ghost use Rattle.std.specs.List.{remove};
-ghost use Rattle.spec_decoder.specs.Decoder.{is_among};
-ghost use Rattle.spec_flights.specs.References.{staying};
+ghost use Rattle.row_workers.specs.SpecDecoder.{is_among};
+ghost use Rattle.row_workers.specs.SpecFlights.{staying};
 
 use picture_buffer::{Bases, Picture, SharedPicture};
 use std::alloc::{AllocError, Global};

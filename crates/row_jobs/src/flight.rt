@@ -2,19 +2,22 @@
 
 ghost use Rattle.std.specs.Prelude.{◌≡◌, ℕ, Option, IfOk};
 ghost use Rattle.board_core.specs.Runs.{IsLeastBad};
-ghost use Rattle.flight_unit_laws.specs.Stops.{HaveSegments};
-ghost use Rattle.picture_build.specs.Pictures.{buffer_of};
-ghost use Rattle.spec_flights.specs.Rows.{flight_rows};
-ghost use Rattle.row_jobs.specs.Decoding.{Decodes, TellsError};
-ghost use Rattle.row_jobs.specs.Flights.{DecodesFlight, TellsLeast, flight_of};
+ghost use Rattle.flight_ranges.specs.FlightUnitLaws.{HaveSegments};
+ghost use Rattle.flight_ranges.specs.PictureBuild.{buffer_of};
+ghost use Rattle.row_workers.specs.SpecFlights.{flight_rows};
+ghost use Rattle.flight_ranges.specs.FlightFacts.{flight_of};
+ghost use Rattle.flight_results.specs.Decoding.{Decodes};
+ghost use Rattle.flight_results.specs.Flights.{DecodesFlight, TellsLeast};
+ghost use Rattle.row_jobs.specs.Decoding.{TellsError};
 
+use crate::board::{board_layout, decode_on_board};
 use crate::buffer::enter;
 use crate::picture::decode_picture;
 use crate::result::FlightResult;
 use crate::spares::Spares;
-use flight_unit_laws::least_bad_units_stop_decoding;
+use flight_ranges::Flight;
+use flight_results::{flights_are_decoded_in_order, least_bad_units_are_told};
 use hv_io::Gate;
-use known_picture_laws::pictures_are_decoded_as_known;
 use picture_buffer::Bases;
 use picture_trees::ReadError;
 use plan_types::PicturePlan;
@@ -29,22 +32,55 @@ use std::thread::Threads;
 /// (`decoded`, `flight`). It is broken at the flight's least bad coding tree unit (`least`). The answer is the same for
 /// every number of workers.
 pub fn run_flight<R: Threads + Wait + Sync, G: Gate + Sync>(
-    _rt: &R,
+    rt: &R,
+    alloc: Global,
+    flight: &Flight,
+    bases: &Bases,
+    workers: u32,
+    gate: &G,
+    spares: &mut Spares,
+) -> Result<FlightResult, AllocError>
+    ensures decoded { IfOk result (λ r. Decodes (buffer_of bases.now) flight.now r.pictures r.fault) }
+    ensures flight { IfOk result
+        (λ r. DecodesFlight (flight_of flight.now (buffer_of bases.now)) r.pictures r.fault) }
+    ensures least { IfOk result
+        (λ r. (u : Option ℕ) → HaveSegments (flight_of flight.now (buffer_of bases.now))
+        → IsLeastBad (flight_rows (flight_of flight.now (buffer_of bases.now))) u
+        → TellsLeast (flight_of flight.now (buffer_of bases.now)) r.pictures r.fault u) }
+{
+    flights_are_decoded_in_order();
+    least_bad_units_are_told();
+    decode_flight(rt, alloc, flight, bases, workers, gate, spares)
+}
+
+/// The same on a board, where it may lie on one, else its pictures one after the other.
+fn decode_flight<R: Threads + Wait + Sync, G: Gate + Sync>(
+    rt: &R,
+    alloc: Global,
+    flight: &Flight,
+    bases: &Bases,
+    workers: u32,
+    gate: &G,
+    spares: &mut Spares,
+) -> Result<FlightResult, AllocError>
+    ensures { IfOk result (λ r. DecodesFlight (flight_of flight.now (buffer_of bases.now)) r.pictures r.fault) }
+{
+    match board_layout(flight.as_slice(), bases, workers) {
+        Some(layout) => decode_on_board(rt, alloc, flight, bases, layout, workers, gate, spares),
+        None => decode_plainly(alloc, flight.as_slice(), bases, spares),
+    }
+}
+
+/// The pictures of a flight, decoded one after the other.
+fn decode_plainly(
     alloc: Global,
     plan: &[PicturePlan],
     bases: &Bases,
-    _workers: u32,
-    _gate: &G,
     spares: &mut Spares,
 ) -> Result<FlightResult, AllocError>
-    ensures decoded { IfOk result (λ r. Decodes (buffer_of bases.now) plan.now r.pictures r.fault) }
-    ensures flight { IfOk result (λ r. DecodesFlight (flight_of plan.now bases.now) r.pictures r.fault) }
-    ensures least { IfOk result (λ r. (u : Option ℕ) → HaveSegments (flight_of plan.now bases.now)
-        → IsLeastBad (flight_rows (flight_of plan.now bases.now)) u
-        → TellsLeast (flight_of plan.now bases.now) r.pictures r.fault u) }
+    ensures { IfOk result (λ r. DecodesFlight (flight_of plan.now (buffer_of bases.now)) r.pictures r.fault) }
 {
-    pictures_are_decoded_as_known();
-    least_bad_units_stop_decoding();
+    flights_are_decoded_in_order();
     decode_in_order(alloc, plan, bases, spares)
 }
 

@@ -2,8 +2,10 @@
 //! before the first in which a rule is broken, and that rule.
 #![tactic(auto)]
 
+mod board;
 mod buffer;
 mod flight;
+mod parts;
 mod picture;
 mod result;
 mod spares;

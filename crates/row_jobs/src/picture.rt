@@ -1,13 +1,12 @@
 //! A picture of a flight.
 
-ghost use Rattle.std.specs.Prelude.{◌≡◌};
-ghost use Rattle.picture_build.specs.Building.{BuildsPicture};
-ghost use Rattle.picture_build.specs.Pictures.{buffer_of};
-ghost use Rattle.spec_decoded_pictures.specs.Decoded.{picture_decoded};
+ghost use Rattle.flight_ranges.specs.PictureBuild.{BuildsPicture};
+ghost use Rattle.flight_ranges.specs.PictureBuild.{buffer_of};
+ghost use Rattle.row_workers.specs.SpecDecodedPictures.{picture_decoded};
 
 use crate::spares::Spares;
+use flight_ranges::build_picture;
 use picture_buffer::{Bases, Picture};
-use picture_build::build_picture;
 use picture_trees::ReadError;
 use plan_types::PicturePlan;
 use std::alloc::Global;

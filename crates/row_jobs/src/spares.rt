@@ -3,15 +3,17 @@
 use header_types::PictureFormat;
 use loop_filters::FilterScratch;
 use picture_buffer::{Picture, SharedPicture};
+use progress_words::BoardMemory;
 use std::alloc::Global;
 
 /// Memory for pictures that are decoded: pictures that nobody has any more, in which later ones of their size are kept,
-/// and that in which they are filtered. Contracts don't see it.
+/// that in which they are filtered, and that of boards. Contracts don't see it.
 #[derive(Drop)]
 pub struct Spares {
     alloc: Global,
     pictures: Vec<Picture>,
     pub(crate) scratch: FilterScratch,
+    pub(crate) board: BoardMemory,
 }
 
 impl Spares {
@@ -21,6 +23,7 @@ impl Spares {
             alloc,
             pictures: Vec::new(alloc),
             scratch: FilterScratch::new(alloc),
+            board: BoardMemory::new(alloc),
         }
     }
 

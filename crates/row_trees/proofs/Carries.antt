@@ -11,7 +11,7 @@ use Rattle.spec_cabac.specs.Engine.{Engine, IsLive}
 use Rattle.spec_slice_data.specs.Segment.{PictureShape, begins_row, begins_substream, is_first, is_last}
 use Rattle.spec_picture_trees.specs.Picture.{SegmentAt}
 use Rattle.spec_picture_trees.specs.Shapes.{picture_shape}
-use Rattle.unit_trees.specs.declared.units.UnitReader.{UnitReader}
+use Rattle.unit_words.specs.UnitTrees.{UnitReader}
 use Rattle.unit_words.specs.Above.{AreContexts, MayResume, ReadsOn}
 use Rattle.unit_words.specs.Work.{carry_behind}
 use Rattle.unit_words.proofs.Resumed.{contexts_found, may_be_resumed}

@@ -10,7 +10,7 @@ use Rattle.plan_types.specs.declared.picture_plan.PicturePlan.{PicturePlan}
 use Rattle.spec_picture_trees.specs.Picture.{SegmentAt}
 use Rattle.spec_picture_trees.specs.Shapes.{end_of}
 use Rattle.spec_known_units.specs.Known.{is_in, picture_segments, segment_having, segments_from}
-use Rattle.known_unit_laws.proofs.Lookup.{found_first, found_later}
+use Rattle.known_engine_laws.proofs.KnownUnitLawsLemmas.{found_first, found_later}
 use Rattle.row_trees.specs.Segments.{IsCurrent, IsReached, next_segment}
 
 pub reached_first : (p : PicturePlan) → IsReached p 0 0

@@ -1,3 +1,6 @@
 mod Carries
 mod Found
 mod Standing
+pub mod PictureFiltersLemmas
+pub mod KnownPictureLawsLemmas
+pub mod UnitWordsLemmas

@@ -12,17 +12,17 @@ use Rattle.ctu_records.specs.Tree.{Ctu}
 use Rattle.spec_slice_data.specs.Segment.{Between, PictureShape, begins_substream, is_first}
 use Rattle.spec_picture_trees.specs.Picture.{SegmentAt, before_picture}
 use Rattle.spec_picture_trees.specs.Shapes.{picture_shape}
-use Rattle.unit_trees.specs.declared.edges.Edge.{Edge}
-use Rattle.unit_trees.specs.declared.units.UnitReader.{UnitReader}
-use Rattle.unit_trees.specs.Edges.{right_of}
-use Rattle.unit_trees.specs.Units.{between_of}
+use Rattle.unit_words.specs.UnitTrees.{Edge}
+use Rattle.unit_words.specs.UnitTrees.{UnitReader}
+use Rattle.unit_words.specs.UnitTrees.{right_of}
+use Rattle.unit_words.specs.UnitTrees.{between_of}
 use Rattle.spec_known_units.specs.Known.{Entries, KnownUnit, ctu_of, entries_before}
 use Rattle.spec_known_units.specs.Known.{known_of, picture_segments, read_in, segment_having, unit_read, units_known}
-use Rattle.known_unit_laws.proofs.Beside.{first_of_two}
-use Rattle.known_unit_laws.proofs.Entries.{known_step}
+use Rattle.known_engine_laws.proofs.KnownUnitLawsLemmas.{first_of_two}
+use Rattle.known_engine_laws.proofs.KnownUnitLawsLemmas.{known_step}
 use Rattle.known_engine_laws.proofs.Leaving.{leaves}
 use Rattle.known_engine_laws.proofs.Segments.{having_is, some_is}
-use Rattle.spec_flights.specs.Rows.{broken_at, broken_by}
+use Rattle.flight_value_laws.specs.SpecFlights.{broken_at, broken_by}
 use Rattle.flight_value_laws.specs.Reading.{IsKnownAs, IsLeftBefore, IsLeftEdge, read_over}
 use Rattle.flight_value_laws.proofs.Over.{read_is}
 use Rattle.flight_value_laws.proofs.Sides.{right_is}

@@ -1,3 +1,10 @@
 pub mod Reading
 pub mod Segments
 pub mod Steps
+pub mod FlightValueLaws
+pub mod LocalityLaws
+pub mod SpecFlights
+pub mod SpecDecoder
+pub mod SpecDecodedPictures
+pub mod KnownPictureLaws
+pub mod UnitWords

@@ -6,15 +6,16 @@ use Rattle.ctu_records.specs.Tree.{Ctu}
 use Rattle.spec_cabac.specs.Engine.{IsLive}
 use Rattle.spec_slice_data.specs.Segment.{begins_row, begins_substream, has_above, has_left, has_stored}
 use Rattle.spec_picture_trees.specs.Picture.{SegmentAt}
-use Rattle.unit_trees.specs.declared.edges.Edge.{Edge}
-use Rattle.unit_trees.specs.declared.units.UnitReader.{UnitReader}
-use Rattle.unit_tree_laws.specs.Agreement.{begins_slice}
-use Rattle.spec_known_units.specs.Known.{KnownUnit, contexts_behind, ctu_of, engine_behind, entries_before, last_behind}
+use Rattle.unit_words.specs.UnitTrees.{Edge}
+use Rattle.unit_words.specs.UnitTrees.{UnitReader}
+use Rattle.known_engine_laws.specs.UnitTreeLaws.{begins_slice}
+use Rattle.spec_known_units.specs.Known.{KnownUnit, contexts_behind, ctu_of, engine_behind, entries_before}
+use Rattle.spec_known_units.specs.Known.{last_behind}
 use Rattle.spec_known_units.specs.Known.{picture_segments, segment_having, unit_read, units_known}
 use Rattle.flight_value_laws.specs.Reading.{IsLeftEdge, IsTopEdge}
 use Rattle.sample_words.specs.declared.carry.Carry.{Carry}
-use Rattle.spec_flights.specs.Rows.{broken_at}
-use Rattle.spec_flights.specs.Words.{carried_behind}
+use Rattle.flight_value_laws.specs.SpecFlights.{broken_at}
+use Rattle.flight_value_laws.specs.SpecFlights.{carried_behind}
 
 -- the units of a picture that are known and are decoded before the one at an address
 abbrev pub known_to : PicturePlan → ℕ → ℕ → Option KnownUnit

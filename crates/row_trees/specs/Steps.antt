@@ -3,7 +3,7 @@ use Rattle.std.specs.Prelude.{◌≡◌, Result, Ok, Err}
 use Rattle.hv_base.specs.declared.breach.Breach.{Breach}
 use Rattle.ctu_records.specs.Tree.{Ctu}
 use Rattle.spec_picture_trees.specs.Picture.{SegmentAt}
-use Rattle.unit_trees.specs.declared.units.UnitReader.{UnitReader}
+use Rattle.unit_words.specs.UnitTrees.{UnitReader}
 use Rattle.spec_known_units.specs.Known.{KnownUnit}
 
 -- a unit of a segment, with what stands behind it

@@ -4,7 +4,7 @@ ghost use Rattle.std.specs.Prelude.{◌≡◌, ◌+◌, ◌%◌, ◌^◌, ◌<�
 ghost use Rattle.header_types.specs.SequenceParameterSets.{size_in_ctbs, width_in_ctbs};
 ghost use Rattle.cabac_contexts.specs.Packing.{unpacked};
 ghost use Rattle.spec_slice_data.specs.Segment.{begins_row, begins_substream};
-ghost use Rattle.unit_trees.specs.declared.units.UnitReader.{UnitReader};
+ghost use Rattle.unit_words.specs.UnitTrees.{UnitReader};
 ghost use Rattle.unit_words.specs.Above.{MayResume, ReadsOn};
 ghost use Rattle.unit_words.specs.Work.{carry_behind};
 ghost use Rattle.spec_known_units.specs.Known.{picture_segments, segment_having};
@@ -14,8 +14,7 @@ use crate::segments::RowSegments;
 use cabac_contexts::{BinReader, Contexts};
 use cabac_engine::Interval;
 use sample_words::Carry;
-use unit_trees::{SegmentData, UnitReader};
-use unit_words::resume_reader;
+use unit_words::{SegmentData, UnitReader, resume_reader};
 
 /// The reader before the first unit of a row, where the current segment is the unit's, behind what the last unit of the
 /// row above carries on. Where no segment has the unit it is any.

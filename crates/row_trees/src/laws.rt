@@ -5,7 +5,7 @@ ghost use Rattle.header_types.specs.SequenceParameterSets.{height_in_ctbs, width
 ghost use Rattle.plan_types.specs.declared.picture_plan.PicturePlan.{PicturePlan};
 ghost use Rattle.spec_picture_trees.specs.Picture.{SegmentAt};
 ghost use Rattle.spec_known_units.specs.Known.{picture_segments, segment_having};
-ghost use Rattle.spec_flights.specs.Pictures.{PlannedFlight};
+ghost use Rattle.flight_value_laws.specs.SpecFlights.{PlannedFlight};
 ghost use Rattle.flight_value_laws.specs.Reading.{AreUsesSound};
 ghost use Rattle.row_trees.specs.Reading.{IsReadByKnown};
 

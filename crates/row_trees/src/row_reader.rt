@@ -4,8 +4,8 @@ ghost use Rattle.std.specs.Prelude.{◌≡◌, ◌+◌, ◌*◌, ◌%◌, ◌^�
 ghost use Rattle.header_types.specs.SequenceParameterSets.{size_in_ctbs, width_in_ctbs};
 ghost use Rattle.plan_types.specs.declared.picture_plan.PicturePlan.{PicturePlan};
 ghost use Rattle.spec_picture_trees.specs.Shapes.{picture_shape};
-ghost use Rattle.unit_trees.specs.Edges.{no_edge, right_of};
-ghost use Rattle.unit_trees.specs.Units.{MayGoOn, between_of};
+ghost use Rattle.unit_words.specs.UnitTrees.{no_edge, right_of};
+ghost use Rattle.unit_words.specs.UnitTrees.{MayGoOn, between_of};
 ghost use Rattle.spec_known_units.specs.Known.{picture_segments, segment_having};
 ghost use Rattle.flight_value_laws.specs.Reading.{read_over};
 ghost use Rattle.row_trees.specs.Reading.{BeginsAlone, CarriesBehind, IsReadByKnown, IsUnder, OfSegment, Reads};
@@ -18,10 +18,9 @@ use cabac_contexts::Contexts;
 use ctu_records::Records;
 use hv_base::Breach;
 use plan_types::PicturePlan;
-use residual_syntax::Levels;
 use sample_words::Carry;
 use std::alloc::{AllocError, Global};
-use unit_trees::{Edge, SegmentData, UnitReader};
+use unit_words::{Edge, Levels, SegmentData, UnitReader};
 
 /// Reads the coding tree units of a row from the left to the right.
 #[derive(Drop)]

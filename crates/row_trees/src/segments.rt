@@ -6,15 +6,14 @@ ghost use Rattle.plan_types.specs.declared.segment_plan.SegmentPlan.{SegmentPlan
 ghost use Rattle.header_types.specs.SequenceParameterSets.{IsSps, size_in_ctbs, width_in_ctbs};
 ghost use Rattle.spec_slice_data.specs.Segment.{begins_row};
 ghost use Rattle.spec_picture_trees.specs.Shapes.{end_of, picture_shape};
-ghost use Rattle.picture_layout.specs.Shape.{IsShape};
+ghost use Rattle.unit_words.specs.PictureLayout.{IsShape};
 ghost use Rattle.spec_known_units.specs.Known.{is_in, picture_segments, segment_having};
 ghost use Rattle.row_trees.specs.Segments.{IsCurrent, IsReached, next_segment};
 
 use header_types::Sps;
-use picture_layout::{Layout, address_of};
 use plan_types::{PicturePlan, SegmentPlan};
 use std::marker::Model;
-use unit_trees::SegmentData;
+use unit_words::{Layout, SegmentData, address_of};
 
 /// A picture, and the slice segment that has the unit at which its reader stands. It goes on from segment to segment:
 /// no segment is tried twice while the units go up.

@@ -37,9 +37,9 @@ use Rattle.sample_words.specs.Sizes.{columns}
 use Rattle.sample_words.specs.Words.{IsLine, line_number}
 use Rattle.progress_words.specs.declared.view.View.{View}
 use Rattle.progress_words.specs.Views.{seen_of}
-use Rattle.spec_flights.specs.Pictures.{PlannedFlight}
-use Rattle.spec_flights.specs.References.{collocated_at, collocated_by, names_before, segment_of}
-use Rattle.spec_flights.specs.Rows.{flight_rows, is_sound, rows_in}
+use Rattle.unit_reach.specs.SpecFlights.{PlannedFlight}
+use Rattle.unit_reach.specs.SpecFlights.{collocated_at, collocated_by, names_before, segment_of}
+use Rattle.unit_reach.specs.SpecFlights.{flight_rows, is_sound, rows_in}
 use Rattle.flight_waits.proofs.FactsOfFlights.{in_picture}
 use Rattle.flight_waits.specs.FactsOfFlights.{IsPlanned}
 use Rattle.flight_waits.proofs.FactsOfFlights.{as_many, rows_are, width_is}

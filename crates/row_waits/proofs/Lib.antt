@@ -6,3 +6,6 @@ pub mod Needed
 pub mod RowEnds
 pub mod Sound
 pub mod CollocatedRows
+pub mod FlightWindowsLemmas
+pub mod FlightFactsLemmas
+pub mod PictureFiltersLemmas

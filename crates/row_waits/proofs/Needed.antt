@@ -28,7 +28,7 @@ use Rattle.flight_lines.specs.Flights.{IsSized, meaning_of}
 use Rattle.flight_lines.specs.Numbers.{numbered, numbered_needs}
 use Rattle.flight_lines.proofs.Numbered.{number_less, word_line}
 use Rattle.line_words.proofs.Apart.{apart_phases}
-use Rattle.spec_flights.specs.Rows.{flight_rows}
+use Rattle.unit_reach.specs.SpecFlights.{flight_rows}
 use Rattle.unit_reach.specs.declared.reach.ReachSource.{ReachSource}
 use Rattle.flight_waits.specs.FactsOfFlights.{FlightFacts}
 use Rattle.flight_waits.specs.FactsOfFlights.{flight_meaning}

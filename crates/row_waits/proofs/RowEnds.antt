@@ -35,17 +35,17 @@ use Rattle.sample_words.specs.Contents.{IsContent, PictureValues, content_value,
 use Rattle.sample_words.specs.Sizes.{columns, height_of, width_of}
 use Rattle.sample_words.specs.Words.{unit_word}
 use Rattle.sample_words.proofs.Contents.{content_found}
-use Rattle.spec_flights.specs.Pictures.{PlannedFlight, folded_at}
-use Rattle.spec_flights.specs.Words.{carried_behind, expected, expected_in, flight_sizes, values_in}
-use Rattle.unit_words.specs.Above.{AreOfCarry}
+use Rattle.unit_reach.specs.SpecFlights.{PlannedFlight, folded_at}
+use Rattle.unit_reach.specs.SpecFlights.{carried_behind, expected, expected_in, flight_sizes, values_in}
+use Rattle.row_trees.specs.UnitWords.{AreOfCarry}
 use Rattle.std.specs.Int.{w64, from_le_bytes}
 use Rattle.std.proofs.lemmas.List.FromFn.{length-map-range_with_len}
 use Rattle.cabac_contexts.specs.Packing.{eight_from}
 use Rattle.header_types.specs.SequenceParameterSets.{IsSps}
 use Rattle.cabac_contexts.specs.Packing.{unpacked}
 use Rattle.sample_words.specs.Sizes.{carry_words, common_words, context_words, tree_words}
-use Rattle.unit_words.specs.Above.{AreContexts}
-use Rattle.unit_words.proofs.Resumed.{contexts_found}
+use Rattle.row_trees.specs.UnitWords.{AreContexts}
+use Rattle.row_trees.proofs.UnitWordsLemmas.{contexts_found}
 use Rattle.flight_waits.proofs.FactsOfFlights.{contexts_fit, last_fits}
 use Rattle.line_words.specs.Places.{HasSizes, UnitAt, word_at, words_at}
 use Rattle.flight_waits.specs.FactsOfFlights.{FlightFacts}

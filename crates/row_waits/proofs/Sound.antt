@@ -9,7 +9,7 @@ use Rattle.progress_words.specs.declared.view.View.{View}
 use Rattle.progress_words.specs.Views.{seen_of}
 use Rattle.flight_lines.specs.Flights.{IsSized, meaning_of}
 use Rattle.flight_lines.proofs.Numbered.{flight_line, number_line}
-use Rattle.spec_flights.specs.Rows.{flight_rows, is_sound}
+use Rattle.unit_reach.specs.SpecFlights.{flight_rows, is_sound}
 use Rattle.flight_waits.specs.FactsOfFlights.{FlightFacts}
 use Rattle.flight_waits.specs.FactsOfFlights.{flight_in}
 use Rattle.flight_waits.specs.FactsOfFlights.{IsOfFlight}

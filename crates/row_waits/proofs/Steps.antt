@@ -11,7 +11,7 @@ use Rattle.progress_words.specs.Passes.{IsPassOf, view}
 use Rattle.progress_words.specs.Places.{Place}
 use Rattle.progress_words.specs.Views.{seen_of}
 use Rattle.line_words.specs.Places.{UnitAt, number_at}
-use Rattle.spec_flights.specs.Rows.{flight_rows}
+use Rattle.unit_reach.specs.SpecFlights.{flight_rows}
 use Rattle.flight_waits.specs.FactsOfFlights.{FlightFacts}
 use Rattle.flight_waits.specs.FactsOfFlights.{flight_meaning}
 use Rattle.flight_waits.specs.FactsOfFlights.{flight_in}

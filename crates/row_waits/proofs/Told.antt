@@ -15,17 +15,17 @@ use Rattle.ctu_motion.specs.Held.{held}
 use Rattle.spec_picture_trees.specs.Places.{first_row}
 use Rattle.spec_picture_trees.specs.Shapes.{picture_shape}
 use Rattle.spec_known_units.specs.Known.{KnownUnit, units_known}
-use Rattle.spec_picture_motion.specs.Slices.{slice_motion}
+use Rattle.flight_windows.specs.SpecPictureMotion.{slice_motion}
 use Rattle.flight_plan.specs.Flight.{FlightRows, IsEarlier, IsFlight, picture_at}
 use Rattle.flight_plan.specs.declared.row_range.RowRange.{RowRange}
 use Rattle.board_core.specs.Needs.{unit_in_picture}
 use Rattle.board_core.specs.Places.{IsLine, line_of, width_of}
 use Rattle.board_core.specs.Reach.{range_of, reach_of, told_reach}
 use Rattle.board_core.proofs.Counting.{pieces_each}
-use Rattle.spec_flights.specs.Pictures.{PlannedFlight, pictures_before}
-use Rattle.spec_flights.specs.References.{blocks_at, blocks_in, item_blocks, known_blocks, names_before}
-use Rattle.spec_flights.specs.References.{segment_blocks}
-use Rattle.spec_flights.specs.Rows.{flight_rows, lines_in}
+use Rattle.unit_reach.specs.SpecFlights.{PlannedFlight, pictures_before}
+use Rattle.unit_reach.specs.SpecFlights.{blocks_at, blocks_in, item_blocks, known_blocks, names_before}
+use Rattle.unit_reach.specs.SpecFlights.{segment_blocks}
+use Rattle.unit_reach.specs.SpecFlights.{flight_rows, lines_in}
 use Rattle.flight_waits.specs.FactsOfFlights.{IsPlanned}
 use Rattle.flight_waits.proofs.FactsOfFlights.{as_many, height_is, width_is}
 use Rattle.flight_waits.proofs.FactsOfFlights.{is_flight, reach_told, same_lines}

@@ -1,3 +1,12 @@
 pub mod Pictures
 pub mod Seen
 pub mod Told
+pub mod FlightWindows
+pub mod RowTrees
+pub mod UnitReach
+pub mod FlightValueLaws
+pub mod FlightFacts
+pub mod FlightUnitLaws
+pub mod PictureBuild
+pub mod LocalityLaws
+pub mod FlightWaits

@@ -6,7 +6,7 @@ use Rattle.plan_types.specs.declared.picture_plan.PicturePlan.{PicturePlan}
 use Rattle.flight_waits.specs.FactsOfFlights.{IsCommon}
 use Rattle.flight_waits.specs.FactsOfFlights.{buffer_of}
 use Rattle.spec_reconstruction.specs.Sound.{IsFormat}
-use Rattle.spec_flights.specs.References.{names_before}
+use Rattle.unit_reach.specs.SpecFlights.{names_before}
 use Rattle.line_words.specs.Places.{UnitAt}
 use Rattle.flight_waits.specs.FactsOfFlights.{FlightFacts}
 use Rattle.flight_waits.specs.FactsOfFlights.{flight_in}

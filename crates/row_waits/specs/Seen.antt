@@ -12,7 +12,7 @@ use Rattle.board_core.specs.Reach.{reach_of}
 use Rattle.sample_words.specs.declared.sizes.FlightSizes.{FlightSizes}
 use Rattle.sample_words.specs.Sizes.{rows}
 use Rattle.sample_words.specs.Words.{IsLine}
-use Rattle.spec_flights.specs.References.{item_blocks}
+use Rattle.unit_reach.specs.SpecFlights.{item_blocks}
 use Rattle.unit_reach.specs.declared.reach.ReachSource.{ReachSource}
 use Rattle.progress_words.specs.declared.pass.Pass.{Pass}
 use Rattle.progress_words.specs.declared.view.View.{View}

@@ -6,10 +6,10 @@ use Rattle.ctu_motion.specs.Held.{held}
 use Rattle.spec_picture_trees.specs.Places.{first_row}
 use Rattle.spec_picture_trees.specs.Shapes.{picture_shape}
 use Rattle.spec_known_units.specs.Known.{KnownUnit}
-use Rattle.spec_picture_motion.specs.Slices.{slice_motion}
-use Rattle.spec_flights.specs.Pictures.{PlannedFlight, pictures_before}
-use Rattle.spec_flights.specs.References.{known_motion, names_before}
-use Rattle.spec_flights.specs.Rows.{luma_lines}
+use Rattle.flight_windows.specs.SpecPictureMotion.{slice_motion}
+use Rattle.unit_reach.specs.SpecFlights.{PlannedFlight, pictures_before}
+use Rattle.unit_reach.specs.SpecFlights.{known_motion, names_before}
+use Rattle.unit_reach.specs.SpecFlights.{luma_lines}
 use Rattle.unit_reach.specs.declared.reach.ReachSource.{ReachSource}
 
 -- it is that of the known unit at an address of the picture at a place of a flight, in a slice segment, whose motion is

@@ -7,7 +7,7 @@ ghost use Rattle.board_core.specs.Places.{line_of};
 ghost use Rattle.sample_words.specs.Sizes.{columns};
 ghost use Rattle.sample_words.specs.Words.{IsLine, line_number};
 ghost use Rattle.spec_known_units.specs.Known.{contexts_behind, units_known};
-ghost use Rattle.spec_flights.specs.Words.{carried_behind};
+ghost use Rattle.unit_reach.specs.SpecFlights.{carried_behind};
 ghost use Rattle.progress_words.specs.Passes.{IsPassOf, Knows, view};
 ghost use Rattle.progress_words.specs.Views.{seen_of};
 ghost use Rattle.row_waits.specs.Pictures.{IsPictureOf};
@@ -18,8 +18,8 @@ use flight_waits::FlightFacts;
 use hv_base::{Line, Phase};
 use line_words::{UnitPlace, read_run};
 use progress_words::{Board, Pass};
+use row_trees::{unpack_carry, unpack_contexts};
 use sample_words::{Carry, UnitContent};
-use unit_words::{unpack_carry, unpack_contexts};
 
 /// The contexts behind the second unit of a row, which the pass has seen counted.
 pub fn read_stored(

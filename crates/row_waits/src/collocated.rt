@@ -6,8 +6,8 @@ ghost use Rattle.flight_plan.specs.Flight.{IsNoneOrEarlier};
 ghost use Rattle.progress_words.specs.declared.waiting.Waited.TheVariants.{Ready, Stopped};
 ghost use Rattle.progress_words.specs.Passes.{IsPassOf, view};
 ghost use Rattle.progress_words.specs.Views.{HasEnded};
-ghost use Rattle.spec_flights.specs.References.{collocated_by};
-ghost use Rattle.spec_flights.specs.Rows.{flight_rows};
+ghost use Rattle.unit_reach.specs.SpecFlights.{collocated_by};
+ghost use Rattle.unit_reach.specs.SpecFlights.{flight_rows};
 ghost use Rattle.line_words.specs.Places.{number_at};
 ghost use Rattle.flight_waits.specs.FactsOfFlights.{flight_meaning};
 ghost use Rattle.flight_waits.specs.FactsOfFlights.{flight_in};
@@ -19,10 +19,9 @@ use flight_plan::Reference;
 use flight_waits::{FlightFacts, wait_for_collocated_row};
 use hv_io::Gate;
 use line_words::UnitPlace;
-use picture_layout::slice_of;
-use picture_motion::collocated_entry;
 use plan_types::SegmentPlan;
 use progress_words::{Board, Pass, Waited};
+use row_trees::{collocated_entry, slice_of};
 use std::sync::Wait;
 
 /// Waits for the unit's row of the collocated picture of a segment's slice, as it is built, where that is a picture of

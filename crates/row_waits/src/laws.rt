@@ -18,9 +18,9 @@ ghost use Rattle.flight_plan.specs.declared.row_range.Reference.TheVariants.{Fli
 ghost use Rattle.sample_words.specs.declared.sizes.FlightSizes.{FlightSizes};
 ghost use Rattle.sample_words.specs.Sizes.{columns};
 ghost use Rattle.sample_words.specs.Words.{IsLine, line_number};
-ghost use Rattle.spec_flights.specs.Pictures.{PlannedFlight};
-ghost use Rattle.spec_flights.specs.References.{collocated_by, names_before, segment_of};
-ghost use Rattle.spec_flights.specs.Rows.{flight_rows, is_sound};
+ghost use Rattle.unit_reach.specs.SpecFlights.{PlannedFlight};
+ghost use Rattle.unit_reach.specs.SpecFlights.{collocated_by, names_before, segment_of};
+ghost use Rattle.unit_reach.specs.SpecFlights.{flight_rows, is_sound};
 ghost use Rattle.flight_waits.specs.FactsOfFlights.{IsPlanned};
 ghost use Rattle.unit_reach.specs.declared.reach.ReachSource.{ReachSource};
 ghost use Rattle.progress_words.specs.declared.view.View.{View};

@@ -11,9 +11,13 @@ mod reach;
 
 pub use carried::{read_carry, read_stored};
 pub use collocated::wait_for_collocated;
+pub use flight_waits::{common_format, flight_frame};
+pub use flight_windows::{FlightWindows, KnownPass, SeenRows};
 pub use laws::{
     collocated_rows_are_told, items_reach_what_their_flight_tells,
     seen_reach_meets_the_needs_of_a_unit,
 };
 pub use picture_view::PictureView;
 pub use reach::wait_for_reach;
+pub use row_trees::{RowReader, filter_format, sound_units_are_read_by};
+pub use unit_reach::ReachSource;

@@ -4,16 +4,16 @@ use Rattle.std.proofs.lemmas.Option.{slice_get_within}
 use Rattle.hv_base.specs.declared.line.Line.{Line}
 use Rattle.header_types.specs.declared.sps.PictureFormat.{PictureFormat}
 use Rattle.picture_buffer.specs.Pictures.{HeldPicture}
-use Rattle.picture_build.specs.Pictures.{buffer_of}
+use Rattle.filtered_rows.specs.PictureBuild.{buffer_of}
 use Rattle.spec_picture_build.specs.References.{DecodedPicture, pictures_of}
 use Rattle.sample_words.specs.declared.sizes.FlightSizes.{FlightSizes}
 use Rattle.sample_words.specs.Words.{IsLine}
-use Rattle.flight_facts.specs.declared.flight_facts.FlightFacts.{FlightFacts}
-use Rattle.flight_facts.specs.Facts.{flight_in}
-use Rattle.flight_facts.specs.Flights.{IsOfFlight}
-use Rattle.flight_facts.proofs.Buffers.{bases_again}
-use Rattle.flight_facts.proofs.Laid.{each_there}
-use Rattle.flight_windows.specs.Windows.{bases_in}
+use Rattle.filtered_rows.specs.FlightFacts.{FlightFacts}
+use Rattle.filtered_rows.specs.FlightFacts.{flight_in}
+use Rattle.filtered_rows.specs.FlightFacts.{IsOfFlight}
+use Rattle.filtered_rows.proofs.FlightFactsLemmas.{bases_again}
+use Rattle.filtered_rows.proofs.FlightFactsLemmas.{each_there}
+use Rattle.built_rows.specs.FlightWindows.{bases_in}
 use Rattle.flight_views.specs.declared.flight_views.FlightViews.{FlightViews}
 use Rattle.flight_views.specs.Views.{IsViewOf}
 

@@ -4,21 +4,21 @@ use Rattle.header_types.specs.SequenceParameterSets.{ctb_log2}
 use Rattle.plan_types.specs.declared.picture_plan.PicturePlan.{PicturePlan}
 use Rattle.spec_picture_trees.specs.Shapes.{picture_shape}
 use Rattle.spec_loop_filters.specs.declared.format.FilterFormat.{FilterFormat}
-use Rattle.spec_picture_filters.specs.Filtered.{filter_format}
+use Rattle.filtered_rows.specs.SpecPictureFilters.{filter_format}
 use Rattle.sample_words.specs.declared.sizes.FlightSizes.{FlightSizes}
 use Rattle.sample_words.specs.Sizes.{rows}
-use Rattle.spec_flights.specs.Pictures.{PlannedFlight}
+use Rattle.built_rows.specs.SpecFlights.{PlannedFlight}
 use Rattle.progress_words.specs.declared.view.View.{View}
 use Rattle.progress_words.specs.Views.{seen_of}
-use Rattle.flight_unit_laws.specs.Planned.{IsPlanned}
-use Rattle.flight_facts.specs.declared.flight_facts.FlightFacts.{FlightFacts}
-use Rattle.flight_facts.specs.Facts.{flight_in}
-use Rattle.flight_windows.specs.Seen.{AreFlagsSeen, HasRows}
-use Rattle.flight_windows.proofs.Staying.{later_seen}
+use Rattle.filtered_rows.specs.FlightUnitLaws.{IsPlanned}
+use Rattle.filtered_rows.specs.FlightFacts.{FlightFacts}
+use Rattle.filtered_rows.specs.FlightFacts.{flight_in}
+use Rattle.built_rows.specs.FlightWindows.{AreFlagsSeen, HasRows}
+use Rattle.built_rows.proofs.FlightWindowsLemmas.{later_seen}
 use Rattle.filtered_rows.specs.declared.memory.FilterMemory.{FilterMemory}
 use Rattle.filtered_rows.specs.Memory.{HasRoomFor}
-use Rattle.row_waits.specs.declared.picture_view.PictureView.{PictureView}
-use Rattle.row_waits.specs.Pictures.{IsPictureOf}
+use Rattle.built_rows.specs.RowWaits.{PictureView}
+use Rattle.built_rows.specs.RowWaits.{IsPictureOf}
 use Rattle.flight_views.specs.declared.flight_views.FlightViews.{FlightViews}
 use Rattle.flight_views.specs.Views.{IsViewOf}
 use Rattle.built_rows.specs.declared.row_builder.RowBuilder.{RowBuilder}

@@ -1,14 +1,14 @@
 -- What holds of a worker of a flight between lines.
 use Rattle.std.specs.Prelude.{ℕ, ◌≡◌, ◌≤◌, Some, slice_get}
 use Rattle.plan_types.specs.declared.picture_plan.PicturePlan.{PicturePlan}
-use Rattle.spec_picture_filters.specs.Filtered.{filter_format}
+use Rattle.filtered_rows.specs.SpecPictureFilters.{filter_format}
 use Rattle.progress_words.specs.declared.view.View.{View}
 use Rattle.progress_words.specs.Views.{seen_of}
-use Rattle.flight_facts.specs.declared.flight_facts.FlightFacts.{FlightFacts}
-use Rattle.flight_facts.specs.Facts.{flight_in}
+use Rattle.filtered_rows.specs.FlightFacts.{FlightFacts}
+use Rattle.filtered_rows.specs.FlightFacts.{flight_in}
 use Rattle.filtered_rows.specs.Memory.{HasRoomFor}
-use Rattle.row_waits.specs.declared.picture_view.PictureView.{PictureView}
-use Rattle.row_waits.specs.Pictures.{IsPictureOf}
+use Rattle.built_rows.specs.RowWaits.{PictureView}
+use Rattle.built_rows.specs.RowWaits.{IsPictureOf}
 use Rattle.built_rows.specs.Stages.{IsReadyFor}
 use Rattle.flight_views.specs.Views.{IsViewOf}
 use Rattle.row_workers.specs.declared.row_worker.RowWorker.{RowWorker}

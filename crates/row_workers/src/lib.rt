@@ -4,4 +4,6 @@
 
 mod row_worker;
 
+pub use flight_views::{FlightViews, flight_layout};
+pub use flight_workers::work_off;
 pub use row_worker::RowWorker;

@@ -1,19 +1,20 @@
 -- The samples of a picture behind its loop filters are in range.
-use Rattle.std.proofs.Common.{◌≡◌, ℕ, ◌+◌, ◌-◌, ◌^◌, ◌<◌, ◌≤◌, Bool, true, false, cond, List, [], Result, Ok, Err, refl}
+use Rattle.std.proofs.Common.{◌≡◌, ℕ, ◌+◌, ◌-◌, ◌^◌, ◌<◌, ◌≤◌, Bool, true, false, cond, List, [], Result, Ok, Err}
+use Rattle.std.proofs.Common.{refl}
 use Rattle.std.proofs.Common.{ap, sym, subst, arith}
 use Rattle.std.specs.Prelude.{◌==◌}
 use Rattle.std.proofs.Math.Pow.{lt_of_le_ones}
 use Rattle.header_types.specs.SequenceParameterSets.{IsSps}
-use Rattle.plan_types.specs.declared.picture_plan.PicturePlan.{PicturePlan}
-use Rattle.spec_loop_filters.proofs.Ranges.{final_small}
-use Rattle.spec_loop_filters.specs.Filters.{depth_of}
-use Rattle.spec_picture_trees.specs.Picture.{Halt, PictureBroken, Progress, picture_read}
-use Rattle.spec_picture_trees.specs.Shapes.{picture_shape}
-use Rattle.spec_picture_filters.specs.Data.{FilterData}
-use Rattle.spec_picture_filters.specs.Filtered.{filter_format, filtered, loop_filters}
-use Rattle.spec_picture_build.specs.Border.{Samples, has_sample}
-use Rattle.spec_picture_build.specs.Built.{picture_built, units_built}
-use Rattle.spec_picture_build.specs.References.{DecodedPicture, greatest_sample}
+use Rattle.unit_laws.specs.PlanTypes.{PicturePlan}
+use Rattle.spec_decoded_pictures.proofs.SpecLoopFiltersLemmas.{final_small}
+use Rattle.spec_decoded_pictures.specs.SpecLoopFilters.{depth_of}
+use Rattle.unit_laws.specs.SpecPictureTrees.{Halt, PictureBroken, Progress, picture_read}
+use Rattle.unit_laws.specs.SpecPictureTrees.{picture_shape}
+use Rattle.spec_decoded_pictures.specs.SpecPictureFilters.{FilterData}
+use Rattle.spec_decoded_pictures.specs.SpecPictureFilters.{filter_format, filtered, loop_filters}
+use Rattle.unit_laws.specs.SpecPictureBuild.{Samples, has_sample}
+use Rattle.unit_laws.specs.SpecPictureBuild.{picture_built, units_built}
+use Rattle.unit_laws.specs.SpecPictureBuild.{DecodedPicture, greatest_sample}
 use Rattle.spec_decoded_pictures.proofs.OneFold.{one_fold}
 use Rattle.spec_decoded_pictures.specs.Decoded.{DecodedUnits, decoded_by, picture_decoded, reading_decoded}
 use Rattle.spec_decoded_pictures.specs.Decoded.{samples_filtered}

@@ -19,13 +19,13 @@ use Rattle.spec_inter_prediction.specs.declared.weighting.Weighting.{Weighting}
 use Rattle.spec_inter_prediction.specs.declared.weighting.Weighting.TheVariants.{Default, Explicit}
 use Rattle.spec_inter_prediction.specs.Weighting.{weighted_one, weighted_two, default_one, default_two, explicit_one}
 use Rattle.spec_inter_prediction.specs.Weighting.{explicit_two}
-use Rattle.spec_reconstruction.specs.declared.format.UnitFormat.{UnitFormat}
-use Rattle.spec_reconstruction.specs.Inter.{InterUnit, motion_weighting, sample_by, samples_of, rectangle_laid}
-use Rattle.spec_reconstruction.specs.Inter.{component_predicted, block_predicted_by, prediction_laid}
-use Rattle.spec_reconstruction.specs.Known.{Known, changed, laid, with_residual, constructed}
-use Rattle.spec_reconstruction.specs.Parameters.{depth_of}
-use Rattle.spec_reconstruction.specs.Pulses.{pulses_laid}
-use Rattle.spec_reconstruction.specs.Sound.{IsFormat, HasPulses}
+use Rattle.unit_laws.specs.SpecReconstruction.{UnitFormat}
+use Rattle.unit_laws.specs.SpecReconstruction.{InterUnit, motion_weighting, sample_by, samples_of, rectangle_laid}
+use Rattle.unit_laws.specs.SpecReconstruction.{component_predicted, block_predicted_by, prediction_laid}
+use Rattle.unit_laws.specs.SpecReconstruction.{Known, changed, laid, with_residual, constructed}
+use Rattle.unit_laws.specs.SpecReconstruction.{depth_of}
+use Rattle.unit_laws.specs.SpecReconstruction.{pulses_laid}
+use Rattle.unit_laws.specs.SpecReconstruction.{IsFormat, HasPulses}
 use Rattle.sample_laws.specs.Ranges.{IsInRange, AreInRange}
 use Rattle.sample_laws.proofs.Means.{case_holds, clip_most}
 

@@ -5,3 +5,7 @@ pub mod Units
 pub mod Pictures
 pub mod Filtered
 pub mod OutputBytes
+pub mod SpecDecodedPicturesLemmas
+pub mod UnitLawsLemmas
+pub mod SpecLoopFiltersLemmas
+pub mod SpecSampleAdaptiveOffsetLemmas

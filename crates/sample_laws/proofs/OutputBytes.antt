@@ -5,8 +5,8 @@ use Rattle.std.proofs.Math.Nat.{pow-le-pow_right}
 use Rattle.std.proofs.lemmas.Bool.Decides.{nat_tests}
 use Rattle.header_types.specs.declared.sps.PictureFormat.{PictureFormat}
 use Rattle.header_types.specs.SequenceParameterSets.{IsPictureFormat}
-use Rattle.spec_picture_build.specs.Output.{has_two_bytes, sample_bytes}
-use Rattle.spec_picture_build.specs.References.{greatest_sample}
+use Rattle.unit_laws.specs.SpecPictureBuild.{has_two_bytes, sample_bytes}
+use Rattle.unit_laws.specs.SpecPictureBuild.{greatest_sample}
 use Rattle.sample_laws.specs.Ranges.{number_of}
 
 -- as one byte, or as two

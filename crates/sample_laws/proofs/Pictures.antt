@@ -8,23 +8,24 @@ use Rattle.std.proofs.Math.Pow.{lt_of_le_ones}
 use Rattle.std.proofs.lemmas.List.Elements.{All-head, All-tail}
 use Rattle.header_types.specs.declared.sps.PictureFormat.{PictureFormat}
 use Rattle.header_types.specs.SequenceParameterSets.{IsSps}
-use Rattle.plan_types.specs.declared.picture_plan.PicturePlan.{PicturePlan}
-use Rattle.plan_types.specs.declared.segment_plan.SegmentPlan.{SegmentPlan}
-use Rattle.spec_picture_trees.specs.Picture.{TreeUnit, PictureBroken, Progress, Halt, picture_read}
-use Rattle.plan_types.specs.Segments.{address_of}
-use Rattle.spec_picture_trees.specs.Shapes.{picture_shape, slice_start}
-use Rattle.spec_slice_data.specs.Segment.{PictureShape}
-use Rattle.spec_reconstruction.specs.Inter.{InterUnit}
-use Rattle.spec_reconstruction.specs.Known.{Known}
-use Rattle.spec_reconstruction.specs.Parameters.{depth_of}
-use Rattle.spec_reconstruction.specs.Sound.{IsFormat, ArePulses}
-use Rattle.spec_picture_build.specs.Border.{Samples, known_beside, sample_beside, is_available, is_inside}
-use Rattle.spec_picture_build.specs.Border.{unit_column, unit_line, unit_side}
-use Rattle.spec_picture_build.specs.Built.{BuiltPicture, no_picture, unit_inter, is_of_unit, unit_laid, samples_added}
-use Rattle.spec_picture_build.specs.Built.{unit_added, added_in, with_unit, units_built, built_of, picture_built}
-use Rattle.spec_picture_build.specs.Format.{unit_format}
-use Rattle.spec_picture_build.specs.References.{DecodedPicture, format_width, format_height, greatest_sample}
-use Rattle.spec_picture_build.specs.References.{reference_sample}
+use Rattle.unit_laws.specs.PlanTypes.{PicturePlan}
+use Rattle.unit_laws.specs.PlanTypes.{SegmentPlan}
+use Rattle.unit_laws.specs.SpecPictureTrees.{TreeUnit, PictureBroken, Progress, Halt, picture_read}
+use Rattle.unit_laws.specs.PlanTypes.{address_of}
+use Rattle.unit_laws.specs.SpecPictureTrees.{picture_shape, slice_start}
+use Rattle.unit_laws.specs.SpecSliceData.{PictureShape}
+use Rattle.unit_laws.specs.SpecReconstruction.{InterUnit}
+use Rattle.unit_laws.specs.SpecReconstruction.{Known}
+use Rattle.unit_laws.specs.SpecReconstruction.{depth_of}
+use Rattle.unit_laws.specs.SpecReconstruction.{IsFormat, ArePulses}
+use Rattle.unit_laws.specs.SpecPictureBuild.{Samples, known_beside, sample_beside, is_available, is_inside}
+use Rattle.unit_laws.specs.SpecPictureBuild.{unit_column, unit_line, unit_side}
+use Rattle.unit_laws.specs.SpecPictureBuild.{BuiltPicture, no_picture, unit_inter, is_of_unit, unit_laid}
+use Rattle.unit_laws.specs.SpecPictureBuild.{samples_added}
+use Rattle.unit_laws.specs.SpecPictureBuild.{unit_added, added_in, with_unit, units_built, built_of, picture_built}
+use Rattle.unit_laws.specs.SpecPictureBuild.{unit_format}
+use Rattle.unit_laws.specs.SpecPictureBuild.{DecodedPicture, format_width, format_height, greatest_sample}
+use Rattle.unit_laws.specs.SpecPictureBuild.{reference_sample}
 use Rattle.spec_inter_prediction.specs.Taps.{clamped}
 use Rattle.unit_laws.proofs.Pictures.{format-fits, read-sound}
 use Rattle.sample_laws.specs.Ranges.{IsInRange, AreInRange}

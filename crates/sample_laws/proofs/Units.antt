@@ -10,17 +10,18 @@ use Rattle.ctu_records.specs.declared.item.Square.{Square}
 use Rattle.ctu_records.specs.Tree.{luma_mode_at}
 use Rattle.spec_motion.specs.Vectors as motion
 use Rattle.spec_intra_prediction.specs.Neighbours.{beside}
-use Rattle.spec_reconstruction.specs.declared.format.UnitFormat.{UnitFormat}
-use Rattle.spec_reconstruction.specs.declared.unit_mode.UnitMode.{UnitMode}
-use Rattle.spec_reconstruction.specs.Inter.{InterUnit}
-use Rattle.spec_reconstruction.specs.Known.{Known}
-use Rattle.spec_reconstruction.specs.Parameters.{depth_of}
-use Rattle.spec_reconstruction.specs.Prediction.{is_inter, offered, block_predicted, chroma_predicted, is_fourth}
-use Rattle.spec_reconstruction.specs.Prediction.{chroma_of_unit_predicted, unit_predicted}
-use Rattle.spec_reconstruction.specs.Sound.{IsFormat, BeginsPulses, ArePulses}
-use Rattle.spec_reconstruction.specs.Unit.{Building, before_unit, block_constructed, transform_predicted, item_built}
-use Rattle.spec_reconstruction.specs.Unit.{items_built, unit_built}
-use Rattle.spec_slice_data.specs.Transform.{whole_of_fourth}
+use Rattle.unit_laws.specs.SpecReconstruction.{UnitFormat}
+use Rattle.unit_laws.specs.SpecReconstruction.{UnitMode}
+use Rattle.unit_laws.specs.SpecReconstruction.{InterUnit}
+use Rattle.unit_laws.specs.SpecReconstruction.{Known}
+use Rattle.unit_laws.specs.SpecReconstruction.{depth_of}
+use Rattle.unit_laws.specs.SpecReconstruction.{is_inter, offered, block_predicted, chroma_predicted, is_fourth}
+use Rattle.unit_laws.specs.SpecReconstruction.{chroma_of_unit_predicted, unit_predicted}
+use Rattle.unit_laws.specs.SpecReconstruction.{IsFormat, BeginsPulses, ArePulses}
+use Rattle.unit_laws.specs.SpecReconstruction.{Building, before_unit, block_constructed, transform_predicted}
+use Rattle.unit_laws.specs.SpecReconstruction.{item_built}
+use Rattle.unit_laws.specs.SpecReconstruction.{items_built, unit_built}
+use Rattle.unit_laws.specs.SpecSliceData.{whole_of_fourth}
 use Rattle.sample_laws.specs.Ranges.{IsInRange, AreInRange}
 use Rattle.sample_laws.proofs.Means.{case_holds}
 use Rattle.sample_laws.proofs.Intra.{IsMost, beside_most, substituted_most, predicted_most}

@@ -1,8 +1,8 @@
 -- Samples in the range of their bit depth.
 use Rattle.std.specs.Prelude.{ℕ, ◌+◌, ◌*◌, ◌^◌, ◌<◌, List, [], ◌∷◌, Option, Some, None, ⊤}
-use Rattle.spec_reconstruction.specs.declared.format.UnitFormat.{UnitFormat}
-use Rattle.spec_reconstruction.specs.Known.{Known}
-use Rattle.spec_reconstruction.specs.Parameters.{depth_of}
+use Rattle.unit_laws.specs.SpecReconstruction.{UnitFormat}
+use Rattle.unit_laws.specs.SpecReconstruction.{Known}
+use Rattle.unit_laws.specs.SpecReconstruction.{depth_of}
 
 -- a sample of so many bits, where there is one
 abbrev pub IsInRange : ℕ → Option ℕ → Type 0

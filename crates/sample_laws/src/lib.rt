@@ -8,4 +8,5 @@ mod written;
 pub use laws::{
     built_samples_are_in_range, decoded_samples_are_in_range, references_in_range_are_not_held,
 };
+pub use unit_laws::units_that_are_read_are_sound;
 pub use written::samples_in_range_go_out_whole;

@@ -2,8 +2,8 @@
 
 ghost use Rattle.std.specs.Prelude.{◌≡◌, ◌≤◌, ℕ};
 ghost use Rattle.header_types.specs.SequenceParameterSets.{IsPictureFormat};
-ghost use Rattle.spec_picture_build.specs.Output.{has_two_bytes, sample_bytes};
-ghost use Rattle.spec_picture_build.specs.References.{DecodedPicture, greatest_sample};
+ghost use Rattle.unit_laws.specs.SpecPictureBuild.{has_two_bytes, sample_bytes};
+ghost use Rattle.unit_laws.specs.SpecPictureBuild.{DecodedPicture, greatest_sample};
 ghost use Rattle.sample_laws.specs.Ranges.{number_of};
 
 /// Where the samples of a picture are in range, no bit of them is lost where they go out: their bytes spell them, the

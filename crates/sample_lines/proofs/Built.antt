@@ -6,7 +6,7 @@ use Rattle.hv_base.specs.declared.line.Phase.TheVariants.{B}
 use Rattle.sample_words.specs.declared.sizes.FlightSizes.{FlightSizes}
 use Rattle.sample_words.specs.Contents.{component_side, first_column, unit_width}
 use Rattle.sample_words.specs.Sizes.{IsFlight, columns, ctb_size, width_of}
-use Rattle.spec_flights.specs.Pictures.{PlannedFlight}
+use Rattle.flight_facts.specs.SpecFlights.{PlannedFlight}
 use Rattle.line_words.specs.Places.{UnitAt}
 use Rattle.flight_facts.specs.Flights.{samples_at}
 use Rattle.sample_lines.specs.Lines.{sample_of, width_at}

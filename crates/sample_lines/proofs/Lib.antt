@@ -9,3 +9,6 @@ pub mod PartWords
 pub mod UnitShapes
 pub mod WrittenWords
 pub mod FactsOfFlights
+pub mod FlightUnitLawsLemmas
+pub mod FlightFactsLemmas
+pub mod PictureFiltersLemmas

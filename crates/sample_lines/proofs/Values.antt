@@ -3,7 +3,7 @@ use Rattle.std.proofs.Common.{◌≡◌, ℕ, ◌+◌, ◌*◌, ◌/◌, ◌%◌
 use Rattle.std.proofs.Common.{Option, Some, List, length, slice_get, slice_index}
 use Rattle.std.proofs.lemmas.Nat.{mod_below}
 use Rattle.plan_types.specs.declared.picture_plan.PicturePlan.{PicturePlan}
-use Rattle.spec_picture_build.specs.Border.{Samples as PictureSamples}
+use Rattle.unit_words.specs.SpecPictureBuild.{Samples as PictureSamples}
 use Rattle.sample_words.specs.declared.sizes.FlightSizes.{FlightSizes}
 use Rattle.sample_words.specs.declared.unit_content.UnitContent.TheVariants.{Samples}
 use Rattle.sample_words.specs.Contents.{content_value, expected_word, there}
@@ -14,8 +14,8 @@ use Rattle.sample_words.proofs.Contents.{content_found}
 use Rattle.sample_words.proofs.Fields.{lane_found}
 use Rattle.unit_words.proofs.Again.{some_a_word}
 use Rattle.unit_words.proofs.Parts.{same_lanes, there_below, there_is, value_there}
-use Rattle.spec_flights.specs.Pictures.{folded_at}
-use Rattle.spec_flights.specs.Words.{expected, values_in}
+use Rattle.flight_facts.specs.SpecFlights.{folded_at}
+use Rattle.flight_facts.specs.SpecFlights.{expected, values_in}
 use Rattle.flight_facts.proofs.FlightValueLaws.{values_fit}
 use Rattle.line_words.specs.Places.{IsUnit, UnitAt, word_at}
 use Rattle.flight_facts.specs.declared.flight_facts.FlightFacts.{FlightFacts}

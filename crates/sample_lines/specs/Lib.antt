@@ -1,2 +1,10 @@
 pub mod Lines
 pub mod FactsOfFlights
+pub mod FlightFacts
+pub mod PictureBuild
+pub mod FlightUnitLaws
+pub mod LocalityLaws
+pub mod SpecFlights
+pub mod InterSamples
+pub mod SpecDecoder
+pub mod SpecDecodedPictures

@@ -3,7 +3,7 @@ use Rattle.std.specs.Prelude.{ℕ, ◌+◌, ◌*◌}
 use Rattle.sample_words.specs.declared.unit_content.UnitContent.TheVariants.{Samples}
 use Rattle.sample_words.specs.Contents.{component_side, first_column, index_of, unit_width}
 use Rattle.sample_words.specs.Sizes.{ctb_size, height_of}
-use Rattle.spec_flights.specs.Pictures.{PlannedFlight}
+use Rattle.flight_facts.specs.SpecFlights.{PlannedFlight}
 use Rattle.line_words.specs.Places.{UnitAt}
 use Rattle.flight_facts.specs.Flights.{samples_at}
 

@@ -3,7 +3,7 @@
 ghost use Rattle.std.specs.Prelude.{ℕ, ◌≡◌, ◌+◌, ◌*◌, ◌^◌, ◌<◌, ◌≤◌, length, slice_index};
 ghost use Rattle.sample_words.specs.Sizes.{line_words, samples_a_word};
 ghost use Rattle.sample_words.specs.Values.{sample_bits, samples_word};
-ghost use Rattle.spec_flights.specs.Words.{expected};
+ghost use Rattle.flight_facts.specs.SpecFlights.{expected};
 ghost use Rattle.progress_words.specs.Passes.{IsPassOf, Knows, view};
 ghost use Rattle.progress_words.specs.Rule.{IsNext};
 ghost use Rattle.progress_words.specs.Views.{seen_of};

@@ -4,7 +4,7 @@ ghost use Rattle.std.specs.Prelude.{ℕ, ◌≡◌, ◌+◌, ◌*◌, ◌/◌, �
 ghost use Rattle.sample_words.specs.Packing.{lane};
 ghost use Rattle.sample_words.specs.Sizes.{line_words, samples_a_word};
 ghost use Rattle.sample_words.specs.Values.{sample_bits};
-ghost use Rattle.spec_flights.specs.Words.{expected};
+ghost use Rattle.flight_facts.specs.SpecFlights.{expected};
 ghost use Rattle.progress_words.specs.Passes.{IsPassOf, Knows, view};
 ghost use Rattle.progress_words.specs.Views.{seen_of};
 ghost use Rattle.line_words.specs.Places.{IsUnit, number_at, word_at, words_at};

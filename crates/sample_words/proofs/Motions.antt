@@ -6,7 +6,7 @@ use Rattle.std.specs.Int.{w16, cast_signed, cast_unsigned}
 use Rattle.std.specs.Int.RustNames.{FitsSigned}
 use Rattle.std.proofs.Math.Facts.{Fits-of_z}
 use Rattle.std.proofs.lemmas.Int.{to_z-of_z}
-use Rattle.ctu_records.specs.declared.prediction.Mv.{Mv}
+use Rattle.spec_motion.specs.CtuRecords.{Mv}
 use Rattle.spec_motion.specs.declared.vectors.Motion.{Motion}
 use Rattle.spec_motion.specs.declared.vectors.Vector.{Vector}
 use Rattle.sample_words.specs.declared.modes.PlaceModes.{PlaceModes}

@@ -6,9 +6,9 @@ use Rattle.std.specs.Int.{w8, cast_signed, cast_unsigned}
 use Rattle.std.specs.Int.RustNames.{FitsSigned}
 use Rattle.std.proofs.Math.Facts.{Fits-of_z}
 use Rattle.std.proofs.lemmas.Int.{to_z-of_z}
-use Rattle.ctu_records.specs.declared.offset.ComponentOffset.{ComponentOffset}
-use Rattle.ctu_records.specs.declared.offset.ComponentOffset.TheVariants.{Off, Band, Edge}
-use Rattle.ctu_records.specs.declared.offset.Sao.{Sao}
+use Rattle.spec_motion.specs.CtuRecords.{ComponentOffset}
+use Rattle.spec_motion.specs.CtuRecords.{Off, Band, Edge}
+use Rattle.spec_motion.specs.CtuRecords.{Sao}
 use Rattle.sample_words.specs.Packing.{Field}
 use Rattle.sample_words.specs.Offsets.{AreOffsets, IsComponent, IsSao, component_in, first_word}
 use Rattle.sample_words.specs.Offsets.{kind_fields}

@@ -1,5 +1,6 @@
 -- Samples by the depth of a flight.
-use Rattle.std.proofs.Common.{◌≡◌, ℕ, ◌+◌, ◌-◌, ◌*◌, ◌^◌, ◌<◌, ◌&&◌, min, nat_le, nat_lt, Bool, true, false, cond, List}
+use Rattle.std.proofs.Common.{◌≡◌, ℕ, ◌+◌, ◌-◌, ◌*◌, ◌^◌, ◌<◌, ◌&&◌, min, nat_le, nat_lt, Bool, true, false, cond}
+use Rattle.std.proofs.Common.{List}
 use Rattle.std.proofs.Common.{length, slice_index}
 use Rattle.std.proofs.lemmas.Bool.{false≢true, true≢false}
 use Rattle.sample_words.specs.Packing.{lane, lanes}

@@ -5,7 +5,7 @@ use Rattle.std.specs.Prelude.{◌≡◌, ℕ, ◌+◌, ◌-◌, ◌*◌, ◌/◌
 use Rattle.hv_base.specs.declared.line.Line.{Line}
 use Rattle.hv_base.specs.declared.line.Phase.{Phase}
 use Rattle.hv_base.specs.declared.line.Phase.TheVariants.{B, V, H, S}
-use Rattle.ctu_records.specs.declared.offset.Sao.{Sao}
+use Rattle.spec_motion.specs.CtuRecords.{Sao}
 use Rattle.spec_motion.specs.declared.vectors.Motion.{Motion}
 use Rattle.sample_words.specs.declared.carry.Carry.{Carry}
 use Rattle.sample_words.specs.declared.modes.PlaceModes.{PlaceModes}
@@ -16,7 +16,8 @@ use Rattle.sample_words.specs.declared.unit_content.UnitContent.TheVariants.{Sam
 use Rattle.sample_words.specs.declared.unit_content.UnitContent.TheVariants.{Contexts, Carried}
 use Rattle.sample_words.specs.Carried.{carried_word}
 use Rattle.sample_words.specs.Offsets.{first_word, second_word}
-use Rattle.sample_words.specs.Sizes.{carry_words, context_words, ctb_size, height_of, line_words, places, sample_words}
+use Rattle.sample_words.specs.Sizes.{carry_words, context_words, ctb_size, height_of, line_words, places}
+use Rattle.sample_words.specs.Sizes.{sample_words}
 use Rattle.sample_words.specs.Sizes.{samples_a_word, width_of}
 use Rattle.sample_words.specs.Values.{modes_word, samples_word, vectors_word}
 

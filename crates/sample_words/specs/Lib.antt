@@ -5,3 +5,4 @@ pub mod Offsets
 pub mod Carried
 pub mod Contents
 pub mod Words
+pub mod SpecMotion

@@ -3,9 +3,9 @@ use Rattle.std.specs.Prelude.{◌≡◌, ℕ, ◌+◌, ◌<◌, ◌==◌, ℤ, p
 use Rattle.std.specs.Prelude.{if◌then◌else◌}
 use Rattle.std.specs.Int.{w8, cast_signed, cast_unsigned}
 use Rattle.std.specs.Int.RustNames.{FitsSigned}
-use Rattle.ctu_records.specs.declared.offset.ComponentOffset.{ComponentOffset}
-use Rattle.ctu_records.specs.declared.offset.ComponentOffset.TheVariants.{Off, Band, Edge}
-use Rattle.ctu_records.specs.declared.offset.Sao.{Sao}
+use Rattle.spec_motion.specs.CtuRecords.{ComponentOffset}
+use Rattle.spec_motion.specs.CtuRecords.{Off, Band, Edge}
+use Rattle.spec_motion.specs.CtuRecords.{Sao}
 use Rattle.sample_words.specs.Packing.{Field, bits_at, field, joined}
 
 -- the offsets of a component, zeros where there are none; which kind it is; and its band position or class of edges

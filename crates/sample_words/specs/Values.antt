@@ -3,7 +3,7 @@ use Rattle.std.specs.Prelude.{ℕ, ◌+◌, ◌*◌, ◌/◌, ◌%◌, ◌<◌, 
 use Rattle.std.specs.Prelude.{if◌then◌else◌}
 use Rattle.std.specs.Int.{w16, cast_signed, cast_unsigned, from_bool}
 use Rattle.std.specs.Int.RustNames.{FitsSigned}
-use Rattle.ctu_records.specs.declared.prediction.Mv.{Mv}
+use Rattle.spec_motion.specs.CtuRecords.{Mv}
 use Rattle.spec_motion.specs.declared.vectors.Motion.{Motion}
 use Rattle.spec_motion.specs.declared.vectors.Vector.{Vector}
 use Rattle.sample_words.specs.declared.modes.PlaceModes.{PlaceModes}

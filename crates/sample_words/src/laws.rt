@@ -5,7 +5,7 @@ ghost use Rattle.hv_base.specs.declared.line.Line.{Line};
 ghost use Rattle.sample_words.specs.declared.sizes.FlightSizes.{FlightSizes};
 ghost use Rattle.sample_words.specs.declared.unit_word.UnitWord.{UnitWord};
 ghost use Rattle.sample_words.specs.declared.unit_word.WordOwner.TheVariants.{Count, Ticket, Fault, Unit};
-ghost use Rattle.ctu_records.specs.declared.offset.Sao.{Sao};
+ghost use Rattle.spec_motion.specs.CtuRecords.{Sao};
 ghost use Rattle.spec_motion.specs.declared.vectors.Motion.{Motion};
 ghost use Rattle.sample_words.specs.declared.modes.PlaceModes.{PlaceModes};
 ghost use Rattle.sample_words.specs.declared.unit_content.UnitContent.{UnitContent};

@@ -4,8 +4,7 @@ ghost use Rattle.std.specs.Prelude.{◌≡◌, ◌+◌, ◌*◌, ◌<◌, IfSome
 ghost use Rattle.std.specs.Int.{from_bool};
 ghost use Rattle.sample_words.specs.Values.{IsModes, list_code, modes_in, modes_word};
 
-use ctu_records::Side;
-use spec_motion::{Motion, Vector};
+use spec_motion::{Motion, Side, Vector};
 
 /// What is known of a place apart from its vectors.
 #[derive(Clone, Copy)]

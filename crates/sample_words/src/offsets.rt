@@ -4,7 +4,7 @@ ghost use Rattle.std.specs.Prelude.{◌≡◌, ◌+◌, ◌*◌, ◌<◌, slice_
 ghost use Rattle.sample_words.specs.Offsets.{component_in, first_word, four_offsets, kind_of, offsets_in, offsets_of};
 ghost use Rattle.sample_words.specs.Offsets.{position_of, sao_in, second_word};
 
-use ctu_records::{ComponentOffset, Sao};
+use spec_motion::{ComponentOffset, Sao};
 
 /// What sample adaptive offset has of a unit: the offsets of luma and of Cb; those of Cr, and of each component its
 /// kind with the band position or the class of edges.

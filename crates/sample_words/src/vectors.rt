@@ -4,8 +4,7 @@ ghost use Rattle.std.specs.Prelude.{◌≡◌, ◌+◌, ◌*◌, ◌<◌};
 ghost use Rattle.std.specs.Int.{w16, cast_unsigned};
 ghost use Rattle.sample_words.specs.Values.{mv_in, mv_of, motion_in, vector_in, vectors_word};
 
-use ctu_records::Mv;
-use spec_motion::{Motion, Vector};
+use spec_motion::{Motion, Mv, Vector};
 
 /// No vector.
 const ZERO: Mv = Mv { x: 0, y: 0 };

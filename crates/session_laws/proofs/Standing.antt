@@ -11,9 +11,11 @@ use Rattle.spec_picture_plan.specs.Closing.{broken_in, full_at, or_later}
 use Rattle.spec_picture_plan.specs.Pictures.{beginning}
 use Rattle.spec_picture_plan.specs.Planned.{Planned, planned_end, planned_from, planned_next, planned_of, stop_of}
 use Rattle.spec_picture_plan.specs.Steps.{Stepped, behind, close, closed_by, closed_open, then_next}
-use Rattle.spec_decoder.specs.Decoder.{BufferPicture, Decoded, decoded_from, decoded_picture, ended, entered, kept_from}
+use Rattle.spec_decoder.specs.Decoder.{BufferPicture, Decoded, decoded_from, decoded_picture, ended, entered}
+use Rattle.spec_decoder.specs.Decoder.{kept_from}
 use Rattle.spec_decoder.specs.Decoder.{out_at, put_out, with_picture}
-use Rattle.spec_decoder.specs.Trail.{Data, Event, Judge, Keep, Output, closed_events, closed_first, closes, end_events}
+use Rattle.spec_decoder.specs.Trail.{Data, Event, Judge, Keep, Output, closed_events, closed_first, closes}
+use Rattle.spec_decoder.specs.Trail.{end_events}
 use Rattle.spec_decoder.specs.Trail.{first_of, last_events, next_events, open_events, picture_events, trail, trail_of}
 use Rattle.spec_decoder.specs.Trail.{unit_judged, with_decoded}
 use Rattle.spec_decoder.proofs.InOrder.{step_parts}

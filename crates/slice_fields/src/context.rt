@@ -12,8 +12,8 @@ ghost use Rattle.slice_fields.specs.Views.{context_of};
 use header_fields::FieldReader;
 use header_types::{Former, Pps, Sets, Sps};
 use hv_base::{BLA_W_LP, CRA_NUT, IDR_N_LP, Refusal};
-use plan_types::SegmentPlan;
 use slice_types::SliceHeaderFields;
+use spec_slice_headers::SegmentPlan;
 
 /// What a slice segment header is read under: the segment's NAL unit, the accepted parameter sets, what the pictures
 /// before left to its picture, and the segments of its picture before it (7.4.2.4.4).

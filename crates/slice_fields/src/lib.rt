@@ -12,4 +12,6 @@ pub use context::{
     SegmentContext, SliceSets, ceil_log2, first_of, flag_or, last_address, no_rasl_output_flag,
     slice_header, ue_or,
 };
+pub use header_fields::FieldReader;
+pub use ref_picture_sets::is_irap;
 pub use slice::{kind_of, read_slice_fields};

@@ -2,8 +2,8 @@
 use Rattle.std.proofs.Common.{◌≡◌, ◌<◌, ℕ, true, [], Option, Some, None, IfSome, Ok}
 use Rattle.slice_types.specs.declared.slice.SliceHeaderFields.{SliceHeaderFields}
 use Rattle.slice_types.specs.SliceHeaders.{IsSliceFields, IsSliceHeader}
-use Rattle.header_fields.specs.declared.field_reader.FieldReader.{FieldReader}
-use Rattle.header_fields.specs.Takes.{Takes}
+use Rattle.slice_fields.specs.HeaderFields.{FieldReader}
+use Rattle.slice_fields.specs.HeaderFields.{Takes}
 use Rattle.spec_formats.specs.Fields.{Header}
 use Rattle.spec_formats.proofs.Values.{CanBe, can_be}
 use Rattle.header_laws.specs.Ranges.{IsNamed}

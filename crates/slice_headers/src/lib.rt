@@ -7,4 +7,5 @@ mod segment_header;
 mod segment_start;
 
 pub use entry_points::{data_size, substreams};
+pub use picture_parameter_sets::{read_pps, read_sps};
 pub use segment_header::read_slice_header;

@@ -4,7 +4,7 @@ ghost use Rattle.std.specs.Prelude.{◌≡◌, ◌<◌, ◌≤◌, ◌^◌, IfOk
 ghost use Rattle.std.specs.Option.{option_copied};
 ghost use Rattle.slice_types.specs.SliceHeaders.{IsSliceFields, IsSliceHeader};
 ghost use Rattle.hv_base.specs.declared.field_rules.TheConstants.{SLICE_HEADER_RULES};
-ghost use Rattle.header_fields.specs.Takes.{Takes};
+ghost use Rattle.slice_fields.specs.HeaderFields.{Takes};
 ghost use Rattle.spec_formats.specs.Fields.{Parses, Reads, optional, repeated, u};
 ghost use Rattle.header_laws.specs.Ranges.{IsNamed};
 ghost use Rattle.spec_slice_headers.specs.Context.{first_of, slice_header};
@@ -16,15 +16,15 @@ ghost use Rattle.slice_fields.specs.Views.{context_of, named_of};
 
 use crate::named_sets::read_named_sets;
 use crate::segment_start::{read_front, read_place};
-use header_fields::FieldReader;
 use header_types::{FieldList, Former, Sets, Sps};
 use hv_base::{FaultKind, Nal, Refusal, SLICE_HEADER_RULES};
 use hv_bits::BitReader;
-use plan_types::SegmentPlan;
 use slice_fields::{
-    SegmentContext, SliceSets, first_of, kind_of, read_slice_fields, slice_header, ue_or,
+    FieldReader, SegmentContext, SliceSets, first_of, kind_of, read_slice_fields, slice_header,
+    ue_or,
 };
 use slice_types::{SegmentFields, SliceFields, SliceHeader, SliceHeaderFields};
+use spec_slice_headers::SegmentPlan;
 use std::alloc::Global;
 
 /// The fields that a dependent slice segment takes from its slice.

@@ -1,15 +1,15 @@
 //! The front of a slice segment header: the fields that each segment has, up to slice_segment_address (7.3.6.1).
 
 ghost use Rattle.std.specs.Prelude.{◌≡◌, IfOk};
-ghost use Rattle.header_fields.specs.Takes.{Takes};
+ghost use Rattle.slice_fields.specs.HeaderFields.{Takes};
 ghost use Rattle.spec_formats.specs.Fields.{flag, optional};
 ghost use Rattle.spec_slice_headers.specs.SegmentStart.{front, place};
 ghost use Rattle.slice_fields.specs.Views.{context_of, named_of};
 
-use header_fields::FieldReader;
 use hv_base::{FaultKind, Refusal};
-use ref_picture_sets::is_irap;
-use slice_fields::{SegmentContext, SliceSets, ceil_log2, first_of, flag_or, last_address};
+use slice_fields::{
+    FieldReader, SegmentContext, SliceSets, ceil_log2, first_of, flag_or, is_irap, last_address,
+};
 use slice_types::SegmentFields;
 
 /// A flag, where it is coded.

@@ -7,6 +7,7 @@ mod slice;
 mod substream;
 mod weights;
 
+pub use header_types::{DpbPicture, FieldList, Former, Lists, Pps, Rps, Sets, Shared, Sps};
 pub use laws::same_references_are_equality;
 pub use slice::{
     Collocated, InterFields, LongTermRefs, PictureKind, ReferenceFields, SegmentFields,

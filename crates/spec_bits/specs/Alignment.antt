@@ -1,5 +1,6 @@
 -- byte_alignment(): a 1 and zeros up to the end of a byte (7.3.2.12).
-use Rattle.std.specs.Prelude.{ℕ, ◌+◌, ◌-◌, ◌%◌, ◌^◌, Bool, true, false, List, length, Option, Some, ◌==◌, if◌then◌else◌}
+use Rattle.std.specs.Prelude.{ℕ, ◌+◌, ◌-◌, ◌%◌, ◌^◌, Bool, true, false, List, length, Option, Some, ◌==◌}
+use Rattle.std.specs.Prelude.{if◌then◌else◌}
 use Rattle.spec_bits.specs.Bits.{u_at, ◌>>=◌}
 
 -- the bits up to the next end of a byte, where a bit is left: 1 to 8 of them. The byte string ends at the end of a

@@ -1,5 +1,6 @@
 -- The bits that spell a value: u(n) (7.2), ue(v) and se(v) (9.2), and byte_alignment() (7.3.2.12).
-use Rattle.std.specs.Prelude.{ℕ, zero, suc, ◌+◌, ◌-◌, ◌*◌, ◌%◌, ℤ, pos, negsuc, Bool, true, false, List, [], ◌∷◌, ◌++◌}
+use Rattle.std.specs.Prelude.{ℕ, zero, suc, ◌+◌, ◌-◌, ◌*◌, ◌%◌, ℤ, pos, negsuc, Bool, true, false, List, [], ◌∷◌}
+use Rattle.std.specs.Prelude.{◌++◌}
 use Rattle.std.specs.Prelude.{replicate}
 use Rattle.std.specs.Int.Count.{count_leading_zeros}
 use Rattle.spec_bits.specs.Bits.{bit_of}

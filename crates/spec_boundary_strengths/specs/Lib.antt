@@ -3,3 +3,5 @@ pub mod Edges
 pub mod Strengths
 pub mod Places
 pub mod Worked
+pub mod CtuRecords
+pub mod PictureBuffer

@@ -10,5 +10,6 @@ pub use laws::{
     equal_motion_has_no_strength, intra_edges_are_strong, parts_meet_with_strength_one,
     strengths_are_symmetric, vectors_are_compared_by_picture,
 };
+pub use picture_buffer::{PlaceMotion, PlaceVector};
 pub use place::UnitPlace;
 pub use vectors::Vectors;

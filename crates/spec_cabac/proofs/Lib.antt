@@ -3,3 +3,4 @@ pub mod Renormalization
 pub mod Times
 pub mod Prefix
 pub mod TablesByColumn
+pub mod SpecFormatsLemmas

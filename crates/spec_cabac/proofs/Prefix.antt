@@ -1,5 +1,6 @@
 -- A unary prefix, in a loop that has read i of n bins.
-use Rattle.std.proofs.Common.{◌≡◌, ℕ, suc, ◌+◌, ◌-◌, ◌<◌, ◌≤◌, Bool, true, false, Result, Ok, Err, sym, ap, ◌∙◌, arith}
+use Rattle.std.proofs.Common.{◌≡◌, ℕ, suc, ◌+◌, ◌-◌, ◌<◌, ◌≤◌, Bool, true, false, Result, Ok, Err, sym, ap, ◌∙◌}
+use Rattle.std.proofs.Common.{arith}
 use Rattle.hv_base.specs.declared.breach.Breach.{Breach}
 use Rattle.spec_formats.specs.Format.{bind, give, when◌then◌else◌}
 use Rattle.spec_cabac.specs.Bins.{State, Tree, read, unary}

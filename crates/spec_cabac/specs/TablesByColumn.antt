@@ -1,7 +1,8 @@
 -- The tables of arithmetic decoding a second time, laid out the other way: the ranges column by column, both next
 -- states of each state side by side, and initValue of each context for all three initTypes, element by element.
 use Rattle.std.specs.Prelude.{ℕ, ◌+◌, List, [], ◌∷◌, ◌++◌, length, get_or, slice_index}
-use Rattle.spec_cabac.specs.declared.init_values.TheConstants.{ABS_MVD_GREATER0_FLAG, ABS_MVD_GREATER1_FLAG, CBF_CHROMA}
+use Rattle.spec_cabac.specs.declared.init_values.TheConstants.{ABS_MVD_GREATER0_FLAG, ABS_MVD_GREATER1_FLAG}
+use Rattle.spec_cabac.specs.declared.init_values.TheConstants.{CBF_CHROMA}
 use Rattle.spec_cabac.specs.declared.init_values.TheConstants.{CBF_LUMA, CODED_SUB_BLOCK_FLAG}
 use Rattle.spec_cabac.specs.declared.init_values.TheConstants.{COEFF_ABS_LEVEL_GREATER1_FLAG}
 use Rattle.spec_cabac.specs.declared.init_values.TheConstants.{COEFF_ABS_LEVEL_GREATER2_FLAG, CU_QP_DELTA_ABS}

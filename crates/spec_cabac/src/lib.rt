@@ -9,6 +9,7 @@ mod plain;
 mod tables;
 
 pub use context::{after_lps, after_mps, initial_context};
+pub use hv_base::{Breach, FaultKind};
 pub use init_values::{
     ABS_MVD_GREATER0_FLAG, ABS_MVD_GREATER1_FLAG, CBF_CHROMA, CBF_LUMA, CODED_SUB_BLOCK_FLAG,
     COEFF_ABS_LEVEL_GREATER1_FLAG, COEFF_ABS_LEVEL_GREATER2_FLAG, CONTEXTS, CU_QP_DELTA_ABS,

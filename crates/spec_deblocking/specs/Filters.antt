@@ -3,7 +3,7 @@
 use Rattle.std.specs.Prelude.{ℕ, ◌+◌, ◌-◌, ◌*◌, ◌/◌, Bool, nat_lt, ℤ, pos, ◌+ℤ◌, neg_ℤ, ◌-ℤ◌, if◌then◌else◌}
 use Rattle.std.specs.Int.{int_shr}
 use Rattle.std.specs.Int.RustNames.{unsigned_abs}
-use Rattle.spec_arithmetic.specs.Clipping.{clip3, clip3_from_zero, nat_clip3}
+use Rattle.spec_slice_data.specs.SpecArithmetic.{clip3, clip3_from_zero, nat_clip3}
 use Rattle.spec_deblocking.specs.declared.line.Line.{Line}
 use Rattle.spec_deblocking.specs.declared.line.Filter.{Filter}
 use Rattle.spec_deblocking.specs.declared.line.Filter.TheVariants.{Off, Normal, Strong, Nearest}

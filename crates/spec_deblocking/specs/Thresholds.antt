@@ -1,8 +1,8 @@
 -- The thresholds of an edge, from the places of p0 and q0 (8.7.2.5.3, 8.7.2.5.5). The offsets are those of the slice
 -- that has q0.
 use Rattle.std.specs.Prelude.{ℕ, ◌*◌, ◌-◌, ◌^◌, ℤ, pos, negsuc, ◌+ℤ◌, ◌-ℤ◌, ◌*ℤ◌, slice_index_or}
-use Rattle.spec_arithmetic.specs.Clipping.{clip3_from_zero}
-use Rattle.spec_arithmetic.specs.Rounding.{rounded}
+use Rattle.spec_slice_data.specs.SpecArithmetic.{clip3_from_zero}
+use Rattle.spec_slice_data.specs.SpecArithmetic.{rounded}
 use Rattle.spec_slice_data.specs.Quantization.{chroma_qp_of_index}
 use Rattle.spec_deblocking.specs.declared.place.Place.{Place}
 use Rattle.spec_deblocking.specs.declared.place.Plane.{Plane}

@@ -12,4 +12,5 @@ pub use laws::{
 };
 pub use line::{Filter, Line};
 pub use place::{Place, Plane};
+pub use spec_slice_data::chroma_qp_of_index;
 pub use tables::{BETA, TC};

@@ -1,2 +1,5 @@
 pub mod OneFold
 pub mod Unfiltered
+pub mod SpecPictureTreesLemmas
+pub mod SpecLoopFiltersLemmas
+pub mod SpecSampleAdaptiveOffsetLemmas

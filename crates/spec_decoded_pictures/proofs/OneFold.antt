@@ -1,16 +1,17 @@
 -- One fold over the units of a picture gives its samples, its motion, and what its loop filters need.
 use Rattle.std.proofs.Common.{◌≡◌, refl, sym, ap, ◌∙◌, List, [], ◌∷◌, Option, Some, None}
 use Rattle.std.specs.List.{fold, slice_get}
-use Rattle.plan_types.specs.declared.segment_plan.SegmentPlan.{SegmentPlan}
-use Rattle.plan_types.specs.declared.picture_plan.PicturePlan.{PicturePlan}
-use Rattle.spec_picture_trees.specs.Picture.{TreeUnit}
+use Rattle.spec_picture_build.specs.PlanTypes.{SegmentPlan}
+use Rattle.spec_picture_build.specs.PlanTypes.{PicturePlan}
+use Rattle.spec_picture_build.specs.SpecPictureTrees.{TreeUnit}
 use Rattle.spec_picture_filters.specs.Data.{FilterData, no_data}
 use Rattle.spec_picture_filters.specs.Filtered.{Behind, both_added, units_behind, units_filtered}
 use Rattle.spec_picture_filters.specs.Filtered.{added_in as gathered_in, with_unit as with_gathered}
 use Rattle.spec_picture_build.specs.Built.{BuiltPicture, no_picture, unit_added, units_built}
 use Rattle.spec_picture_build.specs.Built.{added_in as built_in, with_unit as with_built}
 use Rattle.spec_picture_build.specs.References.{DecodedPicture, motions_of}
-use Rattle.spec_decoded_pictures.specs.Decoded.{DecodedUnits, decoded_in, joined, unit_decoded, units_folded, with_unit}
+use Rattle.spec_decoded_pictures.specs.Decoded.{DecodedUnits, decoded_in, joined, unit_decoded, units_folded}
+use Rattle.spec_decoded_pictures.specs.Decoded.{with_unit}
 
 -- the motion of a picture that is built, and what its loop filters need
 abbrev behind : BuiltPicture → FilterData → Behind

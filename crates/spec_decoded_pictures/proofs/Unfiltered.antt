@@ -1,9 +1,9 @@
 -- Pictures without loop filters.
 use Rattle.std.proofs.Common.{◌≡◌, ℕ, true, List, All, ap, ◌∙◌}
-use Rattle.plan_types.specs.declared.picture_plan.PicturePlan.{PicturePlan}
+use Rattle.spec_picture_build.specs.PlanTypes.{PicturePlan}
 use Rattle.spec_decoded_pictures.specs.Decoded.{DecodedUnits, decoded_by, joined, samples_filtered, units_decoded}
-use Rattle.spec_picture_trees.specs.Picture.{TreeUnit}
-use Rattle.spec_picture_trees.specs.Shapes.{picture_shape}
+use Rattle.spec_picture_build.specs.SpecPictureTrees.{TreeUnit}
+use Rattle.spec_picture_build.specs.SpecPictureTrees.{picture_shape}
 use Rattle.spec_picture_filters.proofs.Quiet.{unchanged}
 use Rattle.spec_decoded_pictures.proofs.OneFold.{one_fold}
 use Rattle.spec_picture_filters.specs.Filtered.{units_filtered}

@@ -2,12 +2,12 @@
 -- and from the pictures that it refers to, and then go through its loop filters (8.1.3, 8.7).
 use Rattle.std.specs.Prelude.{ℕ, List, [], Option, Some, None, Result, Ok, Err, slice_get, if◌then◌else◌}
 use Rattle.std.specs.List.{fold}
-use Rattle.plan_types.specs.declared.segment_plan.SegmentPlan.{SegmentPlan}
-use Rattle.plan_types.specs.declared.picture_plan.PicturePlan.{PicturePlan}
-use Rattle.spec_picture_trees.specs.Picture.{Halt, PictureBroken, Progress, TreeUnit, picture_read}
-use Rattle.spec_picture_trees.specs.Shapes.{picture_shape}
-use Rattle.spec_picture_motion.specs.Derived.{unit_added as motion_added}
-use Rattle.spec_picture_motion.specs.Field.{Motions, no_motions}
+use Rattle.spec_picture_build.specs.PlanTypes.{SegmentPlan}
+use Rattle.spec_picture_build.specs.PlanTypes.{PicturePlan}
+use Rattle.spec_picture_build.specs.SpecPictureTrees.{Halt, PictureBroken, Progress, TreeUnit, picture_read}
+use Rattle.spec_picture_build.specs.SpecPictureTrees.{picture_shape}
+use Rattle.spec_picture_build.specs.SpecPictureMotion.{unit_added as motion_added}
+use Rattle.spec_picture_build.specs.SpecPictureMotion.{Motions, no_motions}
 use Rattle.spec_picture_filters.specs.Data.{FilterData, no_data}
 use Rattle.spec_picture_filters.specs.Filtered.{filtered}
 use Rattle.spec_picture_filters.specs.Units.{unit_added as filters_added}

@@ -1,11 +1,11 @@
 //! What follows from the definitions.
 
 ghost use Rattle.std.specs.Prelude.{◌≡◌, ℕ, true, List, All};
-ghost use Rattle.plan_types.specs.declared.picture_plan.PicturePlan.{PicturePlan};
+ghost use Rattle.spec_picture_build.specs.PlanTypes.{PicturePlan};
 ghost use Rattle.spec_decoded_pictures.specs.Decoded.{joined, units_decoded, units_folded};
 ghost use Rattle.spec_picture_filters.specs.Filtered.{units_filtered};
-ghost use Rattle.spec_picture_trees.specs.Picture.{TreeUnit};
-ghost use Rattle.spec_picture_trees.specs.Shapes.{picture_shape};
+ghost use Rattle.spec_picture_build.specs.SpecPictureTrees.{TreeUnit};
+ghost use Rattle.spec_picture_build.specs.SpecPictureTrees.{picture_shape};
 ghost use Rattle.spec_picture_filters.specs.Disabled.{AreDisabled, HasNoOffset};
 ghost use Rattle.spec_picture_build.specs.Border.{has_sample};
 ghost use Rattle.spec_picture_build.specs.Built.{units_built};

@@ -5,8 +5,8 @@ use Rattle.std.specs.List.{concat}
 use Rattle.std.proofs.lemmas.List.{append-nil}
 use Rattle.std.proofs.lemmas.List.Folds.{concat-append}
 use Rattle.hv_base.specs.declared.refusal.Stop.{Stop}
-use Rattle.plan_types.specs.declared.between.Between.{Between}
-use Rattle.plan_types.specs.declared.picture_plan.PicturePlan.{PicturePlan}
+use Rattle.spec_picture_plan.specs.PlanTypes.{Between}
+use Rattle.spec_picture_plan.specs.PlanTypes.{PicturePlan}
 use Rattle.spec_nal_units.specs.Judged.{Told, told_of}
 use Rattle.spec_picture_plan.specs.Pictures.{beginning}
 use Rattle.spec_picture_plan.specs.Steps.{step}

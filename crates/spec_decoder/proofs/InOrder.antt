@@ -6,16 +6,17 @@ use Rattle.std.specs.Prelude.{option_map, nat_lt, if◌then◌else◌}
 use Rattle.hv_base.specs.declared.fault.Fault.{Fault}
 use Rattle.hv_base.specs.declared.refusal.Stop.{Stop}
 use Rattle.hv_base.specs.declared.refusal.Stop.TheVariants as stop
-use Rattle.plan_types.specs.declared.between.Between.{Between}
-use Rattle.plan_types.specs.declared.picture_plan.PicturePlan.{PicturePlan}
+use Rattle.spec_picture_plan.specs.PlanTypes.{Between}
+use Rattle.spec_picture_plan.specs.PlanTypes.{PicturePlan}
 use Rattle.spec_bits.specs.Bits.{bits}
 use Rattle.spec_nal_units.specs.Judged.{NalUnit, Told, told_of}
-use Rattle.spec_output_order.specs.OutputOrder.{last_outputs}
+use Rattle.spec_picture_plan.specs.SpecOutputOrder.{last_outputs}
 use Rattle.spec_picture_plan.specs.Closing.{broken_at_closing, broken_in, full_at, or_later}
 use Rattle.spec_picture_plan.specs.Pictures.{beginning}
 use Rattle.spec_picture_plan.specs.Planned.{Planned, at_end, behind_closed, planned_from, planned_next, planned_of}
 use Rattle.spec_picture_plan.specs.Planned.{stop_of}
-use Rattle.spec_picture_plan.specs.Steps.{Stepped, behind, close, closed_by, closed_open, closing, first_flag, goes_on}
+use Rattle.spec_picture_plan.specs.Steps.{Stepped, behind, close, closed_by, closed_open, closing, first_flag}
+use Rattle.spec_picture_plan.specs.Steps.{goes_on}
 use Rattle.spec_picture_plan.specs.Steps.{kind_step, slice_judged, slice_step, step, then_next, unit_step}
 use Rattle.spec_picture_plan.specs.UnitKinds.{is_rasl, kind_of_type}
 use Rattle.spec_picture_plan.specs.declared.unit_kind.UnitKind.{UnitKind}
@@ -24,7 +25,8 @@ use Rattle.spec_decoder.specs.Output.{OutPicture}
 use Rattle.spec_decoder.specs.Decoder.{BufferPicture, Decoded, decoded, decoded_from, decoded_picture, entered}
 use Rattle.spec_decoder.specs.Decoder.{finished, kept_from}
 use Rattle.spec_decoder.specs.Decoder.{out_at, put_out, with_picture}
-use Rattle.spec_decoder.specs.Trail.{Data, Event, Judge, Keep, Output, closed_events, closed_first, closes, end_events}
+use Rattle.spec_decoder.specs.Trail.{Data, Event, Judge, Keep, Output, closed_events, closed_first, closes}
+use Rattle.spec_decoder.specs.Trail.{end_events}
 use Rattle.spec_decoder.specs.Trail.{first_of, is_dropped, kind_closes, kind_judged, last_events, next_events}
 use Rattle.spec_decoder.specs.Trail.{open_events}
 use Rattle.spec_decoder.specs.Trail.{trail, trail_of, unit_judged, with_decoded}

@@ -6,12 +6,12 @@ use Rattle.hv_base.specs.declared.fault.Fault.{Fault}
 use Rattle.hv_base.specs.declared.refusal.Stop.{Stop}
 use Rattle.hv_base.specs.declared.refusal.Stop.TheVariants as stop
 use Rattle.hv_base.specs.Stops.{stopped_at}
-use Rattle.plan_types.specs.declared.picture_plan.PicturePlan.{PicturePlan}
+use Rattle.spec_picture_plan.specs.PlanTypes.{PicturePlan}
 use Rattle.spec_picture_plan.specs.Planned.{Planned, planned_of}
-use Rattle.spec_picture_trees.specs.Picture.{PictureBroken, Progress, picture_read}
-use Rattle.spec_picture_trees.specs.Units.{addresses, picture_units, shared_units, with_segments}
+use Rattle.spec_decoded_pictures.specs.SpecPictureTrees.{PictureBroken, Progress, picture_read}
+use Rattle.spec_decoded_pictures.specs.SpecPictureTrees.{addresses, picture_units, shared_units, with_segments}
 use Rattle.spec_decoded_pictures.specs.Decoded.{picture_decoded}
-use Rattle.spec_picture_build.specs.References.{DecodedPicture}
+use Rattle.spec_decoded_pictures.specs.SpecPictureBuild.{DecodedPicture}
 use Rattle.spec_decoder.specs.declared.form.Form.{Form}
 use Rattle.spec_decoder.specs.Hashes.{first_mismatch}
 use Rattle.spec_decoder.specs.Output.{OutPicture, written}

@@ -5,11 +5,11 @@ use Rattle.hv_base.specs.declared.digest.Digest.{Digest}
 use Rattle.hv_base.specs.declared.fault.Fault.{Fault}
 use Rattle.hv_base.specs.declared.fault.FaultKind.TheVariants as rule
 use Rattle.header_types.specs.declared.sps.PictureFormat.{PictureFormat}
-use Rattle.plan_types.specs.declared.stated_hash.StatedHash.{StatedHash}
-use Rattle.spec_stated_hashes.specs.Digests.{digest_of}
+use Rattle.spec_picture_plan.specs.PlanTypes.{StatedHash}
+use Rattle.hash_sei.specs.SpecStatedHashes.{digest_of}
 use Rattle.hash_sei.specs.PlaneHash.{plane_hash}
-use Rattle.spec_picture_build.specs.Border.{Samples}
-use Rattle.spec_picture_build.specs.References.{DecodedPicture, format_height, format_width}
+use Rattle.spec_decoded_pictures.specs.SpecPictureBuild.{Samples}
+use Rattle.spec_decoded_pictures.specs.SpecPictureBuild.{DecodedPicture, format_height, format_width}
 use Rattle.spec_picture_plan.specs.Closing.{or_later}
 
 -- the bit depth of a component

@@ -2,3 +2,9 @@ pub mod Output
 pub mod Hashes
 pub mod Decoder
 pub mod Trail
+pub mod SpecDecodedPictures
+pub mod SpecPictureFilters
+pub mod SpecPictureBuild
+pub mod SpecPictureMotion
+pub mod PlanLaws
+pub mod SpecBoundaryStrengths

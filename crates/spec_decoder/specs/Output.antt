@@ -5,8 +5,8 @@ use Rattle.header_types.specs.declared.sps.PictureFormat.{PictureFormat}
 use Rattle.header_types.specs.SequenceParameterSets.{cropped_width, cropped_height}
 use Rattle.hex.specs.Hex.{encode_lower}
 use Rattle.md5.specs.Md5.{md5}
-use Rattle.spec_picture_build.specs.Border.{Samples}
-use Rattle.spec_picture_build.specs.Output.{picture_bytes}
+use Rattle.spec_decoded_pictures.specs.SpecPictureBuild.{Samples}
+use Rattle.spec_decoded_pictures.specs.SpecPictureBuild.{picture_bytes}
 use Rattle.spec_decoder.specs.declared.form.Form.{Form}
 use Rattle.spec_decoder.specs.declared.form.Form.TheVariants as form
 

@@ -7,13 +7,13 @@ use Rattle.std.specs.Prelude.{Ok}
 use Rattle.std.specs.Prelude.{Err, option_map, nat_lt, if◌then◌else◌}
 use Rattle.hv_base.specs.declared.refusal.Stop.{Stop}
 use Rattle.hv_base.specs.declared.refusal.Stop.TheVariants as stop
-use Rattle.plan_types.specs.declared.between.Between.{Between}
-use Rattle.plan_types.specs.declared.picture_plan.PicturePlan.{PicturePlan}
+use Rattle.spec_picture_plan.specs.PlanTypes.{Between}
+use Rattle.spec_picture_plan.specs.PlanTypes.{PicturePlan}
 use Rattle.spec_bits.specs.Bits.{bits}
 use Rattle.spec_nal_units.specs.Judged.{NalUnit, Told, told_of}
-use Rattle.spec_output_order.specs.OutputOrder.{last_outputs}
-use Rattle.spec_parameter_sets.specs.PictureParameterSet.{picture_parameter_set_of}
-use Rattle.spec_parameter_sets.specs.SequenceParameterSet.{sequence_parameter_set_of}
+use Rattle.spec_picture_plan.specs.SpecOutputOrder.{last_outputs}
+use Rattle.spec_picture_plan.specs.SpecParameterSets.{picture_parameter_set_of}
+use Rattle.spec_picture_plan.specs.SpecParameterSets.{sequence_parameter_set_of}
 use Rattle.spec_picture_plan.specs.Closing.{broken_in, full_at}
 use Rattle.spec_picture_plan.specs.Pictures.{beginning}
 use Rattle.spec_picture_plan.specs.Planned.{stop_of}

@@ -1,7 +1,7 @@
 //! Laws of the definitions.
 
 ghost use Rattle.std.specs.Prelude.{◌≡◌, All, ℕ, Bool, false, List, [], ◌++◌};
-ghost use Rattle.plan_types.specs.declared.between.Between.{Between};
+ghost use Rattle.spec_picture_plan.specs.PlanTypes.{Between};
 ghost use Rattle.spec_nal_units.specs.Judged.{Told};
 ghost use Rattle.spec_picture_plan.specs.Planned.{planned_of};
 ghost use Rattle.spec_picture_plan.specs.Steps.{step};

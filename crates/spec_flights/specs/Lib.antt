@@ -4,3 +4,14 @@ pub mod Phases
 pub mod Rows
 pub mod Words
 pub mod SpecDecoder
+pub mod SpecDecoderDecoder
+pub mod SpecPictureFilters
+pub mod SpecDecodedPictures
+pub mod FilterLocalityLaws
+pub mod SpecLoopFilters
+pub mod SpecDeblocking
+pub mod PlanLaws
+pub mod CabacContexts
+pub mod BoardCore
+pub mod SpecSampleAdaptiveOffset
+pub mod SpecBoundaryStrengths

@@ -2,14 +2,14 @@
 -- sample adaptive offset (8.6.5, 8.7.2, 8.7.3).
 use Rattle.hv_base.specs.declared.line.Phase.{Phase}
 use Rattle.hv_base.specs.declared.line.Phase.TheVariants.{B, V, H, S}
-use Rattle.plan_types.specs.declared.picture_plan.PicturePlan.{PicturePlan}
-use Rattle.spec_sample_adaptive_offset.specs.Plane.{offset_sample}
-use Rattle.spec_loop_filters.specs.Filters.{offset_plane}
+use Rattle.spec_known_units.specs.PlanTypes.{PicturePlan}
+use Rattle.filter_locality_laws.specs.SpecSampleAdaptiveOffset.{offset_sample}
+use Rattle.filter_locality_laws.specs.SpecLoopFilters.{offset_plane}
 use Rattle.filter_locality_laws.specs.Rows.{behind_horizontal, behind_vertical}
-use Rattle.spec_picture_filters.specs.Data.{FilterData}
-use Rattle.spec_picture_filters.specs.Filtered.{filter_format, loop_filters}
-use Rattle.spec_picture_build.specs.Border.{Samples}
-use Rattle.spec_decoded_pictures.specs.Decoded.{DecodedUnits}
+use Rattle.spec_decoder.specs.SpecPictureFilters.{FilterData}
+use Rattle.spec_decoder.specs.SpecPictureFilters.{filter_format, loop_filters}
+use Rattle.spec_decoder.specs.SpecPictureBuild.{Samples}
+use Rattle.spec_decoder.specs.SpecDecodedPictures.{DecodedUnits}
 
 -- behind vertical edges, by the samples as they are built
 unfoldable pub vertical_samples : PicturePlan → FilterData → Samples → Samples

@@ -1,10 +1,10 @@
 -- The pictures of a flight by those of their coding tree units that are known, also where a rule is broken in one of
 -- them, and the decoded picture buffer before each of them (8.1.3, C.5.2.3).
 use Rattle.std.specs.Prelude.{ℕ, zero, suc, List, [], ◌∷◌, ◌++◌, Option, Some, None, slice_get}
-use Rattle.plan_types.specs.declared.picture_plan.PicturePlan.{PicturePlan}
+use Rattle.spec_known_units.specs.PlanTypes.{PicturePlan}
 use Rattle.spec_known_units.specs.Known.{known_units}
-use Rattle.spec_picture_build.specs.References.{DecodedPicture}
-use Rattle.spec_decoded_pictures.specs.Decoded.{DecodedUnits, no_units, units_decoded, units_folded}
+use Rattle.spec_decoder.specs.SpecPictureBuild.{DecodedPicture}
+use Rattle.spec_decoder.specs.SpecDecodedPictures.{DecodedUnits, no_units, units_decoded, units_folded}
 use Rattle.spec_decoder.specs.Decoder.{BufferPicture, kept_as, kept_from, pictures_in}
 
 -- pictures that are decoded together, in decoding order, and the decoded picture buffer before the first of them

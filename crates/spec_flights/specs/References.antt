@@ -5,23 +5,23 @@ use Rattle.std.specs.Prelude.{if◌then◌else◌}
 use Rattle.std.specs.List.{flat_map, range_with_len}
 use Rattle.std.specs.Option.{option_and_then, option_map}
 use Rattle.header_types.specs.declared.reference_pictures.RefEntry.{RefEntry}
-use Rattle.plan_types.specs.declared.segment_plan.SegmentPlan.{SegmentPlan}
-use Rattle.plan_types.specs.declared.picture_plan.PicturePlan.{PicturePlan}
+use Rattle.spec_known_units.specs.PlanTypes.{SegmentPlan}
+use Rattle.spec_known_units.specs.PlanTypes.{PicturePlan}
 use Rattle.ctu_records.specs.declared.item.Item.{Item}
 use Rattle.ctu_records.specs.declared.item.Item.TheVariants.{Prediction}
 use Rattle.ctu_records.specs.declared.prediction.Rectangle.{Rectangle}
 use Rattle.ctu_records.specs.Prediction.{part_block}
-use Rattle.spec_motion.specs.declared.vectors.Motion.{Motion}
-use Rattle.spec_motion.specs.declared.vectors.Vector.{Vector}
-use Rattle.spec_motion.specs.declared.slice_motion.SliceMotion.{SliceMotion}
-use Rattle.spec_motion.specs.Vectors.{Known, reference_in}
-use Rattle.spec_picture_trees.specs.Picture.{SegmentAt, TreeUnit}
-use Rattle.spec_picture_trees.specs.Places.{first_row}
-use Rattle.spec_picture_trees.specs.Shapes.{picture_shape, slice_start}
+use Rattle.sample_words.specs.SpecMotion.{Motion}
+use Rattle.sample_words.specs.SpecMotion.{Vector}
+use Rattle.sample_words.specs.SpecMotion.{SliceMotion}
+use Rattle.sample_words.specs.SpecMotion.{Known, reference_in}
+use Rattle.spec_known_units.specs.SpecPictureTrees.{SegmentAt, TreeUnit}
+use Rattle.spec_known_units.specs.SpecPictureTrees.{first_row}
+use Rattle.spec_known_units.specs.SpecPictureTrees.{picture_shape, slice_start}
 use Rattle.spec_known_units.specs.Known.{KnownUnit, picture_segments, segment_having, units_known}
-use Rattle.spec_picture_motion.specs.Derived.{known_of_unit}
-use Rattle.spec_picture_motion.specs.Slices.{collocated_entry, slice_motion}
-use Rattle.spec_picture_build.specs.References.{DecodedPicture, motions_of}
+use Rattle.spec_decoder.specs.SpecPictureMotion.{known_of_unit}
+use Rattle.spec_decoder.specs.SpecPictureMotion.{collocated_entry, slice_motion}
+use Rattle.spec_decoder.specs.SpecPictureBuild.{DecodedPicture, motions_of}
 use Rattle.spec_decoder.specs.Decoder.{BufferPicture, is_among, kept_as}
 use Rattle.flight_plan.specs.declared.row_range.Reference.{Reference}
 use Rattle.flight_plan.specs.declared.row_range.Reference.TheVariants.{Base, Flight}

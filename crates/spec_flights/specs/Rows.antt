@@ -7,7 +7,7 @@ use Rattle.hv_base.specs.declared.line.Line.{Line}
 use Rattle.hv_base.specs.declared.line.Phase.{Phase}
 use Rattle.hv_base.specs.declared.line.Phase.TheVariants.{B, V, H, S}
 use Rattle.header_types.specs.SequenceParameterSets.{ctb_log2, height_in_ctbs, size_in_ctbs, width_in_ctbs}
-use Rattle.plan_types.specs.declared.picture_plan.PicturePlan.{PicturePlan}
+use Rattle.spec_known_units.specs.PlanTypes.{PicturePlan}
 use Rattle.spec_known_units.specs.Known.{KnownUnit, unit_read, units_known}
 use Rattle.flight_plan.specs.Flight.{FlightRows, PictureRows, no_picture, units_of}
 use Rattle.board_core.specs.declared.predicted_blocks.LumaLines.{LumaLines}

@@ -3,18 +3,18 @@ use Rattle.std.specs.Prelude.{ℕ, ◌+◌, ◌-◌, ◌*◌, length, Bool, ◌|
 use Rattle.std.specs.Prelude.{slice_get}
 use Rattle.std.specs.Option.{unwrap_or}
 use Rattle.cabac_contexts.specs.Packing.{packed}
-use Rattle.cabac_engine.specs.Steps.{state_of}
+use Rattle.cabac_contexts.specs.CabacEngine.{state_of}
 use Rattle.header_types.specs.declared.sps.SpsFields.{SpsFields}
 use Rattle.header_types.specs.SequenceParameterSets.{ctb_log2, width_in_ctbs}
-use Rattle.plan_types.specs.declared.picture_plan.PicturePlan.{PicturePlan}
-use Rattle.spec_slice_data.specs.Segment.{PictureShape, side_of}
-use Rattle.spec_motion.specs.declared.vectors.Motion.{Motion}
-use Rattle.spec_picture_trees.specs.Places.{first_column, first_row, unit_at, unit_places}
-use Rattle.spec_picture_trees.specs.Shapes.{picture_shape}
+use Rattle.spec_known_units.specs.PlanTypes.{PicturePlan}
+use Rattle.spec_known_units.specs.SpecSliceData.{PictureShape, side_of}
+use Rattle.sample_words.specs.SpecMotion.{Motion}
+use Rattle.spec_known_units.specs.SpecPictureTrees.{first_column, first_row, unit_at, unit_places}
+use Rattle.spec_known_units.specs.SpecPictureTrees.{picture_shape}
 use Rattle.spec_known_units.specs.Known.{KnownUnit, contexts_behind, ctu_of, engine_behind, last_behind, units_known}
-use Rattle.spec_picture_motion.specs.Field.{motion_of}
-use Rattle.spec_deblocking.specs.declared.place.Place.{Place}
-use Rattle.spec_decoded_pictures.specs.Decoded.{DecodedUnits}
+use Rattle.spec_decoder.specs.SpecPictureMotion.{motion_of}
+use Rattle.filter_locality_laws.specs.SpecDeblocking.{Place}
+use Rattle.spec_decoder.specs.SpecDecodedPictures.{DecodedUnits}
 use Rattle.sample_words.specs.declared.carry.Carry.{Carry}
 use Rattle.sample_words.specs.declared.modes.PlaceModes.{PlaceModes}
 use Rattle.sample_words.specs.declared.sizes.FlightSizes.{FlightSizes}

@@ -1,5 +1,6 @@
 -- What is read is spelled by words that the data have, and what those spell is read: for every format.
-use Rattle.std.proofs.Common.{◌≡◌, append_assoc, append-nil, List, [], ◌∷◌, ◌++◌, Result, Ok, Err, refl, sym, ap, subst}
+use Rattle.std.proofs.Common.{◌≡◌, append_assoc, append-nil, List, [], ◌∷◌, ◌++◌, Result, Ok, Err, refl, sym, ap}
+use Rattle.std.proofs.Common.{subst}
 use Rattle.std.proofs.Common.{◌∙◌}
 use Rattle.hv_base.specs.declared.breach.Breach.{Breach}
 use Rattle.spec_formats.specs.Format.{Format, Give, Refuse, One, Then, Answers, bind, reading, Word, Spells, Has}

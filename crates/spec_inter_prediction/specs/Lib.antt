@@ -3,3 +3,4 @@ pub mod Luma
 pub mod Chroma
 pub mod Weighting
 pub mod Tables
+pub mod BlockGeometry

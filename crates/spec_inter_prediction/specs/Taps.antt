@@ -2,7 +2,7 @@
 -- column, beside each other are a to h; d is the whole place of luma, and b that of chroma.
 use Rattle.std.specs.Prelude.{ℕ, ◌-◌, ◌≤◌, ◌==◌, ℤ, pos, ◌+ℤ◌, ◌-ℤ◌, ◌*ℤ◌, if◌then◌else◌}
 use Rattle.std.specs.Int.{int_shr}
-use Rattle.spec_arithmetic.specs.Clipping.{clip3_from_zero}
+use Rattle.block_geometry.specs.SpecArithmetic.{clip3_from_zero}
 
 -- the luma filter at a quarter of a sample: 64 times the sample at a whole place
 unfoldable pub luma_taps : ℕ → ℤ → ℤ → ℤ → ℤ → ℤ → ℤ → ℤ → ℤ → ℤ

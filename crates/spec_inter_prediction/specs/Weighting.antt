@@ -1,8 +1,8 @@
 -- Weighted sample prediction (8.5.3.3.4): samples of 14 bits become samples of a picture.
 use Rattle.std.specs.Prelude.{ℕ, ◌+◌, ◌-◌, ◌^◌, ◌≤◌, ◌==◌, ℤ, pos, negsuc, ◌+ℤ◌, ◌*ℤ◌, ◌≤ℤ◌, if◌then◌else◌}
 use Rattle.std.specs.Int.{int_shr}
-use Rattle.spec_arithmetic.specs.Clipping.{clip1}
-use Rattle.spec_arithmetic.specs.Rounding.{rounded}
+use Rattle.block_geometry.specs.SpecArithmetic.{clip1}
+use Rattle.block_geometry.specs.SpecArithmetic.{rounded}
 use Rattle.spec_inter_prediction.specs.declared.weighting.Weight.{Weight}
 use Rattle.spec_inter_prediction.specs.declared.weighting.Weights.{Weights}
 use Rattle.spec_inter_prediction.specs.declared.weighting.Weighting.{Weighting}

@@ -6,6 +6,7 @@ mod laws;
 mod tables;
 mod weighting;
 
+pub use block_geometry::needed_rows;
 pub use laws::{
     filters_are_mirrored, filters_keep_equal_samples, luma_samples_depend_on_their_lines,
 };

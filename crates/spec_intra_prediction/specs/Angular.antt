@@ -1,7 +1,8 @@
 -- Prediction along a direction (8.4.4.2.6). It is said once, for the modes 18 to 34: `main` is the corner and what lies
 -- above and to the right, `side` the corner and what lies below. The modes 2 to 17 exchange the two, and columns with
 -- lines.
-use Rattle.std.specs.Prelude.{ℕ, suc, ◌+◌, ◌-◌, ◌*◌, ◌/◌, ◌%◌, ◌^◌, ◌==◌, ℤ, pos, negsuc, ◌+ℤ◌, ◌-ℤ◌, Bool, ◌&&◌, ◌||◌}
+use Rattle.std.specs.Prelude.{ℕ, suc, ◌+◌, ◌-◌, ◌*◌, ◌/◌, ◌%◌, ◌^◌, ◌==◌, ℤ, pos, negsuc, ◌+ℤ◌, ◌-ℤ◌, Bool, ◌&&◌}
+use Rattle.std.specs.Prelude.{◌||◌}
 use Rattle.std.specs.Prelude.{nat_lt, List, slice_index_or, if◌then◌else◌}
 use Rattle.std.specs.Int.{int_shr}
 use Rattle.spec_arithmetic.specs.Clipping.{clip1}

@@ -1,5 +1,6 @@
 -- The filtering of neighbouring samples (8.4.4.2.3).
-use Rattle.std.specs.Prelude.{ℕ, ◌+◌, ◌-◌, ◌*◌, ◌/◌, ◌^◌, ◌==◌, Bool, not, ◌&&◌, nat_le, nat_lt, List, map, length, min}
+use Rattle.std.specs.Prelude.{ℕ, ◌+◌, ◌-◌, ◌*◌, ◌/◌, ◌^◌, ◌==◌, Bool, not, ◌&&◌, nat_le, nat_lt, List, map, length}
+use Rattle.std.specs.Prelude.{min}
 use Rattle.std.specs.Prelude.{if◌then◌else◌}
 use Rattle.std.specs.Int.{abs_diff}
 use Rattle.std.specs.List.{range_with_len}

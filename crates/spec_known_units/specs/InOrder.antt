@@ -1,8 +1,8 @@
 -- Units that are known by address, beside the reading of a picture in order.
 use Rattle.std.specs.Prelude.{◌≡◌, ◌≢◌, ◌<◌, ℕ, true, List, [], Option, Some, is_some, Result, Ok, Err}
-use Rattle.header_types.specs.SequenceParameterSets.{size_in_ctbs}
-use Rattle.plan_types.specs.declared.picture_plan.PicturePlan.{PicturePlan}
-use Rattle.block_geometry.specs.CodingTreeBlocks.{ctb_place, ctb_scan}
+use Rattle.spec_picture_trees.specs.HeaderTypes.{size_in_ctbs}
+use Rattle.spec_picture_trees.specs.PlanTypes.{PicturePlan}
+use Rattle.spec_picture_trees.specs.BlockGeometry.{ctb_place, ctb_scan}
 use Rattle.spec_picture_trees.specs.Picture.{Halt, Progress, SegmentAt}
 use Rattle.spec_known_units.specs.Known.{known_before, known_units, picture_segments, segment_having, unit_read}
 use Rattle.spec_known_units.specs.Known.{units_known}

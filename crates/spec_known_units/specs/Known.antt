@@ -1,18 +1,20 @@
 -- The coding tree units of a picture by address, each read from what those before it leave to it, whoever reads them
 -- and in which order (7.3.8.1, 9.3.1, 9.3.2).
-use Rattle.std.specs.Prelude.{ℕ, zero, suc, ◌+◌, ◌-◌, ◌==◌, ◌&&◌, ◌||◌, not, nat_le, nat_lt, Bool, List, [], ◌∷◌, ◌++◌}
+use Rattle.std.specs.Prelude.{ℕ, zero, suc, ◌+◌, ◌-◌, ◌==◌, ◌&&◌, ◌||◌, not, nat_le, nat_lt, Bool, List, [], ◌∷◌}
+use Rattle.std.specs.Prelude.{◌++◌}
 use Rattle.std.specs.Prelude.{map}
 use Rattle.std.specs.Prelude.{Option, Some, None, is_some, Result, Ok, Err, if◌then◌else◌}
 use Rattle.std.specs.List.{flat_map, list_all, range_with_len}
-use Rattle.hv_base.specs.declared.breach.Breach.{Breach}
-use Rattle.header_types.specs.SequenceParameterSets.{size_in_ctbs}
-use Rattle.plan_types.specs.declared.segment_plan.SegmentPlan.{SegmentPlan}
-use Rattle.plan_types.specs.declared.picture_plan.PicturePlan.{PicturePlan}
-use Rattle.block_geometry.specs.CodingTreeBlocks.{ctb_place, ctb_scan, is_decoded_before}
-use Rattle.ctu_records.specs.Tree.{Ctu}
-use Rattle.spec_cabac.specs.Engine.{Engine}
-use Rattle.spec_slice_data.specs.Segment.{PictureShape, Between, begins_row, has_above, has_left, has_stored, is_first}
-use Rattle.spec_slice_data.specs.Segment.{no_group, nothing_read, unit_of, unit_step}
+use Rattle.spec_picture_trees.specs.HvBase.{Breach}
+use Rattle.spec_picture_trees.specs.HeaderTypes.{size_in_ctbs}
+use Rattle.spec_picture_trees.specs.PlanTypes.{SegmentPlan}
+use Rattle.spec_picture_trees.specs.PlanTypes.{PicturePlan}
+use Rattle.spec_picture_trees.specs.BlockGeometry.{ctb_place, ctb_scan, is_decoded_before}
+use Rattle.spec_picture_trees.specs.CtuRecords.{Ctu}
+use Rattle.spec_picture_trees.specs.SpecCabac.{Engine}
+use Rattle.spec_picture_trees.specs.SpecSliceData.{PictureShape, Between, begins_row, has_above, has_left, has_stored}
+use Rattle.spec_picture_trees.specs.SpecSliceData.{is_first}
+use Rattle.spec_picture_trees.specs.SpecSliceData.{no_group, nothing_read, unit_of, unit_step}
 use Rattle.spec_picture_trees.specs.Shapes.{end_of}
 use Rattle.spec_picture_trees.specs.Picture.{SegmentAt, TreeUnit, before_picture, segment_at}
 use Rattle.spec_picture_trees.specs.Units.{units_between}

@@ -1,2 +1,4 @@
 pub mod Unchanged
 pub mod Ranges
+pub mod SpecDeblockingLemmas
+pub mod SpecSampleAdaptiveOffsetLemmas

@@ -1,11 +1,12 @@
 -- Filters keep samples in the range of their bit depth.
-use Rattle.std.proofs.Common.{ℕ, ◌+◌, ◌-◌, ◌*◌, ◌/◌, ◌%◌, ◌^◌, ◌<◌, ◌≤◌, Bool, true, false, ◌&&◌, cond, nat_lt, ℤ, pos}
+use Rattle.std.proofs.Common.{ℕ, ◌+◌, ◌-◌, ◌*◌, ◌/◌, ◌%◌, ◌^◌, ◌<◌, ◌≤◌, Bool, true, false, ◌&&◌, cond, nat_lt, ℤ}
+use Rattle.std.proofs.Common.{pos}
 use Rattle.std.proofs.Common.{negsuc, ◌≤ℤ◌, arith, rules, if◌then◌else◌}
 use Rattle.std.specs.Int.{int_max, int_min}
 use Rattle.std.specs.Int.RustNames.{unsigned_abs}
 use Rattle.std.proofs.lemmas.Int.{ints, int_max_is, int_min_is}
 use Rattle.std.proofs.lemmas.Bool.Decides.{nat_tests}
-use Rattle.spec_arithmetic.specs.Clipping.{clip3_from_zero}
+use Rattle.spec_sample_adaptive_offset.specs.SpecArithmetic.{clip3_from_zero}
 use Rattle.spec_deblocking.specs.declared.line.Line.{Line}
 use Rattle.spec_deblocking.specs.declared.line.Filter.{Filter}
 use Rattle.spec_deblocking.specs.declared.line.Filter.TheVariants.{Off, Normal, Strong, Nearest}
@@ -14,7 +15,8 @@ use Rattle.spec_deblocking.specs.declared.place.Plane.{Plane}
 use Rattle.spec_deblocking.specs.Lines.{across, nth}
 use Rattle.spec_deblocking.specs.Places.{place_before, place_behind, turned}
 use Rattle.spec_deblocking.specs.Thresholds.{tc}
-use Rattle.spec_deblocking.specs.Filters.{filtered, held, moved, nearest, normal, normal_change, second_sample, strong}
+use Rattle.spec_deblocking.specs.Filters.{filtered, held, moved, nearest, normal, normal_change, second_sample}
+use Rattle.spec_deblocking.specs.Filters.{strong}
 use Rattle.spec_deblocking.specs.Planes.{deblocked, edge_sample, filtered_line, horizontal, vertical}
 use Rattle.spec_sample_adaptive_offset.proofs.Samples.{in_range}
 use Rattle.spec_loop_filters.specs.Filters.{AreInRange, LoopFilters, Samples, deblocked_samples, depth_of}

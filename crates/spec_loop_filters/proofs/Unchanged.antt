@@ -1,9 +1,10 @@
 -- Pictures without strengths and offsets.
 use Rattle.std.proofs.Common.{◌≡◌, ℕ, ◌∙◌}
-use Rattle.ctu_records.specs.declared.offset.ComponentOffset.TheVariants.{Off}
+use Rattle.spec_sample_adaptive_offset.specs.CtuRecords.{Off}
 use Rattle.spec_deblocking.proofs.Unchanged.{deblocked_off}
 use Rattle.spec_sample_adaptive_offset.proofs.Samples.{unchanged}
-use Rattle.spec_loop_filters.specs.Filters.{LoopFilters, Samples, deblocked_samples, depth_of, final_samples, height_of}
+use Rattle.spec_loop_filters.specs.Filters.{LoopFilters, Samples, deblocked_samples, depth_of, final_samples}
+use Rattle.spec_loop_filters.specs.Filters.{height_of}
 use Rattle.spec_loop_filters.specs.Filters.{offset_plane, plane_of, width_of}
 
 pub deblocked_same : (filters : LoopFilters) (samples : Samples) (c x y : ℕ) →

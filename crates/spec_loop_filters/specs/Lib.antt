@@ -1,1 +1,4 @@
 pub mod Filters
+pub mod SpecSampleAdaptiveOffset
+pub mod SpecDeblocking
+pub mod BlockGeometry

@@ -1,7 +1,7 @@
 //! What follows from the definitions.
 
 ghost use Rattle.std.specs.Prelude.{◌≡◌, ◌<◌, ◌^◌, ℕ};
-ghost use Rattle.ctu_records.specs.declared.offset.ComponentOffset.TheVariants.{Off};
+ghost use Rattle.spec_sample_adaptive_offset.specs.CtuRecords.{Off};
 ghost use Rattle.spec_loop_filters.specs.Filters.{AreInRange, LoopFilters, Samples, final_samples};
 
 /// Where no place has a strength and no unit has an offset, every sample stays.

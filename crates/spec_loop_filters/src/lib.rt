@@ -7,3 +7,4 @@ mod laws;
 
 pub use format::FilterFormat;
 pub use laws::{filtered_samples_are_in_range, no_strength_and_no_offset_changes_nothing};
+pub use spec_deblocking::{Place, Plane};

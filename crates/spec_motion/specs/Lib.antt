@@ -5,3 +5,5 @@ pub mod Merging
 pub mod VectorPrediction
 pub mod Derivation
 pub mod Units
+pub mod SpecArithmetic
+pub mod CtuRecords

@@ -1,6 +1,8 @@
 -- Merging (8.5.3.2.2 to 8.5.3.2.5): a list of candidates, of which merge_idx names one.
-use Rattle.std.specs.Prelude.{ℕ, ◌+◌, ◌-◌, ◌*◌, ◌/◌, ◌^◌, ◌==◌, Bool, true, false, not, ◌&&◌, nat_lt, min, Option, Some}
-use Rattle.std.specs.Prelude.{None, List, [], ◌∷◌, ◌++◌, length, take, map, filter_map, option_to_list, slice_index_or}
+use Rattle.std.specs.Prelude.{ℕ, ◌+◌, ◌-◌, ◌*◌, ◌/◌, ◌^◌, ◌==◌, Bool, true, false, not, ◌&&◌, nat_lt, min, Option}
+use Rattle.std.specs.Prelude.{Some}
+use Rattle.std.specs.Prelude.{None, List, [], ◌∷◌, ◌++◌, length, take, map, filter_map, option_to_list}
+use Rattle.std.specs.Prelude.{slice_index_or}
 use Rattle.std.specs.Prelude.{if◌then◌else◌}
 use Rattle.std.specs.List.{range_with_len}
 use Rattle.ctu_records.specs.declared.prediction.Mv.{Mv}

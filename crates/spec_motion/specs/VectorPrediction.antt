@@ -1,6 +1,7 @@
 -- Advanced motion vector prediction (8.5.3.2.6, 8.5.3.2.7): a list of two predictors of a vector, of which mvp_lX_flag
 -- names one. At each place list X is looked at before the other.
-use Rattle.std.specs.Prelude.{ℕ, ◌+◌, ◌==◌, Bool, true, false, ◌||◌, ◌-ℤ◌, Option, Some, None, List, [], ◌∷◌, ◌++◌, map}
+use Rattle.std.specs.Prelude.{ℕ, ◌+◌, ◌==◌, Bool, true, false, ◌||◌, ◌-ℤ◌, Option, Some, None, List, [], ◌∷◌, ◌++◌}
+use Rattle.std.specs.Prelude.{map}
 use Rattle.std.specs.Prelude.{take, option_and_then, option_to_list, slice_index_or, if◌then◌else◌}
 use Rattle.ctu_records.specs.declared.prediction.Mv.{Mv}
 use Rattle.ctu_records.specs.declared.prediction.Rectangle.{Rectangle}

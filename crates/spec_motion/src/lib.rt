@@ -10,6 +10,7 @@ mod slice_motion;
 mod vectors;
 
 pub use collocation::{Collocated, CollocatedVector};
+pub use ctu_records::{ComponentOffset, Item, Mv, PredictionUnit, Rectangle, Sao, Side};
 pub use laws::{merge_lists_are_full, predictors_are_two, vectors_over_two_pictures_are_halved};
 pub use pairs::COMBINED_PAIRS;
 pub use placement::is_placed;

@@ -5,11 +5,13 @@ use Rattle.std.specs.Prelude.{◌&&◌, ◌==◌, min, replicate, nat_lt, nat_le
 use lib.Seq.{take-append_seam}
 use borrow.Author.Tests.{ltb-true, ltb-false}
 use Rattle.hv_base.specs.declared.fault.FaultKind.TheVariants.{NoNal}
-use Rattle.spec_nal_units.specs.Units.{ends_unit, unit_end, trimmed, Part, Raw, Stray, unit_to, unit_at, Place, Padding}
+use Rattle.spec_nal_units.specs.Units.{ends_unit, unit_end, trimmed, Part, Raw, Stray, unit_to, unit_at, Place}
+use Rattle.spec_nal_units.specs.Units.{Padding}
 use Rattle.spec_nal_units.specs.Units.{Inside, parts}
 use Rattle.spec_nal_units.specs.Judged.{broken, judged, next_number, then_told, told_from}
 use Rattle.spec_nal_units.specs.Closed.{HasNoUnit, StaysWhenClosed}
-use Rattle.spec_nal_units.proofs.Ends.{decide, known, if_true, if_false, ends_unit-append, unit_end-none, parts-inside}
+use Rattle.spec_nal_units.proofs.Ends.{decide, known, if_true, if_false, ends_unit-append, unit_end-none}
+use Rattle.spec_nal_units.proofs.Ends.{parts-inside}
 use Rattle.spec_nal_units.proofs.Going.{unit_at-whole, told_from-go}
 use Rattle.spec_nal_units.proofs.Streams.{trimmed-split, unit-none, unit_end-start, unit_end-past}
 

@@ -4,7 +4,8 @@ use Rattle.std.proofs.Common.{None, refl, sym, ap, ◌∙◌, arith}
 use Rattle.std.specs.Prelude.{◌&&◌, ◌==◌, min, nat_lt, nat_le}
 use borrow.Author.Tests.{ltb-true, ltb-false}
 use Rattle.std.proofs.lemmas.List.{take-append-le, drop-append-le}
-use Rattle.spec_nal_units.specs.Units.{ends_unit, unit_end, Part, Raw, Stray, unit_to, unit_at, Place, Padding, Inside}
+use Rattle.spec_nal_units.specs.Units.{ends_unit, unit_end, Part, Raw, Stray, unit_to, unit_at, Place, Padding}
+use Rattle.spec_nal_units.specs.Units.{Inside}
 use Rattle.spec_nal_units.specs.Units.{parts}
 use Rattle.spec_nal_units.specs.Judged.{Told, Whole, Broken, Met, judged, next_number, then_told, told_from, told_of}
 use Rattle.spec_nal_units.proofs.Ends.{decide, known, if_true, if_false, ends_unit-append, unit_end-none}

@@ -1,6 +1,7 @@
 -- What the grammar of the byte stream has is what a stream is split into.
 use Rattle.std.proofs.Common.{◌≡◌, ℕ, zero, suc, ◌+◌, ◌<◌, ◌≤◌, true, false, List, [], ◌∷◌, ◌++◌, length, take, drop}
-use Rattle.std.proofs.Common.{replicate, Some, None, refl, sym, ap, subst, ◌∙◌, arith, length-append, take-append-drop}
+use Rattle.std.proofs.Common.{replicate, Some, None, refl, sym, ap, subst, ◌∙◌, arith, length-append}
+use Rattle.std.proofs.Common.{take-append-drop}
 use Rattle.std.proofs.Common.{append_assoc, append-nil, length-take-le}
 use Rattle.std.proofs.lemmas.List.{replicate-append-replicate}
 use Rattle.std.specs.Prelude.{◌&&◌, ◌==◌, min, map, nat_le, nat_lt, option_map}

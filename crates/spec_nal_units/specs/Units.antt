@@ -1,5 +1,6 @@
 -- The NAL units of a byte stream, and the bytes that stand where none may (B.2).
-use Rattle.std.specs.Prelude.{ℕ, suc, ◌+◌, Bool, true, false, ◌&&◌, List, [], ◌∷◌, ◌++◌, Option, Some, None, option_map}
+use Rattle.std.specs.Prelude.{ℕ, suc, ◌+◌, Bool, true, false, ◌&&◌, List, [], ◌∷◌, ◌++◌, Option, Some, None}
+use Rattle.std.specs.Prelude.{option_map}
 use Rattle.std.specs.Prelude.{take, min, nat_lt, nat_le, ◌==◌, if◌then◌else◌}
 
 -- whether 00 00 00 or 00 00 01 stands here

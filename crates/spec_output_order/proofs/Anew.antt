@@ -1,6 +1,8 @@
 -- A picture that begins anew finds none of the buffer, and marks none as reference (8.3.2).
-use Rattle.std.proofs.Common.{◌≡◌, ◌∙◌, ℕ, ℤ, ◌+ℤ◌, zero, suc, Bool, true, false, not, ◌&&◌, ◌||◌, if◌then◌else◌, List}
-use Rattle.std.proofs.Common.{[], ◌∷◌, ◌++◌, length, map, Option, Some, None, slice_index_or, Result, Ok, Err, refl, ap}
+use Rattle.std.proofs.Common.{◌≡◌, ◌∙◌, ℕ, ℤ, ◌+ℤ◌, zero, suc, Bool, true, false, not, ◌&&◌, ◌||◌, if◌then◌else◌}
+use Rattle.std.proofs.Common.{List}
+use Rattle.std.proofs.Common.{[], ◌∷◌, ◌++◌, length, map, Option, Some, None, slice_index_or, Result, Ok, Err, refl}
+use Rattle.std.proofs.Common.{ap}
 use Rattle.std.specs.List.{count_by, filter, range_with_len}
 use Rattle.std.proofs.lemmas.List.Folds.{list_any-append}
 use Rattle.hv_base.specs.declared.fault.FaultKind.TheVariants.{MissingReference}
@@ -13,9 +15,9 @@ use Rattle.header_types.specs.declared.reference_pictures.PictureName.{PictureNa
 use Rattle.header_types.specs.declared.reference_pictures.PictureName.TheVariants.{OrderCount}
 use Rattle.header_types.specs.declared.reference_pictures.Rps.{Rps}
 use Rattle.header_types.specs.declared.short_term_set.ShortTermRef.{ShortTermRef}
-use Rattle.slice_types.specs.declared.slice.LongTermRefs.{LongTermRefs}
-use Rattle.slice_types.specs.declared.slice.PictureKind.{PictureKind}
-use Rattle.slice_types.specs.declared.slice.ReferenceFields.{ReferenceFields}
+use Rattle.plan_types.specs.SliceTypes.{LongTermRefs}
+use Rattle.plan_types.specs.SliceTypes.{PictureKind}
+use Rattle.plan_types.specs.SliceTypes.{ReferenceFields}
 use Rattle.spec_reference_pictures.specs.PictureOrderCount.{begins_anew, is_irap}
 use Rattle.spec_reference_pictures.specs.ReferencePictureSet.{found_set, greatest_below, is_among, is_place}
 use Rattle.spec_reference_pictures.specs.ReferencePictureSet.{is_reference, is_sought, lacks_current, long_term_name}

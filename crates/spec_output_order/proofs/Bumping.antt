@@ -1,5 +1,6 @@
 -- What stays in the buffer once pictures went out.
-use Rattle.std.proofs.Common.{ℕ, zero, suc, ◌+◌, ◌≤◌, ◌≡◌, ◌∙◌, Bool, true, false, if◌then◌else◌, List, length, Option}
+use Rattle.std.proofs.Common.{ℕ, zero, suc, ◌+◌, ◌≤◌, ◌≡◌, ◌∙◌, Bool, true, false, if◌then◌else◌, List, length}
+use Rattle.std.proofs.Common.{Option}
 use Rattle.std.proofs.Common.{Some, None, nat_lt, arith, refl}
 use Rattle.std.specs.List.{count_by, filter}
 use Rattle.std.proofs.lemmas.Bool.{ltb-false, or_parts}
@@ -12,7 +13,8 @@ use Rattle.spec_output_order.specs.declared.next_output.NextOutput.{NextOutput}
 use Rattle.spec_output_order.specs.OutputOrder.{all_marked, bumped, discarded, bumped_at_most, ended, entered}
 use Rattle.spec_output_order.specs.OutputOrder.{needs_bumping, is_full, is_kept, next_from, next_output, none_out}
 use Rattle.spec_output_order.specs.OutputOrder.{outputs_of, not_needed_at, started, is_needed_for_output}
-use Rattle.spec_output_order.proofs.Counts.{discarded_marks, entered_marks, few_marked, kept_either, is_marked, lowers}
+use Rattle.spec_output_order.proofs.Counts.{discarded_marks, entered_marks, few_marked, kept_either, is_marked}
+use Rattle.spec_output_order.proofs.Counts.{lowers}
 use Rattle.spec_output_order.proofs.Counts.{none_needed, not_needed_marks}
 
 -- where no picture has to go out, no more are needed for output than may be reordered

@@ -1,6 +1,7 @@
 -- What becomes of each picture that waits: it goes out once, waits on, or was discarded.
 use Rattle.std.proofs.Common.{◌≡◌, ◌≢◌, ◌∙◌, ℕ, zero, suc, ◌+◌, ◌-◌, ◌<◌, ◌≤◌, ◌⊎◌, inl, inr, Bool, true, false, ◌==◌}
-use Rattle.std.proofs.Common.{cond, List, [], ◌∷◌, ◌++◌, length, get_or, Option, Some, None, if◌then◌else◌, arith, refl}
+use Rattle.std.proofs.Common.{cond, List, [], ◌∷◌, ◌++◌, length, get_or, Option, Some, None, if◌then◌else◌, arith}
+use Rattle.std.proofs.Common.{refl}
 use Rattle.std.proofs.Common.{sym, ap, subst, length-append, get_or-set_other, get_or-set_same, length-set}
 use Rattle.std.specs.List.{All, filter}
 use Rattle.std.proofs.lemmas.Bool.{cases_Bool, cases_eq, cases_lt, eq-eqb, ne_eqb, or_left, true≢false}
@@ -14,7 +15,8 @@ use Rattle.plan_types.specs.declared.outputs.Outputs.{Outputs}
 use Rattle.spec_output_order.specs.declared.current_picture.CurrentPicture.{CurrentPicture}
 use Rattle.spec_output_order.specs.OutputOrder.{Bumped, all_marked, bumped, discarded, ended, entered, is_kept}
 use Rattle.spec_output_order.specs.OutputOrder.{kept_from, none_out, not_needed, not_needed_at, outputs_of, started}
-use Rattle.spec_output_order.specs.Waiting.{IsBumping, IsDiscarded, IsInRange, IsQuietAt, IsStill, StaysWaiting, Waits}
+use Rattle.spec_output_order.specs.Waiting.{IsBumping, IsDiscarded, IsInRange, IsQuietAt, IsStill, StaysWaiting}
+use Rattle.spec_output_order.specs.Waiting.{Waits}
 use Rattle.spec_output_order.specs.Waiting.{WaitsAndThen, all_out, picture_at, times_in}
 use Rattle.spec_output_order.proofs.AtOnce.{marked_length}
 use Rattle.spec_output_order.proofs.Counts.{count-cons}

@@ -1,5 +1,6 @@
 -- Bumping: the picture that goes out is first for output, and in the end the buffer has room or no picture waits.
-use Rattle.std.proofs.Common.{◌≡◌, ℕ, zero, suc, ◌≤◌, ◌⊎◌, inl, inr, ◌≤ℤ◌, Bool, true, false, ◌&&◌, cond, List, [], ◌∷◌}
+use Rattle.std.proofs.Common.{◌≡◌, ℕ, zero, suc, ◌≤◌, ◌⊎◌, inl, inr, ◌≤ℤ◌, Bool, true, false, ◌&&◌, cond, List, []}
+use Rattle.std.proofs.Common.{◌∷◌}
 use Rattle.std.proofs.Common.{length, Option, Some, None, if◌then◌else◌, int_le, arith, refl, subst}
 use Rattle.std.specs.List.{count_by}
 use Rattle.std.proofs.lemmas.Bool.{and_parts, and_cases, cases_Bool, true≢false}
@@ -10,7 +11,8 @@ use Rattle.header_types.specs.declared.reference_pictures.DpbPicture.{DpbPicture
 use Rattle.spec_reference_pictures.specs.ReferencePictureSet.{no_picture}
 use Rattle.spec_output_order.specs.declared.next_output.NextOutput.{NextOutput}
 use Rattle.spec_output_order.specs.OutputOrder.{NoneNeededForOutput, bumped, bumped_at_most, is_needed_for_output}
-use Rattle.spec_output_order.specs.OutputOrder.{needs_bumping, next_from, next_output, none_out, not_needed_at, sooner}
+use Rattle.spec_output_order.specs.OutputOrder.{needs_bumping, next_from, next_output, none_out, not_needed_at}
+use Rattle.spec_output_order.specs.OutputOrder.{sooner}
 use Rattle.spec_output_order.specs.Waiting.{IsBumping, IsFirstForOutput, Waits, picture_at}
 use Rattle.spec_output_order.proofs.Counts.{count-cons, lowers, none_of}
 

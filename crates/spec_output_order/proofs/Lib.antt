@@ -7,3 +7,4 @@ pub mod Bounds
 pub mod Room
 pub mod Anew
 pub mod Placed
+pub mod SpecReferencePicturesLemmas

@@ -1,7 +1,7 @@
 -- What of a picture decides its outputs, by its header and its sequence parameter set (C.5.2.2).
 use Rattle.std.specs.Prelude.{ℤ, Bool, false, ◌||◌, ◌==◌, unwrap_or}
 use Rattle.hv_base.specs.declared.nal_types.TheConstants.{CRA_NUT}
-use Rattle.slice_types.specs.declared.slice.SliceHeaderFields.{SliceHeaderFields}
+use Rattle.plan_types.specs.SliceTypes.{SliceHeaderFields}
 use Rattle.header_types.specs.declared.sps.SpsFields.{SpsFields}
 use Rattle.header_types.specs.SequenceParameterSets.{highest_ordering}
 use Rattle.spec_reference_pictures.specs.PictureOrderCount.{begins_anew}

@@ -12,3 +12,4 @@ pub use laws::{
     outputs_name_pictures_of_the_buffer, waiting_pictures_go_out_once,
 };
 pub use next_output::NextOutput;
+pub use plan_types::Outputs;

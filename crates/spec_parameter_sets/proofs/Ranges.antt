@@ -1,5 +1,6 @@
 -- The ranges of the scaling lists that are read.
-use Rattle.std.proofs.Common.{◌≡◌, ℕ, zero, suc, ◌+◌, ◌-◌, ◌*◌, ◌%◌, ◌<◌, ◌≤◌, ℤ, pos, negsuc, ◌+ℤ◌, Bool, true, false}
+use Rattle.std.proofs.Common.{◌≡◌, ℕ, zero, suc, ◌+◌, ◌-◌, ◌*◌, ◌%◌, ◌<◌, ◌≤◌, ℤ, pos, negsuc, ◌+ℤ◌, Bool, true}
+use Rattle.std.proofs.Common.{false}
 use Rattle.std.proofs.Common.{cond, ◌&&◌, List, [], ◌∷◌, ◌++◌, length, replicate, take, drop, slice_index_or, All, Ok}
 use Rattle.std.proofs.Common.{refl, ap, ◌∙◌, append_assoc, length-append, arith}
 use Rattle.std.specs.Prelude.{nat_lt, nat_le, ◌==◌, unsigned_abs}
@@ -11,12 +12,12 @@ use Rattle.std.proofs.lemmas.List.{take_at, drop_at}
 use Rattle.std.proofs.lemmas.List.Elements.{All-cons, All-nil, All-push, All-replicate, All-append, All-weaker}
 use Rattle.std.proofs.lemmas.List.Sums.{AllPass-from_list_all}
 use Rattle.hv_base.specs.declared.field_rules.FieldRules.{FieldRules}
-use Rattle.header_types.specs.declared.scaling.ScalingList.{ScalingList}
-use Rattle.header_types.specs.declared.scaling.ScalingLists.{ScalingLists}
-use Rattle.header_types.specs.Scaling.{IsFactor, IsScalingList, IsScalingLists}
-use Rattle.spec_formats.specs.Format.{when◌then◌else◌}
-use Rattle.spec_formats.specs.Fields.{◌>>=◌, give, is_within, se_within, read}
-use Rattle.spec_formats.proofs.Values.{CanBe, can_be}
+use Rattle.spec_reference_pictures.specs.HeaderTypes.{ScalingList}
+use Rattle.spec_reference_pictures.specs.HeaderTypes.{ScalingLists}
+use Rattle.spec_reference_pictures.specs.HeaderTypes.{IsFactor, IsScalingList, IsScalingLists}
+use Rattle.spec_reference_pictures.specs.SpecFormats.{when◌then◌else◌}
+use Rattle.spec_reference_pictures.specs.SpecFormats.{◌>>=◌, give, is_within, se_within, read}
+use Rattle.spec_reference_pictures.proofs.SpecFormatsLemmas.{CanBe, can_be}
 use Rattle.spec_parameter_sets.specs.declared.tables.TheConstants.{DEFAULT_INTRA, DEFAULT_INTER}
 use Rattle.spec_parameter_sets.specs.Scaling.{list_count, coef_num, default_factors, default_list, predicted_list}
 use Rattle.spec_parameter_sets.specs.Scaling.{next_coef, coded_factor, coded_factors, coded_dc, coded_list}

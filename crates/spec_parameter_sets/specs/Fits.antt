@@ -1,9 +1,9 @@
 -- Whether a picture parameter set agrees with the sequence parameter set that it names (7.4.3.3).
 use Rattle.std.specs.Prelude.{ℕ, ◌+◌, ℤ, pos, neg_ℤ, int_le, Bool, ◌&&◌, nat_le, Option, Some, None}
-use Rattle.header_types.specs.declared.pps.PpsFields.{PpsFields}
-use Rattle.header_types.specs.declared.sps.BlockSizes.{BlockSizes}
-use Rattle.header_types.specs.declared.sps.SpsFields.{SpsFields}
-use Rattle.header_types.specs.SequenceParameterSets.{qp_bd_offset_y}
+use Rattle.spec_reference_pictures.specs.HeaderTypes.{PpsFields}
+use Rattle.spec_reference_pictures.specs.HeaderTypes.{BlockSizes}
+use Rattle.spec_reference_pictures.specs.HeaderTypes.{SpsFields}
+use Rattle.spec_reference_pictures.specs.HeaderTypes.{qp_bd_offset_y}
 
 -- MinCbLog2SizeY
 abbrev pub min_cb_log2_size : BlockSizes → ℕ

@@ -6,8 +6,8 @@ use Rattle.hv_base.specs.declared.breach.Breach.TheVariants as breach
 use Rattle.hv_base.specs.declared.fault.FaultKind.TheVariants as fault
 use Rattle.hv_base.specs.declared.level.LevelMeasure.{LevelMeasure}
 use Rattle.hv_base.specs.declared.level.LevelMeasure.TheVariants as measure
-use Rattle.spec_formats.specs.Format.{wanted}
-use Rattle.spec_formats.specs.Fields.{Header, ◌>>=◌, give}
+use Rattle.spec_reference_pictures.specs.SpecFormats.{wanted}
+use Rattle.spec_reference_pictures.specs.SpecFormats.{Header, ◌>>=◌, give}
 use Rattle.spec_parameter_sets.specs.declared.levels.Level.{Level}
 
 abbrev pub level : ℕ → ℕ → Option Level

@@ -5,3 +5,6 @@ pub mod SequenceParameterSet
 pub mod Fits
 pub mod ProfileTierLevel
 pub mod PictureScaling
+pub mod SpecReferencePictures
+pub mod SpecFormats
+pub mod SpecBits

@@ -4,16 +4,17 @@ use Rattle.hv_base.specs.declared.breach.Breach.{Breach}
 use Rattle.hv_base.specs.declared.breach.Breach.TheVariants as breach
 use Rattle.hv_base.specs.declared.limit.LimitKind.TheVariants as bound
 use Rattle.hv_base.specs.declared.field_rules.TheConstants.{PARAMETER_SET_RULES}
-use Rattle.header_types.specs.declared.pps.DeblockingControl.{DeblockingControl}
-use Rattle.header_types.specs.declared.pps.PpsFields.{PpsFields}
-use Rattle.header_types.specs.declared.pps.PpsFilters.{PpsFilters}
-use Rattle.header_types.specs.declared.pps.PpsIdentity.{PpsIdentity}
-use Rattle.header_types.specs.declared.pps.PpsPrediction.{PpsPrediction}
-use Rattle.header_types.specs.declared.pps.PpsQuantization.{PpsQuantization}
-use Rattle.header_types.specs.declared.pps.PpsSliceDefaults.{PpsSliceDefaults}
-use Rattle.spec_bits.specs.Bits.{bits}
-use Rattle.spec_formats.specs.Format.{wanted}
-use Rattle.spec_formats.specs.Fields.{Header, read, value_of, ◌>>=◌, give, u, flag, ue, ue_to, se_within, optional}
+use Rattle.spec_reference_pictures.specs.HeaderTypes.{DeblockingControl}
+use Rattle.spec_reference_pictures.specs.HeaderTypes.{PpsFields}
+use Rattle.spec_reference_pictures.specs.HeaderTypes.{PpsFilters}
+use Rattle.spec_reference_pictures.specs.HeaderTypes.{PpsIdentity}
+use Rattle.spec_reference_pictures.specs.HeaderTypes.{PpsPrediction}
+use Rattle.spec_reference_pictures.specs.HeaderTypes.{PpsQuantization}
+use Rattle.spec_reference_pictures.specs.HeaderTypes.{PpsSliceDefaults}
+use Rattle.spec_reference_pictures.specs.SpecBits.{bits}
+use Rattle.spec_reference_pictures.specs.SpecFormats.{wanted}
+use Rattle.spec_reference_pictures.specs.SpecFormats.{Header, read, value_of, ◌>>=◌, give, u, flag, ue, ue_to}
+use Rattle.spec_reference_pictures.specs.SpecFormats.{se_within, optional}
 use Rattle.spec_parameter_sets.specs.Scaling.{scaling_list_data}
 
 -- an offset of deblocking, where it isn't disabled

@@ -1,9 +1,9 @@
 -- Which scaling lists a picture uses (7.4.3.2, 7.4.3.3).
 use Rattle.std.specs.Prelude.{Option, Some, None, if◌then◌else◌}
 use Rattle.std.specs.Option.{unwrap_or}
-use Rattle.header_types.specs.declared.pps.PpsFields.{PpsFields}
-use Rattle.header_types.specs.declared.scaling.ScalingLists.{ScalingLists}
-use Rattle.header_types.specs.declared.sps.SpsFields.{SpsFields}
+use Rattle.spec_reference_pictures.specs.HeaderTypes.{PpsFields}
+use Rattle.spec_reference_pictures.specs.HeaderTypes.{ScalingLists}
+use Rattle.spec_reference_pictures.specs.HeaderTypes.{SpsFields}
 use Rattle.spec_parameter_sets.specs.Scaling.{default_lists}
 
 -- the lists that scale a picture: those of its picture parameter set, or else of its sequence parameter set, or else

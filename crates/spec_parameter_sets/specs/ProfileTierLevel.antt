@@ -3,11 +3,11 @@ use Rattle.std.specs.Prelude.{ℕ, zero, suc, ◌+◌, ◌-◌, ◌*◌, ◌/◌
 use Rattle.std.specs.Prelude.{if◌then◌else◌}
 use Rattle.hv_base.specs.declared.breach.Breach.TheVariants as breach
 use Rattle.hv_base.specs.declared.fault.FaultKind.TheVariants as fault
-use Rattle.header_types.specs.declared.profile.Profile.{Profile}
-use Rattle.header_types.specs.declared.profile.ProfileTierLevel.{ProfileTierLevel}
-use Rattle.header_types.specs.declared.profile.SubLayerProfile.{SubLayerProfile}
-use Rattle.spec_formats.specs.Format.{wanted}
-use Rattle.spec_formats.specs.Fields.{Header, ◌>>=◌, give, u, flag, optional, repeated, each}
+use Rattle.spec_reference_pictures.specs.HeaderTypes.{Profile}
+use Rattle.spec_reference_pictures.specs.HeaderTypes.{ProfileTierLevel}
+use Rattle.spec_reference_pictures.specs.HeaderTypes.{SubLayerProfile}
+use Rattle.spec_reference_pictures.specs.SpecFormats.{wanted}
+use Rattle.spec_reference_pictures.specs.SpecFormats.{Header, ◌>>=◌, give, u, flag, optional, repeated, each}
 
 -- profile_compatibility_flag[1]: the second of 32, of which the first is the greatest bit
 abbrev pub compatibility_flag_1 : ℕ → Bool

@@ -1,11 +1,12 @@
 -- scaling_list_data (7.3.4, 7.4.5).
-use Rattle.std.specs.Prelude.{ℕ, zero, suc, ◌-◌, ◌*◌, ◌%◌, ℤ, pos, ◌+ℤ◌, unsigned_abs, List, [], ◌∷◌, ◌++◌, length, map}
+use Rattle.std.specs.Prelude.{ℕ, zero, suc, ◌-◌, ◌*◌, ◌%◌, ℤ, pos, ◌+ℤ◌, unsigned_abs, List, [], ◌∷◌, ◌++◌, length}
+use Rattle.std.specs.Prelude.{map}
 use Rattle.std.specs.Prelude.{replicate, slice_index_or, nat_lt, ◌==◌, if◌then◌else◌}
 use Rattle.std.specs.List.{range_with_len}
-use Rattle.header_types.specs.declared.scaling.ScalingList.{ScalingList}
-use Rattle.header_types.specs.declared.scaling.ScalingLists.{ScalingLists}
-use Rattle.spec_formats.specs.Format.{when◌then◌else◌}
-use Rattle.spec_formats.specs.Fields.{Header, ◌>>=◌, give, ranged, flag, ue_to, se_within}
+use Rattle.spec_reference_pictures.specs.HeaderTypes.{ScalingList}
+use Rattle.spec_reference_pictures.specs.HeaderTypes.{ScalingLists}
+use Rattle.spec_reference_pictures.specs.SpecFormats.{when◌then◌else◌}
+use Rattle.spec_reference_pictures.specs.SpecFormats.{Header, ◌>>=◌, give, ranged, flag, ue_to, se_within}
 use Rattle.spec_parameter_sets.specs.declared.tables.TheConstants.{DEFAULT_INTRA, DEFAULT_INTER}
 
 -- how many lists a sizeId has, one a matrixId

@@ -1,30 +1,32 @@
 -- seq_parameter_set_rbsp up to vui_parameters_present_flag (7.3.2.2, 7.4.3.2).
-use Rattle.std.specs.Prelude.{ℕ, zero, suc, ◌+◌, ◌-◌, ◌*◌, ◌%◌, ◌^◌, min, Bool, true, false, ◌&&◌, ◌==◌, List, [], ◌∷◌}
+use Rattle.std.specs.Prelude.{ℕ, zero, suc, ◌+◌, ◌-◌, ◌*◌, ◌%◌, ◌^◌, min, Bool, true, false, ◌&&◌, ◌==◌, List, []}
+use Rattle.std.specs.Prelude.{◌∷◌}
 use Rattle.std.specs.Prelude.{◌++◌, length, Option, None, Result, nat_lt, nat_le, if◌then◌else◌}
 use Rattle.hv_base.specs.declared.breach.Breach.{Breach}
 use Rattle.hv_base.specs.declared.breach.Breach.TheVariants as breach
 use Rattle.hv_base.specs.declared.fault.FaultKind.TheVariants as fault
 use Rattle.hv_base.specs.declared.field_rules.TheConstants.{PARAMETER_SET_RULES}
 use Rattle.hv_base.specs.declared.limit.LimitKind.TheVariants as bound
-use Rattle.header_types.specs.declared.profile.Profile.{Profile}
-use Rattle.header_types.specs.declared.scaling.ScalingLists.{ScalingLists}
-use Rattle.header_types.specs.declared.short_term_set.StRps.{StRps}
-use Rattle.header_types.specs.declared.sps.BlockSizes.{BlockSizes}
-use Rattle.header_types.specs.declared.sps.ConformanceWindow.{ConformanceWindow}
-use Rattle.header_types.specs.declared.sps.LongTermCandidate.{LongTermCandidate}
-use Rattle.header_types.specs.declared.sps.PcmFormat.{PcmFormat}
-use Rattle.header_types.specs.declared.sps.PictureFormat.{PictureFormat}
-use Rattle.header_types.specs.declared.sps.SpsFields.{SpsFields}
-use Rattle.header_types.specs.declared.sps.SpsIdentity.{SpsIdentity}
-use Rattle.header_types.specs.declared.sps.SpsOrder.{SpsOrder}
-use Rattle.header_types.specs.declared.sps.SpsReferences.{SpsReferences}
-use Rattle.header_types.specs.declared.sps.SpsTools.{SpsTools}
-use Rattle.header_types.specs.declared.sps.SubLayerOrdering.{SubLayerOrdering}
-use Rattle.header_types.specs.SequenceParameterSets.{min_cb_log2, ctb_log2, highest_ordering}
-use Rattle.spec_bits.specs.Bits.{bits}
-use Rattle.spec_formats.specs.Format.{wanted}
-use Rattle.spec_formats.specs.Fields.{Header, read, value_of, ◌>>=◌, give, ranged, u, flag, ue, ue_to, optional}
-use Rattle.spec_formats.specs.Fields.{repeated}
+use Rattle.spec_reference_pictures.specs.HeaderTypes.{Profile}
+use Rattle.spec_reference_pictures.specs.HeaderTypes.{ScalingLists}
+use Rattle.spec_reference_pictures.specs.HeaderTypes.{StRps}
+use Rattle.spec_reference_pictures.specs.HeaderTypes.{BlockSizes}
+use Rattle.spec_reference_pictures.specs.HeaderTypes.{ConformanceWindow}
+use Rattle.spec_reference_pictures.specs.HeaderTypes.{LongTermCandidate}
+use Rattle.spec_reference_pictures.specs.HeaderTypes.{PcmFormat}
+use Rattle.spec_reference_pictures.specs.HeaderTypes.{PictureFormat}
+use Rattle.spec_reference_pictures.specs.HeaderTypes.{SpsFields}
+use Rattle.spec_reference_pictures.specs.HeaderTypes.{SpsIdentity}
+use Rattle.spec_reference_pictures.specs.HeaderTypes.{SpsOrder}
+use Rattle.spec_reference_pictures.specs.HeaderTypes.{SpsReferences}
+use Rattle.spec_reference_pictures.specs.HeaderTypes.{SpsTools}
+use Rattle.spec_reference_pictures.specs.HeaderTypes.{SubLayerOrdering}
+use Rattle.spec_reference_pictures.specs.HeaderTypes.{min_cb_log2, ctb_log2, highest_ordering}
+use Rattle.spec_reference_pictures.specs.SpecBits.{bits}
+use Rattle.spec_reference_pictures.specs.SpecFormats.{wanted}
+use Rattle.spec_reference_pictures.specs.SpecFormats.{Header, read, value_of, ◌>>=◌, give, ranged, u, flag, ue, ue_to}
+use Rattle.spec_reference_pictures.specs.SpecFormats.{optional}
+use Rattle.spec_reference_pictures.specs.SpecFormats.{repeated}
 use Rattle.spec_parameter_sets.specs.Levels.{level_kept}
 use Rattle.spec_parameter_sets.specs.ProfileTierLevel.{greatest_depth_minus8, profile_tier_level}
 use Rattle.spec_parameter_sets.specs.Scaling.{scaling_list_data}

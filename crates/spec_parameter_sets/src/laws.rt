@@ -1,12 +1,12 @@
 //! Laws of the definitions.
 
 ghost use Rattle.std.specs.Prelude.{◌≡◌, ℕ, Bool, IfSome, List, Ok};
-ghost use Rattle.header_types.specs.declared.scaling.ScalingLists.{ScalingLists};
-ghost use Rattle.header_types.specs.Scaling.{IsScalingLists};
+ghost use Rattle.spec_reference_pictures.specs.HeaderTypes.{ScalingLists};
+ghost use Rattle.spec_reference_pictures.specs.HeaderTypes.{IsScalingLists};
 ghost use Rattle.hv_base.specs.declared.field_rules.TheConstants.{PARAMETER_SET_RULES};
-ghost use Rattle.spec_formats.specs.Fields.{field_at, read};
-ghost use Rattle.spec_formats.specs.Format.{IsSpelledAs};
-ghost use Rattle.spec_formats.specs.Locality.{IsLocal};
+ghost use Rattle.spec_reference_pictures.specs.SpecFormats.{field_at, read};
+ghost use Rattle.spec_reference_pictures.specs.SpecFormats.{IsSpelledAs};
+ghost use Rattle.spec_reference_pictures.specs.SpecFormats.{IsLocal};
 ghost use Rattle.spec_parameter_sets.specs.Levels.{HasGreatestSide, level_of};
 ghost use Rattle.spec_parameter_sets.specs.PictureParameterSet.{picture_parameter_set};
 ghost use Rattle.spec_parameter_sets.specs.Scaling.{scaling_list_data};

@@ -1,8 +1,8 @@
 -- The samples of a picture, and those of them that are known beside a coding tree unit (6.4.1).
 use Rattle.std.specs.Prelude.{ℕ, ◌+◌, ◌-◌, ◌*◌, ◌^◌, ◌&&◌, nat_le, nat_lt, Bool, Option, Some, None, if◌then◌else◌}
-use Rattle.spec_picture_trees.specs.Places.{may_be_read}
-use Rattle.spec_slice_data.specs.Residual.{samples_of_place}
-use Rattle.spec_slice_data.specs.Segment.{PictureShape, column_of, row_of}
+use Rattle.spec_picture_motion.specs.SpecPictureTrees.{may_be_read}
+use Rattle.spec_reconstruction.specs.SpecSliceData.{samples_of_place}
+use Rattle.spec_reconstruction.specs.SpecSliceData.{PictureShape, column_of, row_of}
 use Rattle.spec_reconstruction.specs.Known.{Known}
 
 -- by component, column and line, counted from 0; 0 outside the picture

@@ -4,15 +4,15 @@ use Rattle.std.specs.Prelude.{ℕ, ◌+◌, ◌-◌, ◌==◌, ◌&&◌, Bool, L
 use Rattle.std.specs.Prelude.{if◌then◌else◌}
 use Rattle.std.specs.Option.{unwrap_or}
 use Rattle.std.specs.List.{fold}
-use Rattle.plan_types.specs.declared.segment_plan.SegmentPlan.{SegmentPlan}
-use Rattle.plan_types.specs.declared.picture_plan.PicturePlan.{PicturePlan}
-use Rattle.spec_slice_data.specs.Segment.{PictureShape}
-use Rattle.spec_picture_trees.specs.Picture.{TreeUnit, PictureBroken, Progress, Halt, picture_read}
-use Rattle.plan_types.specs.Segments.{address_of}
-use Rattle.spec_picture_trees.specs.Shapes.{picture_shape, slice_start}
+use Rattle.spec_picture_motion.specs.PlanTypes.{SegmentPlan}
+use Rattle.spec_picture_motion.specs.PlanTypes.{PicturePlan}
+use Rattle.spec_reconstruction.specs.SpecSliceData.{PictureShape}
+use Rattle.spec_picture_motion.specs.SpecPictureTrees.{TreeUnit, PictureBroken, Progress, Halt, picture_read}
+use Rattle.spec_picture_motion.specs.PlanTypes.{address_of}
+use Rattle.spec_picture_motion.specs.SpecPictureTrees.{picture_shape, slice_start}
 use Rattle.spec_picture_motion.specs.Derived.{known_of_unit}
 use Rattle.spec_picture_motion.specs.Derived as motion
-use Rattle.spec_picture_trees.specs.Places.{first_column, first_row, unit_at}
+use Rattle.spec_picture_motion.specs.SpecPictureTrees.{first_column, first_row, unit_at}
 use Rattle.spec_picture_motion.specs.Field.{Motions, no_motions}
 use Rattle.spec_picture_motion.specs.Slices.{slice_motion}
 use Rattle.spec_reconstruction.specs.Inter.{InterUnit}

@@ -1,10 +1,10 @@
 -- What the samples of a slice's coding tree units depend on (7.4.3.2, 7.4.3.3, 7.4.7.1).
 use Rattle.std.specs.Prelude.{◌+◌, ◌+ℤ◌, true, false}
-use Rattle.header_types.specs.declared.sps.SpsFields.{SpsFields}
-use Rattle.header_types.specs.declared.pps.PpsFields.{PpsFields}
-use Rattle.slice_types.specs.declared.slice.SliceFields.{SliceFields}
-use Rattle.spec_parameter_sets.specs.PictureScaling.{picture_scaling_lists}
-use Rattle.spec_picture_trees.specs.Shapes.{pcm_syntax}
+use Rattle.spec_reconstruction.specs.HeaderTypes.{SpsFields}
+use Rattle.spec_reconstruction.specs.HeaderTypes.{PpsFields}
+use Rattle.spec_picture_motion.specs.SliceTypes.{SliceFields}
+use Rattle.spec_picture_motion.specs.SpecParameterSets.{picture_scaling_lists}
+use Rattle.spec_picture_motion.specs.SpecPictureTrees.{pcm_syntax}
 use Rattle.spec_reconstruction.specs.declared.format.UnitFormat.{UnitFormat}
 use Rattle.spec_reconstruction.specs.Factors.{scaling_factors}
 

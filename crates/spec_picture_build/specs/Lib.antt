@@ -4,3 +4,10 @@ pub mod Weights
 pub mod References
 pub mod Built
 pub mod Output
+pub mod SpecPictureMotion
+pub mod SpecPictureTrees
+pub mod PlanTypes
+pub mod SpecReconstruction
+pub mod SpecSliceHeaders
+pub mod SliceTypes
+pub mod SpecSliceData

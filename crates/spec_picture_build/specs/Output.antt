@@ -3,9 +3,9 @@
 use Rattle.std.specs.Prelude.{ℕ, ◌+◌, ◌*◌, ◌/◌, ◌%◌, ◌==◌, ◌||◌, nat_lt, Bool, List, [], ◌∷◌, ◌++◌, map, Option, Some}
 use Rattle.std.specs.Prelude.{None, if◌then◌else◌}
 use Rattle.std.specs.List.{concat, flat_map, range_with_len}
-use Rattle.header_types.specs.declared.sps.ConformanceWindow.{ConformanceWindow}
-use Rattle.header_types.specs.declared.sps.PictureFormat.{PictureFormat}
-use Rattle.header_types.specs.SequenceParameterSets.{cropped_width, cropped_height}
+use Rattle.spec_reconstruction.specs.HeaderTypes.{ConformanceWindow}
+use Rattle.spec_reconstruction.specs.HeaderTypes.{PictureFormat}
+use Rattle.spec_reconstruction.specs.HeaderTypes.{cropped_width, cropped_height}
 use Rattle.spec_picture_build.specs.Border.{Samples}
 
 -- the samples of a component that go out: the first column and the first line, how many of each, and whether a sample

@@ -1,7 +1,7 @@
 -- Decoded pictures, and their samples as later pictures refer to them (8.5.3.3.3).
 use Rattle.std.specs.Prelude.{ℕ, ◌+◌, ◌-◌, ◌/◌, ◌^◌, ◌==◌, ℤ, min, List, slice_get, Option, Some, None, if◌then◌else◌}
-use Rattle.header_types.specs.declared.sps.PictureFormat.{PictureFormat}
-use Rattle.spec_inter_prediction.specs.Taps.{clamped}
+use Rattle.spec_reconstruction.specs.HeaderTypes.{PictureFormat}
+use Rattle.spec_reconstruction.specs.SpecInterPrediction.{clamped}
 use Rattle.spec_picture_motion.specs.Derived.{References}
 use Rattle.spec_picture_motion.specs.Field.{Motions, no_motions}
 use Rattle.spec_reconstruction.specs.Inter.{Pictures}

@@ -1,21 +1,22 @@
 -- The weights of a slice's reference pictures (7.4.7.3). Each number is held to its range, in which those that are read
 -- are.
-use Rattle.std.specs.Prelude.{ℕ, ◌^◌, ℤ, pos, negsuc, ◌+ℤ◌, ◌-ℤ◌, ◌*ℤ◌, min, nat_lt, List, length, map, slice_index_or}
+use Rattle.std.specs.Prelude.{ℕ, ◌^◌, ℤ, pos, negsuc, ◌+ℤ◌, ◌-ℤ◌, ◌*ℤ◌, min, nat_lt, List, length, map}
+use Rattle.std.specs.Prelude.{slice_index_or}
 use Rattle.std.specs.Prelude.{Option, Some, None, if◌then◌else◌}
 use Rattle.std.specs.Int.{int_shr}
 use Rattle.std.specs.List.{range_with_len}
-use Rattle.spec_arithmetic.specs.Clipping.{clip3, clip3_from_zero}
-use Rattle.slice_types.specs.declared.slice.InterFields.{InterFields}
-use Rattle.slice_types.specs.declared.weights.ChromaWeight.{ChromaWeight}
-use Rattle.slice_types.specs.declared.weights.LumaWeight.{LumaWeight}
-use Rattle.slice_types.specs.declared.weights.PredWeightTable.{PredWeightTable}
-use Rattle.slice_types.specs.declared.weights.RefWeights.{RefWeights}
-use Rattle.spec_inter_prediction.specs.declared.tables.ReferenceWeights.{ReferenceWeights}
-use Rattle.spec_inter_prediction.specs.declared.tables.SliceWeighting.{SliceWeighting}
-use Rattle.spec_inter_prediction.specs.declared.tables.SliceWeighting.TheVariants.{Default, Explicit}
-use Rattle.spec_inter_prediction.specs.declared.tables.WeightTable.{WeightTable}
-use Rattle.spec_inter_prediction.specs.declared.weighting.Weight.{Weight}
-use Rattle.spec_inter_prediction.specs.Tables.{no_weights}
+use Rattle.spec_reconstruction.specs.SpecArithmetic.{clip3, clip3_from_zero}
+use Rattle.spec_picture_motion.specs.SliceTypes.{InterFields}
+use Rattle.spec_picture_motion.specs.SliceTypes.{ChromaWeight}
+use Rattle.spec_picture_motion.specs.SliceTypes.{LumaWeight}
+use Rattle.spec_picture_motion.specs.SliceTypes.{PredWeightTable}
+use Rattle.spec_picture_motion.specs.SliceTypes.{RefWeights}
+use Rattle.spec_reconstruction.specs.SpecInterPrediction.{ReferenceWeights}
+use Rattle.spec_reconstruction.specs.SpecInterPrediction.{SliceWeighting}
+use Rattle.spec_reconstruction.specs.SpecInterPrediction.{Default, Explicit}
+use Rattle.spec_reconstruction.specs.SpecInterPrediction.{WeightTable}
+use Rattle.spec_reconstruction.specs.SpecInterPrediction.{Weight}
+use Rattle.spec_reconstruction.specs.SpecInterPrediction.{no_weights}
 
 -- luma_log2_weight_denom and ChromaLog2WeightDenom
 abbrev pub luma_denominator : PredWeightTable → ℕ

@@ -1,2 +1,4 @@
 pub mod Threaded
 pub mod Quiet
+pub mod SpecLoopFiltersLemmas
+pub mod SpecSampleAdaptiveOffsetLemmas

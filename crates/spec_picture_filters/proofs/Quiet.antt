@@ -4,24 +4,24 @@ use Rattle.std.proofs.lemmas.Bool.Decides.{nat_tests}
 use Rattle.std.proofs.lemmas.List.Elements.{All-get_or, All-head, All-tail}
 use Rattle.std.proofs.lemmas.Option.{get_or_from_slice_get, slice_get_within}
 use Rattle.std.specs.List.{fold, slice_get}
-use Rattle.ctu_records.specs.declared.item.Item.{Item}
-use Rattle.ctu_records.specs.declared.offset.ComponentOffset.TheVariants.{Off}
-use Rattle.ctu_records.specs.declared.offset.Sao.{Sao}
-use Rattle.slice_types.specs.declared.slice.SliceDeblocking.{SliceDeblocking}
-use Rattle.plan_types.specs.declared.segment_plan.SegmentPlan.{SegmentPlan}
-use Rattle.plan_types.specs.declared.picture_plan.PicturePlan.{PicturePlan}
+use Rattle.spec_boundary_strengths.specs.CtuRecords.{Item}
+use Rattle.spec_boundary_strengths.specs.CtuRecords.{Off}
+use Rattle.spec_boundary_strengths.specs.CtuRecords.{Sao}
+use Rattle.spec_picture_motion.specs.SliceTypes.{SliceDeblocking}
+use Rattle.spec_picture_motion.specs.PlanTypes.{SegmentPlan}
+use Rattle.spec_picture_motion.specs.PlanTypes.{PicturePlan}
 use Rattle.spec_boundary_strengths.specs.declared.place.UnitPlace.{UnitPlace}
 use Rattle.spec_boundary_strengths.specs.Places.{unit_place}
 use Rattle.spec_boundary_strengths.specs.Strengths.{Beside, left_strength, top_strength}
-use Rattle.spec_deblocking.specs.declared.place.Place.{Place}
+use Rattle.spec_loop_filters.specs.SpecDeblocking.{Place}
 use Rattle.spec_loop_filters.proofs.Unchanged.{final_same}
 use Rattle.spec_loop_filters.specs.Filters.{Samples}
-use Rattle.spec_picture_trees.specs.Picture.{TreeUnit}
+use Rattle.spec_picture_motion.specs.SpecPictureTrees.{TreeUnit}
 use Rattle.spec_picture_motion.specs.Derived.{References}
 use Rattle.spec_picture_motion.specs.Field.{Motions}
-use Rattle.spec_sample_adaptive_offset.specs.declared.unit.OffsetUnit.{OffsetUnit}
-use Rattle.spec_slice_data.specs.Offset.{no_sao}
-use Rattle.spec_slice_data.specs.Segment.{PictureShape}
+use Rattle.spec_loop_filters.specs.SpecSampleAdaptiveOffset.{OffsetUnit}
+use Rattle.spec_picture_motion.specs.SpecSliceData.{no_sao}
+use Rattle.spec_picture_motion.specs.SpecSliceData.{PictureShape}
 use Rattle.spec_picture_filters.specs.Data.{FilterData, no_data}
 use Rattle.spec_picture_filters.specs.Disabled.{AreDisabled, HasNoOffset, IsDisabled}
 use Rattle.spec_picture_filters.specs.Filtered.{Behind, added_in, before_units, both_added, filtered, loop_filters}

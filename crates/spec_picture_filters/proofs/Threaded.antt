@@ -1,9 +1,9 @@
 -- Motion beside which filter data are gathered.
 use Rattle.std.proofs.Common.{◌≡◌, refl, ap, ◌∙◌, List, [], ◌∷◌, Option, Some, None}
 use Rattle.std.specs.List.{fold}
-use Rattle.plan_types.specs.declared.segment_plan.SegmentPlan.{SegmentPlan}
-use Rattle.plan_types.specs.declared.picture_plan.PicturePlan.{PicturePlan}
-use Rattle.spec_picture_trees.specs.Picture.{TreeUnit}
+use Rattle.spec_picture_motion.specs.PlanTypes.{SegmentPlan}
+use Rattle.spec_picture_motion.specs.PlanTypes.{PicturePlan}
+use Rattle.spec_picture_motion.specs.SpecPictureTrees.{TreeUnit}
 use Rattle.spec_picture_motion.specs.Derived.{
   References,
   units_derived,

@@ -1,8 +1,8 @@
 -- What the loop filters of a picture need of it, by the coding tree units that are read so far (8.7).
 use Rattle.std.specs.Prelude.{ℕ, pos, Bool, true, false}
-use Rattle.ctu_records.specs.declared.offset.ComponentOffset.TheVariants.{Off}
-use Rattle.spec_deblocking.specs.declared.place.Place.{Place}
-use Rattle.spec_sample_adaptive_offset.specs.declared.unit.OffsetUnit.{OffsetUnit}
+use Rattle.spec_boundary_strengths.specs.CtuRecords.{Off}
+use Rattle.spec_loop_filters.specs.SpecDeblocking.{Place}
+use Rattle.spec_loop_filters.specs.SpecSampleAdaptiveOffset.{OffsetUnit}
 
 -- places of 4x4 luma samples by column and row, counted from 0: what deblocking asks, and whether their luma transform
 -- blocks have levels that aren't 0; and components of coding tree units by the component and the unit's column and row

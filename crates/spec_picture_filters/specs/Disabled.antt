@@ -1,8 +1,8 @@
 -- Pictures without loop filters.
 use Rattle.std.specs.Prelude.{◌≡◌, true, List, All}
-use Rattle.plan_types.specs.declared.segment_plan.SegmentPlan.{SegmentPlan}
-use Rattle.spec_picture_trees.specs.Picture.{TreeUnit}
-use Rattle.spec_slice_data.specs.Offset.{no_sao}
+use Rattle.spec_picture_motion.specs.PlanTypes.{SegmentPlan}
+use Rattle.spec_picture_motion.specs.SpecPictureTrees.{TreeUnit}
+use Rattle.spec_picture_motion.specs.SpecSliceData.{no_sao}
 
 -- slice_deblocking_filter_disabled_flag of a segment's slice is 1
 abbrev pub IsDisabled : SegmentPlan → Type 0

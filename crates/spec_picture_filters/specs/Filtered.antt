@@ -1,12 +1,12 @@
 -- The samples of a picture behind its loop filters, by what was read of its coding tree units (8.7).
 use Rattle.std.specs.Prelude.{◌+◌, List, Option, Some, None, slice_get}
 use Rattle.std.specs.List.{fold}
-use Rattle.header_types.specs.SequenceParameterSets.{ctb_size}
-use Rattle.plan_types.specs.declared.segment_plan.SegmentPlan.{SegmentPlan}
-use Rattle.plan_types.specs.declared.picture_plan.PicturePlan.{PicturePlan}
+use Rattle.spec_picture_motion.specs.HeaderTypes.{ctb_size}
+use Rattle.spec_picture_motion.specs.PlanTypes.{SegmentPlan}
+use Rattle.spec_picture_motion.specs.PlanTypes.{PicturePlan}
 use Rattle.spec_loop_filters.specs.declared.format.FilterFormat.{FilterFormat}
 use Rattle.spec_loop_filters.specs.Filters.{LoopFilters, Samples, final_samples}
-use Rattle.spec_picture_trees.specs.Picture.{TreeUnit}
+use Rattle.spec_picture_motion.specs.SpecPictureTrees.{TreeUnit}
 use Rattle.spec_picture_motion.specs.Derived.{References, unit_added as motion_added}
 use Rattle.spec_picture_motion.specs.Field.{Motions, no_motions}
 use Rattle.spec_picture_filters.specs.Data.{FilterData, no_data}

@@ -1,29 +1,30 @@
 -- What a coding tree unit adds to what the loop filters of its picture need (8.7.2, 8.7.3).
-use Rattle.std.specs.Prelude.{ℕ, ◌+◌, ◌-◌, ◌==◌, ℤ, pos, negsuc, Bool, false, ◌&&◌, ◌||◌, nat_le, nat_lt, List, Option}
+use Rattle.std.specs.Prelude.{ℕ, ◌+◌, ◌-◌, ◌==◌, ℤ, pos, negsuc, Bool, false, ◌&&◌, ◌||◌, nat_le, nat_lt, List}
+use Rattle.std.specs.Prelude.{Option}
 use Rattle.std.specs.Prelude.{Some, None, if◌then◌else◌}
-use Rattle.spec_arithmetic.specs.Clipping.{clip3}
-use Rattle.block_geometry.specs.CodingTreeBlocks.{is_from}
-use Rattle.ctu_records.specs.declared.item.Item.{Item}
-use Rattle.ctu_records.specs.declared.offset.ComponentOffset.{ComponentOffset}
-use Rattle.ctu_records.specs.declared.offset.Sao.{Sao}
-use Rattle.ctu_records.specs.Tree.{Ctu}
-use Rattle.slice_types.specs.declared.slice.SliceDeblocking.{SliceDeblocking}
-use Rattle.header_types.specs.declared.sps.PcmFormat.{PcmFormat}
-use Rattle.header_types.specs.SequenceParameterSets.{height_in_ctbs}
-use Rattle.plan_types.specs.declared.segment_plan.SegmentPlan.{SegmentPlan}
-use Rattle.plan_types.specs.declared.picture_plan.PicturePlan.{PicturePlan}
-use Rattle.picture_buffer.specs.declared.place_motion.PlaceMotion.{PlaceMotion}
+use Rattle.spec_picture_motion.specs.SpecArithmetic.{clip3}
+use Rattle.spec_loop_filters.specs.BlockGeometry.{is_from}
+use Rattle.spec_boundary_strengths.specs.CtuRecords.{Item}
+use Rattle.spec_boundary_strengths.specs.CtuRecords.{ComponentOffset}
+use Rattle.spec_boundary_strengths.specs.CtuRecords.{Sao}
+use Rattle.spec_boundary_strengths.specs.CtuRecords.{Ctu}
+use Rattle.spec_picture_motion.specs.SliceTypes.{SliceDeblocking}
+use Rattle.spec_picture_motion.specs.HeaderTypes.{PcmFormat}
+use Rattle.spec_picture_motion.specs.HeaderTypes.{height_in_ctbs}
+use Rattle.spec_picture_motion.specs.PlanTypes.{SegmentPlan}
+use Rattle.spec_picture_motion.specs.PlanTypes.{PicturePlan}
+use Rattle.spec_picture_motion.specs.PictureBuffer.{PlaceMotion}
 use Rattle.spec_boundary_strengths.specs.declared.place.UnitPlace.{UnitPlace}
 use Rattle.spec_boundary_strengths.specs.Places.{unit_place}
 use Rattle.spec_boundary_strengths.specs.Strengths.{Beside}
-use Rattle.spec_deblocking.specs.declared.place.Place.{Place}
-use Rattle.spec_picture_trees.specs.Picture.{TreeUnit}
-use Rattle.plan_types.specs.Segments.{address_of}
-use Rattle.spec_picture_trees.specs.Shapes.{picture_shape, qp_bd_offset, slice_start}
-use Rattle.spec_picture_trees.specs.Places.{first_column, first_row, is_of_unit, is_there}
+use Rattle.spec_loop_filters.specs.SpecDeblocking.{Place}
+use Rattle.spec_picture_motion.specs.SpecPictureTrees.{TreeUnit}
+use Rattle.spec_picture_motion.specs.PlanTypes.{address_of}
+use Rattle.spec_picture_motion.specs.SpecPictureTrees.{picture_shape, qp_bd_offset, slice_start}
+use Rattle.spec_picture_motion.specs.SpecPictureTrees.{first_column, first_row, is_of_unit, is_there}
 use Rattle.spec_picture_motion.specs.Field.{Motions}
-use Rattle.spec_sample_adaptive_offset.specs.declared.unit.OffsetUnit.{OffsetUnit}
-use Rattle.spec_slice_data.specs.Segment.{PictureShape, column_of, row_of}
+use Rattle.spec_loop_filters.specs.SpecSampleAdaptiveOffset.{OffsetUnit}
+use Rattle.spec_picture_motion.specs.SpecSliceData.{PictureShape, column_of, row_of}
 use Rattle.spec_picture_filters.specs.Data.{FilterData}
 
 -- the address of the first unit of a segment's slice

@@ -1,9 +1,9 @@
 //! What follows from the definitions.
 
 ghost use Rattle.std.specs.Prelude.{◌≡◌, ℕ, true, List, All};
-ghost use Rattle.plan_types.specs.declared.picture_plan.PicturePlan.{PicturePlan};
+ghost use Rattle.spec_picture_motion.specs.PlanTypes.{PicturePlan};
 ghost use Rattle.spec_loop_filters.specs.Filters.{Samples};
-ghost use Rattle.spec_picture_trees.specs.Picture.{TreeUnit};
+ghost use Rattle.spec_picture_motion.specs.SpecPictureTrees.{TreeUnit};
 ghost use Rattle.spec_picture_motion.specs.Derived.{References, units_derived};
 ghost use Rattle.spec_picture_filters.specs.Filtered.{filtered, units_behind, units_filtered};
 ghost use Rattle.spec_picture_filters.specs.Disabled.{AreDisabled, HasNoOffset};

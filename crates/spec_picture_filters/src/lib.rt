@@ -5,3 +5,4 @@
 mod laws;
 
 pub use laws::{motion_is_threaded, pictures_without_filters_keep_their_samples};
+pub use spec_loop_filters::{FilterFormat, Place};

@@ -2,12 +2,12 @@
 use Rattle.std.proofs.Common.{◌≡◌, ℕ, ◌+◌, ◌*◌, ◌<◌, ◌≤◌, ◌&&◌, cond, nat_lt, Bool, true, false, Option, None, refl}
 use Rattle.std.proofs.Common.{arith}
 use Rattle.std.proofs.lemmas.Bool.Decides.{nat_tests}
-use Rattle.ctu_records.specs.declared.prediction.Rectangle.{Rectangle}
-use Rattle.spec_motion.specs.declared.slice_motion.SliceMotion.{SliceMotion}
-use Rattle.spec_motion.specs.Temporal.{bottom_right, centre, temporal_mv}
+use Rattle.spec_picture_trees.specs.CtuRecords.{Rectangle}
+use Rattle.picture_buffer.specs.SpecMotion.{SliceMotion}
+use Rattle.picture_buffer.specs.SpecMotion.{bottom_right, centre, temporal_mv}
 use Rattle.spec_picture_motion.specs.Field.{Motions, beneath_unit, blocks_from}
 use Rattle.spec_picture_trees.specs.Places.{unit_places}
-use Rattle.spec_slice_data.specs.Segment.{PictureShape}
+use Rattle.spec_picture_trees.specs.SpecSliceData.{PictureShape}
 
 known_at : (picture : PictureShape) (address : ℕ) (motions : Motions) (column row : ℕ)
     → 4 * column ≤ unit_places picture → 4 * row < unit_places picture

@@ -1,15 +1,15 @@
 -- The motion of a picture, by what was read of its coding tree units and the pictures that it refers to (8.5.3.2).
 use Rattle.std.specs.Prelude.{ℕ, List, Option, Some, None, slice_get}
 use Rattle.std.specs.List.{fold}
-use Rattle.header_types.specs.declared.reference_pictures.RefEntry.{RefEntry}
-use Rattle.plan_types.specs.declared.segment_plan.SegmentPlan.{SegmentPlan}
-use Rattle.plan_types.specs.declared.picture_plan.PicturePlan.{PicturePlan}
-use Rattle.spec_motion.specs.Vectors.{Known}
-use Rattle.spec_motion.specs.Units.{unit_derived}
+use Rattle.slice_types.specs.HeaderTypes.{RefEntry}
+use Rattle.spec_picture_trees.specs.PlanTypes.{SegmentPlan}
+use Rattle.spec_picture_trees.specs.PlanTypes.{PicturePlan}
+use Rattle.picture_buffer.specs.SpecMotion.{Known}
+use Rattle.picture_buffer.specs.SpecMotion.{unit_derived}
 use Rattle.spec_picture_trees.specs.Picture.{TreeUnit}
-use Rattle.plan_types.specs.Segments.{address_of}
+use Rattle.spec_picture_trees.specs.PlanTypes.{address_of}
 use Rattle.spec_picture_trees.specs.Shapes.{picture_shape, slice_start}
-use Rattle.spec_slice_data.specs.Segment.{PictureShape}
+use Rattle.spec_picture_trees.specs.SpecSliceData.{PictureShape}
 use Rattle.spec_picture_motion.specs.Field.{Motions, no_motions, known_beside, beneath_unit, unit_laid}
 use Rattle.spec_picture_motion.specs.Slices.{collocated_entry, slice_motion}
 

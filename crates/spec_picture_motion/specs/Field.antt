@@ -2,16 +2,16 @@
 -- picture takes of it (8.5.3.2.9). A place is a block of 4x4 luma samples.
 use Rattle.std.specs.Prelude.{ℕ, ◌+◌, ◌-◌, ◌*◌, ◌==◌, ◌&&◌, ◌||◌, nat_le, nat_lt, Bool, Option, Some, None}
 use Rattle.std.specs.Prelude.{if◌then◌else◌}
-use Rattle.spec_motion.specs.declared.collocation.Collocated.{Collocated}
-use Rattle.spec_motion.specs.declared.collocation.CollocatedVector.{CollocatedVector}
-use Rattle.spec_motion.specs.declared.slice_motion.SliceMotion.{SliceMotion}
-use Rattle.spec_motion.specs.declared.vectors.Motion.{Motion}
-use Rattle.spec_motion.specs.declared.vectors.Vector.{Vector}
-use Rattle.spec_motion.specs.Vectors.{Beneath, Known, reference_in}
+use Rattle.picture_buffer.specs.SpecMotion.{Collocated}
+use Rattle.picture_buffer.specs.SpecMotion.{CollocatedVector}
+use Rattle.picture_buffer.specs.SpecMotion.{SliceMotion}
+use Rattle.picture_buffer.specs.SpecMotion.{Motion}
+use Rattle.picture_buffer.specs.SpecMotion.{Vector}
+use Rattle.picture_buffer.specs.SpecMotion.{Beneath, Known, reference_in}
 use Rattle.picture_buffer.specs.declared.place_motion.PlaceMotion.{PlaceMotion}
 use Rattle.picture_buffer.specs.declared.place_motion.PlaceVector.{PlaceVector}
 use Rattle.spec_picture_trees.specs.Places.{first_column, first_row, is_available, is_of_unit, unit_places}
-use Rattle.spec_slice_data.specs.Segment.{PictureShape}
+use Rattle.spec_picture_trees.specs.SpecSliceData.{PictureShape}
 
 -- by column and row of places, counted from 0; None outside the picture, where nothing is derived yet, and where a
 -- place is predicted in intra mode

@@ -1,3 +1,12 @@
 pub mod Field
 pub mod Slices
 pub mod Derived
+pub mod SpecPictureTrees
+pub mod PlanTypes
+pub mod SliceTypes
+pub mod SpecParameterSets
+pub mod SpecSliceData
+pub mod PictureBuffer
+pub mod SpecArithmetic
+pub mod HeaderTypes
+pub mod SpecSliceHeaders

@@ -2,22 +2,22 @@
 use Rattle.std.specs.Prelude.{ℕ, ◌+◌, ◌-◌, ℤ, pos, Bool, true, false, List, [], map, length, min, nat_lt, slice_get}
 use Rattle.std.specs.Prelude.{slice_index_or, Option, Some, None, option_and_then, if◌then◌else◌}
 use Rattle.std.specs.List.{range_with_len}
-use Rattle.header_types.specs.declared.pps.PpsFields.{PpsFields}
-use Rattle.header_types.specs.declared.reference_pictures.Lists.{Lists}
-use Rattle.header_types.specs.declared.reference_pictures.RefEntry.{RefEntry}
+use Rattle.slice_types.specs.HeaderTypes.{PpsFields}
+use Rattle.slice_types.specs.HeaderTypes.{Lists}
+use Rattle.slice_types.specs.HeaderTypes.{RefEntry}
 use Rattle.slice_types.specs.declared.slice.Collocated.{Collocated}
 use Rattle.slice_types.specs.declared.slice.InterFields.{InterFields}
 use Rattle.slice_types.specs.declared.slice.SliceFields.{SliceFields}
 use Rattle.slice_types.specs.declared.slice.SliceType.{SliceType}
 use Rattle.slice_types.specs.declared.slice.SliceType.TheVariants as slice_type
-use Rattle.plan_types.specs.declared.segment_plan.SegmentPlan.{SegmentPlan}
-use Rattle.plan_types.specs.declared.picture_plan.PicturePlan.{PicturePlan}
-use Rattle.spec_motion.specs.declared.slice_motion.SliceMotion.{SliceMotion}
-use Rattle.spec_motion.specs.declared.vectors.Reference.{Reference}
-use Rattle.spec_motion.specs.Vectors.{no_reference}
-use Rattle.spec_reference_pictures.specs.ReferenceLists.{no_reference as no_entry}
+use Rattle.spec_picture_trees.specs.PlanTypes.{SegmentPlan}
+use Rattle.spec_picture_trees.specs.PlanTypes.{PicturePlan}
+use Rattle.picture_buffer.specs.SpecMotion.{SliceMotion}
+use Rattle.picture_buffer.specs.SpecMotion.{Reference}
+use Rattle.picture_buffer.specs.SpecMotion.{no_reference}
+use Rattle.spec_picture_trees.specs.SpecReferencePictures.{no_reference as no_entry}
 use Rattle.spec_picture_trees.specs.Shapes.{picture_shape, slice_start}
-use Rattle.spec_slice_data.specs.Segment.{PictureShape}
+use Rattle.spec_picture_trees.specs.SpecSliceData.{PictureShape}
 use Rattle.spec_picture_trees.specs.Places.{first_column, first_row, unit_places}
 
 -- a picture of a reference picture list

@@ -1,12 +1,12 @@
 //! What is asked of the collocated picture.
 
 ghost use Rattle.std.specs.Prelude.{◌≡◌, ◌+◌, ◌≤◌, ℕ};
-ghost use Rattle.ctu_records.specs.declared.prediction.Rectangle.{Rectangle};
-ghost use Rattle.spec_motion.specs.declared.slice_motion.SliceMotion.{SliceMotion};
-ghost use Rattle.spec_motion.specs.Temporal.{temporal_mv};
+ghost use Rattle.spec_picture_trees.specs.CtuRecords.{Rectangle};
+ghost use Rattle.picture_buffer.specs.SpecMotion.{SliceMotion};
+ghost use Rattle.picture_buffer.specs.SpecMotion.{temporal_mv};
 ghost use Rattle.spec_picture_motion.specs.Field.{Motions, beneath_unit, blocks_from};
 ghost use Rattle.spec_picture_trees.specs.Places.{unit_places};
-ghost use Rattle.spec_slice_data.specs.Segment.{PictureShape};
+ghost use Rattle.spec_picture_trees.specs.SpecSliceData.{PictureShape};
 
 /// The temporal candidate of a block in a coding tree unit is that by all of the collocated picture's motion: neither
 /// the bottom right of the block nor its centre stands outside what is known beneath the unit (8.5.3.2.8).

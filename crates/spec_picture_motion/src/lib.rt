@@ -5,3 +5,4 @@
 mod laws;
 
 pub use laws::candidates_stand_beneath;
+pub use spec_picture_trees::{PicturePlan, SegmentPlan};

@@ -2,10 +2,10 @@
 use Rattle.std.proofs.Common.{ℕ, Bool, false, List, [], ◌∷◌, ◌++◌, Result, Ok, Err, refl}
 use Rattle.std.proofs.Common.{sym, ap, ◌∙◌, append_assoc, append-nil}
 use Rattle.hv_base.specs.declared.refusal.Stop.{Stop}
-use Rattle.plan_types.specs.declared.picture_plan.PicturePlan.{PicturePlan}
-use Rattle.spec_nal_units.specs.Judged.{Told, told_of}
-use Rattle.spec_nal_units.proofs.Going.{told_of-go}
-use Rattle.plan_types.specs.declared.between.Between.{Between}
+use Rattle.spec_slice_headers.specs.PlanTypes.{PicturePlan}
+use Rattle.spec_slice_headers.specs.SpecNalUnits.{Told, told_of}
+use Rattle.spec_slice_headers.proofs.SpecNalUnitsLemmas.{told_of-go}
+use Rattle.spec_slice_headers.specs.PlanTypes.{Between}
 use Rattle.spec_picture_plan.specs.Pictures.{beginning}
 use Rattle.spec_picture_plan.specs.Steps.{step}
 use Rattle.spec_picture_plan.specs.Planned.{Planned, behind_closed, planned_next, planned_from, planned_of, Extends}

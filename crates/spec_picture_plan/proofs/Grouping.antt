@@ -12,16 +12,16 @@ use Rattle.hv_base.specs.declared.refusal.Stop.{Stop}
 use Rattle.header_types.specs.declared.former.Sets.{Sets}
 use Rattle.header_types.specs.declared.former.Former.{Former}
 use Rattle.header_types.specs.declared.reference_pictures.Rps.{Rps}
-use Rattle.slice_types.specs.declared.slice.SliceHeaderFields.{SliceHeaderFields}
-use Rattle.plan_types.specs.declared.segment_plan.SegmentPlan.{SegmentPlan}
-use Rattle.plan_types.specs.declared.picture_plan.PicturePlan.{PicturePlan}
-use Rattle.plan_types.specs.declared.between.Between.{Between}
-use Rattle.spec_bits.specs.Bits.{bits}
-use Rattle.spec_nal_units.specs.Judged.{NalUnit, Told}
-use Rattle.spec_parameter_sets.specs.PictureParameterSet.{picture_parameter_set_of}
-use Rattle.spec_parameter_sets.specs.SequenceParameterSet.{sequence_parameter_set_of}
-use Rattle.spec_reference_pictures.specs.PictureOrderCount.{pic_order_cnt_val}
-use Rattle.spec_reference_pictures.specs.ReferencePictureSet.{reference_picture_set}
+use Rattle.spec_slice_headers.specs.SliceTypes.{SliceHeaderFields}
+use Rattle.spec_slice_headers.specs.PlanTypes.{SegmentPlan}
+use Rattle.spec_slice_headers.specs.PlanTypes.{PicturePlan}
+use Rattle.spec_slice_headers.specs.PlanTypes.{Between}
+use Rattle.spec_output_order.specs.SpecBits.{bits}
+use Rattle.spec_slice_headers.specs.SpecNalUnits.{NalUnit, Told}
+use Rattle.spec_slice_headers.specs.SpecParameterSets.{picture_parameter_set_of}
+use Rattle.spec_slice_headers.specs.SpecParameterSets.{sequence_parameter_set_of}
+use Rattle.spec_output_order.specs.SpecReferencePictures.{pic_order_cnt_val}
+use Rattle.spec_output_order.specs.SpecReferencePictures.{reference_picture_set}
 use Rattle.spec_slice_headers.specs.NamedSets.{Named, named_by}
 use Rattle.spec_picture_plan.specs.declared.unit_kind.UnitKind.{UnitKind}
 use Rattle.spec_picture_plan.specs.declared.unit_kind.UnitKind.TheVariants as unit

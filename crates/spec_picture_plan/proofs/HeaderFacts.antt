@@ -10,19 +10,19 @@ use Rattle.hv_base.specs.declared.field_rules.TheConstants.{SLICE_HEADER_RULES}
 use Rattle.header_types.specs.declared.former.Sets.{Sets}
 use Rattle.header_types.specs.declared.former.Former.{Former}
 use Rattle.header_types.specs.declared.reference_pictures.Rps.{Rps}
-use Rattle.slice_types.specs.declared.slice.PictureKind.{PictureKind}
-use Rattle.slice_types.specs.declared.slice.ReferenceFields.{ReferenceFields}
-use Rattle.slice_types.specs.declared.slice.SegmentFields.{SegmentFields}
-use Rattle.slice_types.specs.declared.slice.SliceHeaderFields.{SliceHeaderFields}
-use Rattle.slice_types.specs.declared.slice.SliceType.{SliceType}
-use Rattle.plan_types.specs.declared.segment_plan.SegmentPlan.{SegmentPlan}
-use Rattle.plan_types.specs.declared.picture_plan.PicturePlan.{PicturePlan}
-use Rattle.spec_bits.specs.Bits.{bits, flag_at}
-use Rattle.spec_formats.specs.Format.{Format, Give, One, Refuse, Then, bind, wanted}
-use Rattle.spec_formats.specs.Fields.{Field, FieldValue, Header, field_at, read}
-use Rattle.spec_nal_units.specs.Judged.{NalUnit}
-use Rattle.spec_reference_pictures.specs.PictureOrderCount.{is_irap, pic_order_cnt_val}
-use Rattle.spec_reference_pictures.specs.ReferencePictureSet.{reference_picture_set}
+use Rattle.spec_slice_headers.specs.SliceTypes.{PictureKind}
+use Rattle.spec_slice_headers.specs.SliceTypes.{ReferenceFields}
+use Rattle.spec_slice_headers.specs.SliceTypes.{SegmentFields}
+use Rattle.spec_slice_headers.specs.SliceTypes.{SliceHeaderFields}
+use Rattle.spec_slice_headers.specs.SliceTypes.{SliceType}
+use Rattle.spec_slice_headers.specs.PlanTypes.{SegmentPlan}
+use Rattle.spec_slice_headers.specs.PlanTypes.{PicturePlan}
+use Rattle.spec_output_order.specs.SpecBits.{bits, flag_at}
+use Rattle.spec_output_order.specs.SpecFormats.{Format, Give, One, Refuse, Then, bind, wanted}
+use Rattle.spec_output_order.specs.SpecFormats.{Field, FieldValue, Header, field_at, read}
+use Rattle.spec_slice_headers.specs.SpecNalUnits.{NalUnit}
+use Rattle.spec_output_order.specs.SpecReferencePictures.{is_irap, pic_order_cnt_val}
+use Rattle.spec_output_order.specs.SpecReferencePictures.{reference_picture_set}
 use Rattle.spec_slice_headers.specs.Context.{Context, judged}
 use Rattle.spec_slice_headers.specs.NamedSets.{Named, found, named_by, named_sets}
 use Rattle.spec_slice_headers.specs.ReferenceRules.{judged_references}

@@ -1,3 +1,4 @@
 pub mod Fronts
 pub mod HeaderFacts
 pub mod Grouping
+pub mod SpecReferencePicturesLemmas

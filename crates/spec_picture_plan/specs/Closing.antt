@@ -4,14 +4,14 @@ use Rattle.std.specs.Prelude.{length, sum, Option, Some, None, nat_lt, ◌==◌,
 use Rattle.hv_base.specs.declared.fault.FaultKind.{FaultKind}
 use Rattle.hv_base.specs.declared.fault.FaultKind.TheVariants as rule
 use Rattle.hv_base.specs.declared.fault.Fault.{Fault}
-use Rattle.block_geometry.specs.CodingTreeBlocks.{ctb_scan}
+use Rattle.spec_slice_headers.specs.BlockGeometry.{ctb_scan}
 use Rattle.header_types.specs.SequenceParameterSets.{highest_ordering, width_in_ctbs, size_in_ctbs}
-use Rattle.spec_reference_pictures.specs.PictureOrderCount.{begins_anew}
+use Rattle.spec_output_order.specs.SpecReferencePictures.{begins_anew}
 use Rattle.spec_slice_headers.specs.Substreams.{data_size}
 use Rattle.spec_output_order.specs.OutputOrder.{is_full_of_references}
-use Rattle.plan_types.specs.declared.segment_plan.SegmentPlan.{SegmentPlan}
-use Rattle.plan_types.specs.declared.picture_plan.PicturePlan.{PicturePlan}
-use Rattle.plan_types.specs.Segments.{address_of, begins_at}
+use Rattle.spec_slice_headers.specs.PlanTypes.{SegmentPlan}
+use Rattle.spec_slice_headers.specs.PlanTypes.{PicturePlan}
+use Rattle.spec_slice_headers.specs.PlanTypes.{address_of, begins_at}
 
 -- the row of the last coding tree unit before a place of the scan
 abbrev pub row_before : ℕ → ℕ → ℕ

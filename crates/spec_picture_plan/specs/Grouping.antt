@@ -1,13 +1,14 @@
 -- The pictures of a stream as groups of its slice segments (7.4.2.4.4).
-use Rattle.std.specs.Prelude.{◌≡◌, Bool, true, false, not, All, ◌&&◌, List, [], ◌∷◌, ◌++◌, Some, None, Result, Ok, Err}
+use Rattle.std.specs.Prelude.{◌≡◌, Bool, true, false, not, All, ◌&&◌, List, [], ◌∷◌, ◌++◌, Some, None, Result, Ok}
+use Rattle.std.specs.Prelude.{Err}
 use Rattle.std.specs.Prelude.{nat_lt, if◌then◌else◌}
 use Rattle.std.specs.List.{AllZip}
 use Rattle.hv_base.specs.declared.refusal.Stop.{Stop}
-use Rattle.plan_types.specs.declared.segment_plan.SegmentPlan.{SegmentPlan}
-use Rattle.plan_types.specs.declared.picture_plan.PicturePlan.{PicturePlan}
-use Rattle.plan_types.specs.declared.between.Between.{Between}
-use Rattle.spec_bits.specs.Bits.{bits}
-use Rattle.spec_nal_units.specs.Judged.{NalUnit, Told}
+use Rattle.spec_slice_headers.specs.PlanTypes.{SegmentPlan}
+use Rattle.spec_slice_headers.specs.PlanTypes.{PicturePlan}
+use Rattle.spec_slice_headers.specs.PlanTypes.{Between}
+use Rattle.spec_output_order.specs.SpecBits.{bits}
+use Rattle.spec_slice_headers.specs.SpecNalUnits.{NalUnit, Told}
 use Rattle.spec_picture_plan.specs.UnitKinds.{is_rasl, is_slice}
 use Rattle.spec_picture_plan.specs.Steps.{first_flag, step}
 use Rattle.spec_picture_plan.specs.Planned.{Planned}

@@ -4,3 +4,7 @@ pub mod Closing
 pub mod Steps
 pub mod Planned
 pub mod Grouping
+pub mod PlanTypes
+pub mod SpecOutputOrder
+pub mod SpecParameterSets
+pub mod SpecReferencePictures

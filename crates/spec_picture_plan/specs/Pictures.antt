@@ -1,9 +1,9 @@
 -- The pictures of a stream: the groups of its slice segments, with all that their decoding needs (7.4.2.4.4, 8.1, 8.3).
 use Rattle.std.specs.Prelude.{ℤ, pos, true, false, [], replicate, Some, None, if◌then◌else◌}
-use Rattle.plan_types.specs.declared.picture_plan.PicturePlan.{PicturePlan}
+use Rattle.spec_slice_headers.specs.PlanTypes.{PicturePlan}
 use Rattle.header_types.specs.declared.former.Sets.{Sets}
 use Rattle.header_types.specs.declared.former.Former.{Former}
-use Rattle.plan_types.specs.declared.between.Between.{Between}
+use Rattle.spec_slice_headers.specs.PlanTypes.{Between}
 use Rattle.spec_picture_plan.specs.UnitKinds.{is_order_base}
 
 -- before the first unit

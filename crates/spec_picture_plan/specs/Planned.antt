@@ -1,10 +1,10 @@
 -- The pictures of a stream up to the first broken rule of its framing, its parameter sets and its headers, or limit.
 use Rattle.std.specs.Prelude.{◌≡◌, ℕ, Bool, true, false, List, [], ◌∷◌, ◌++◌, Option, Some, None, Result, Ok, Err}
 use Rattle.hv_base.specs.declared.refusal.Stop.{Stop}
-use Rattle.spec_nal_units.specs.Judged.{Told, told_of}
+use Rattle.spec_slice_headers.specs.SpecNalUnits.{Told, told_of}
 use Rattle.spec_output_order.specs.OutputOrder.{last_outputs}
-use Rattle.plan_types.specs.declared.picture_plan.PicturePlan.{PicturePlan}
-use Rattle.plan_types.specs.declared.between.Between.{Between}
+use Rattle.spec_slice_headers.specs.PlanTypes.{PicturePlan}
+use Rattle.spec_slice_headers.specs.PlanTypes.{Between}
 use Rattle.spec_picture_plan.specs.Pictures.{beginning}
 use Rattle.spec_picture_plan.specs.Steps.{Stepped, close, step}
 

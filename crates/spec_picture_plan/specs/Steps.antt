@@ -1,6 +1,7 @@
 -- One unit of a stream after the other: what it closes, how it is judged, and what is known behind it.
 use Rattle.std.specs.Prelude.{ℕ, ◌+◌, ℤ, Bool, true, false, not, ◌&&◌, ◌||◌, List, [], ◌∷◌, ◌++◌, length, slice_set}
-use Rattle.std.specs.Prelude.{slice_index_or, Option, Some, None, is_none, option_map, Result, Ok, Err, nat_lt, nat_le}
+use Rattle.std.specs.Prelude.{slice_index_or, Option, Some, None, is_none, option_map, Result, Ok, Err, nat_lt}
+use Rattle.std.specs.Prelude.{nat_le}
 use Rattle.std.specs.Prelude.{if◌then◌else◌}
 use Rattle.hv_base.specs.declared.breach.Breach.{Breach}
 use Rattle.hv_base.specs.declared.breach.Breach.TheVariants as breach
@@ -13,35 +14,35 @@ use Rattle.hv_base.specs.declared.refusal.Stop.TheVariants as stop
 use Rattle.hv_base.specs.Stops.{stopped_at}
 use Rattle.header_types.specs.declared.sps.SpsFields.{SpsFields}
 use Rattle.header_types.specs.declared.pps.PpsFields.{PpsFields}
-use Rattle.slice_types.specs.declared.slice.PictureKind.{PictureKind}
-use Rattle.slice_types.specs.declared.slice.SliceHeaderFields.{SliceHeaderFields}
+use Rattle.spec_slice_headers.specs.SliceTypes.{PictureKind}
+use Rattle.spec_slice_headers.specs.SliceTypes.{SliceHeaderFields}
 use Rattle.header_types.specs.declared.reference_pictures.DpbPicture.{DpbPicture}
 use Rattle.header_types.specs.declared.reference_pictures.Lists.{Lists}
 use Rattle.header_types.specs.declared.reference_pictures.Rps.{Rps}
 use Rattle.header_types.specs.declared.former.Sets.{Sets}
 use Rattle.header_types.specs.declared.former.Former.{Former}
-use Rattle.plan_types.specs.declared.stated_hash.StatedHash.{StatedHash}
+use Rattle.spec_slice_headers.specs.PlanTypes.{StatedHash}
 use Rattle.spec_stated_hashes.specs.Digests.{digest_of}
 use Rattle.spec_stated_hashes.specs.StatedHashes.{stated_hashes}
-use Rattle.spec_bits.specs.Bits.{bits}
-use Rattle.spec_nal_units.specs.Judged.{NalUnit, Told}
-use Rattle.spec_parameter_sets.specs.PictureParameterSet.{picture_parameter_set_of}
-use Rattle.spec_parameter_sets.specs.SequenceParameterSet.{sequence_parameter_set_of}
-use Rattle.spec_reference_pictures.specs.PictureOrderCount.{is_irap, pic_order_cnt_val}
-use Rattle.spec_reference_pictures.specs.ReferenceLists.{reference_lists}
-use Rattle.spec_reference_pictures.specs.ReferencePictureSet.{reference_picture_set}
+use Rattle.spec_output_order.specs.SpecBits.{bits}
+use Rattle.spec_slice_headers.specs.SpecNalUnits.{NalUnit, Told}
+use Rattle.spec_slice_headers.specs.SpecParameterSets.{picture_parameter_set_of}
+use Rattle.spec_slice_headers.specs.SpecParameterSets.{sequence_parameter_set_of}
+use Rattle.spec_output_order.specs.SpecReferencePictures.{is_irap, pic_order_cnt_val}
+use Rattle.spec_output_order.specs.SpecReferencePictures.{reference_lists}
+use Rattle.spec_output_order.specs.SpecReferencePictures.{reference_picture_set}
 use Rattle.spec_slice_headers.specs.Context.{Context, last_segment, slice_of}
 use Rattle.spec_slice_headers.specs.NamedSets.{Named, named_by}
 use Rattle.spec_slice_headers.specs.SegmentHeader.{slice_header_of}
 use Rattle.spec_slice_headers.specs.Substreams.{substream_ranges}
 use Rattle.spec_output_order.specs.CurrentPictures.{current_picture}
 use Rattle.spec_output_order.specs.OutputOrder.{outputs_of}
-use Rattle.plan_types.specs.declared.between.Between.{Between}
+use Rattle.spec_slice_headers.specs.PlanTypes.{Between}
 use Rattle.spec_picture_plan.specs.declared.unit_kind.UnitKind.{UnitKind}
 use Rattle.spec_picture_plan.specs.declared.unit_kind.UnitKind.TheVariants as unit
 use Rattle.spec_picture_plan.specs.UnitKinds.{kind_of_type, is_rasl}
-use Rattle.plan_types.specs.declared.segment_plan.SegmentPlan.{SegmentPlan}
-use Rattle.plan_types.specs.declared.picture_plan.PicturePlan.{PicturePlan}
+use Rattle.spec_slice_headers.specs.PlanTypes.{SegmentPlan}
+use Rattle.spec_slice_headers.specs.PlanTypes.{PicturePlan}
 use Rattle.spec_picture_plan.specs.Pictures.{former_after}
 use Rattle.spec_picture_plan.specs.Closing.{broken_at_closing}
 

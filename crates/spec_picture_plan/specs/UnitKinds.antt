@@ -4,7 +4,8 @@ use Rattle.hv_base.specs.declared.nal_types.TheConstants.{AUD_NUT, BLA_W_LP, CRA
 use Rattle.hv_base.specs.declared.nal_types.TheConstants.{PREFIX_SEI_NUT, RADL_N, RADL_R, RASL_N, RASL_R, RSV_VCL_N14}
 use Rattle.hv_base.specs.declared.nal_types.TheConstants.{SPS_NUT, SUFFIX_SEI_NUT, VPS_NUT}
 use Rattle.spec_picture_plan.specs.declared.unit_kind.UnitKind.{UnitKind}
-use Rattle.spec_picture_plan.specs.declared.unit_kind.UnitKind.TheVariants.{Slice, SequenceSet, PictureSet, SequenceEnd}
+use Rattle.spec_picture_plan.specs.declared.unit_kind.UnitKind.TheVariants.{Slice, SequenceSet, PictureSet}
+use Rattle.spec_picture_plan.specs.declared.unit_kind.UnitKind.TheVariants.{SequenceEnd}
 use Rattle.spec_picture_plan.specs.declared.unit_kind.UnitKind.TheVariants.{Border, SuffixInformation, Other}
 
 -- the slice segments that may be decoded

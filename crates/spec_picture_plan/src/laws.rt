@@ -3,10 +3,10 @@
 ghost use Rattle.std.specs.Prelude.{◌≡◌, ℕ, Bool, true, false, List, [], ◌++◌, Some, Ok};
 ghost use Rattle.header_types.specs.declared.former.Former.{Former};
 ghost use Rattle.header_types.specs.declared.former.Sets.{Sets};
-ghost use Rattle.slice_types.specs.declared.slice.SliceHeaderFields.{SliceHeaderFields};
-ghost use Rattle.plan_types.specs.declared.picture_plan.PicturePlan.{PicturePlan};
-ghost use Rattle.spec_bits.specs.Bits.{bits};
-ghost use Rattle.spec_nal_units.specs.Judged.{NalUnit, Told};
+ghost use Rattle.spec_slice_headers.specs.SliceTypes.{SliceHeaderFields};
+ghost use Rattle.spec_slice_headers.specs.PlanTypes.{PicturePlan};
+ghost use Rattle.spec_output_order.specs.SpecBits.{bits};
+ghost use Rattle.spec_slice_headers.specs.SpecNalUnits.{NalUnit, Told};
 ghost use Rattle.spec_picture_plan.specs.Grouping.{AreGrouped, decoded_units};
 ghost use Rattle.spec_picture_plan.specs.Pictures.{beginning};
 ghost use Rattle.spec_picture_plan.specs.Planned.{Extends, planned_from, planned_of};

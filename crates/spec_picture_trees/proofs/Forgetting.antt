@@ -1,14 +1,16 @@
 -- Reading units that are handed over, without them, is reading the data of segments.
 use Rattle.std.proofs.Common.{◌≡◌, ℕ, zero, suc, ◌+◌, List, [], ◌∷◌, Result, Ok, Err, refl, ap, ◌∙◌}
-use Rattle.hv_base.specs.declared.breach.Breach.{Breach}
-use Rattle.header_types.specs.SequenceParameterSets.{size_in_ctbs}
-use Rattle.plan_types.specs.declared.segment_plan.SegmentPlan.{SegmentPlan}
-use Rattle.plan_types.specs.declared.picture_plan.PicturePlan.{PicturePlan}
-use Rattle.block_geometry.specs.CodingTreeBlocks.{ctb_scan}
+use Rattle.spec_slice_headers.specs.HvBase.{Breach}
+use Rattle.spec_slice_headers.specs.HeaderTypes.{size_in_ctbs}
+use Rattle.spec_slice_headers.specs.PlanTypes.{SegmentPlan}
+use Rattle.spec_slice_headers.specs.PlanTypes.{PicturePlan}
+use Rattle.spec_slice_headers.specs.BlockGeometry.{ctb_scan}
 use Rattle.spec_slice_data.specs.Segment.{Between, Broken, and_then, unit_step, units_from}
 use Rattle.spec_picture_trees.specs.Shapes.{end_of}
-use Rattle.spec_picture_trees.specs.Picture.{PictureBroken, TreeUnit, Progress, Halt, SegmentAt, in_unit, then_segments}
-use Rattle.spec_picture_trees.specs.Picture.{segments_data, picture_data, segment_at, with_unit, then_units, units_read}
+use Rattle.spec_picture_trees.specs.Picture.{PictureBroken, TreeUnit, Progress, Halt, SegmentAt, in_unit}
+use Rattle.spec_picture_trees.specs.Picture.{then_segments}
+use Rattle.spec_picture_trees.specs.Picture.{segments_data, picture_data, segment_at, with_unit, then_units}
+use Rattle.spec_picture_trees.specs.Picture.{units_read}
 use Rattle.spec_picture_trees.specs.Picture.{and_segments, segment_read, segments_read, picture_read, forgotten}
 
 -- with the NAL unit's number

@@ -4,17 +4,17 @@ use Rattle.std.proofs.Common.{Result, Ok, Err, refl, sym, ap, ◌∙◌, append_
 use Rattle.std.specs.List.{range_with_len, flat_map}
 use Rattle.std.proofs.lemmas.List.{map-append, map-id, map_push}
 use Rattle.std.proofs.Math.Nat.{max-eq_right, min-eq_left}
-use Rattle.hv_base.specs.declared.breach.Breach.{Breach}
-use Rattle.header_types.specs.SequenceParameterSets.{size_in_ctbs}
-use Rattle.plan_types.specs.declared.segment_plan.SegmentPlan.{SegmentPlan}
-use Rattle.plan_types.specs.declared.picture_plan.PicturePlan.{PicturePlan}
-use Rattle.block_geometry.specs.CodingTreeBlocks.{ctb_scan}
+use Rattle.spec_slice_headers.specs.HvBase.{Breach}
+use Rattle.spec_slice_headers.specs.HeaderTypes.{size_in_ctbs}
+use Rattle.spec_slice_headers.specs.PlanTypes.{SegmentPlan}
+use Rattle.spec_slice_headers.specs.PlanTypes.{PicturePlan}
+use Rattle.spec_slice_headers.specs.BlockGeometry.{ctb_scan}
 use Rattle.spec_slice_data.specs.Segment.{Between, unit_step}
 use Rattle.spec_picture_trees.specs.Shapes.{end_of, segment_shape}
 use Rattle.spec_picture_trees.specs.Picture.{TreeUnit, Progress, Halt, SegmentAt, segment_at, segment_read}
 use Rattle.spec_picture_trees.specs.Picture.{segments_read, picture_read, then_units, and_segments, unit_given}
 use Rattle.spec_picture_trees.specs.Picture.{units_read, with_unit}
-use Rattle.plan_types.specs.Segments.{AreInOrder, Rise, address_of, begins_at}
+use Rattle.spec_slice_headers.specs.PlanTypes.{AreInOrder, Rise, address_of, begins_at}
 use Rattle.spec_picture_trees.specs.Units.{units_between, segment_units, shared_units, picture_units, addresses}
 use Rattle.spec_picture_trees.specs.Units.{with_segments}
 

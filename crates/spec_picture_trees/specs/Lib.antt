@@ -2,3 +2,13 @@ pub mod Shapes
 pub mod Places
 pub mod Picture
 pub mod Units
+pub mod PlanTypes
+pub mod SpecSliceData
+pub mod CtuRecords
+pub mod SpecReferencePictures
+pub mod SpecParameterSets
+pub mod SpecSliceHeaders
+pub mod HeaderTypes
+pub mod BlockGeometry
+pub mod SpecCabac
+pub mod HvBase

@@ -1,14 +1,15 @@
 -- The coding tree units of a planned picture, segment after segment, up to the first broken rule (7.3.8.1).
 use Rattle.std.specs.Prelude.{ℕ, zero, suc, ◌+◌, List, [], ◌∷◌, ◌++◌, pos, Result, Ok, Err}
-use Rattle.hv_base.specs.declared.breach.Breach.{Breach}
-use Rattle.header_types.specs.SequenceParameterSets.{size_in_ctbs}
-use Rattle.plan_types.specs.declared.segment_plan.SegmentPlan.{SegmentPlan}
-use Rattle.plan_types.specs.declared.picture_plan.PicturePlan.{PicturePlan}
-use Rattle.ctu_records.specs.Tree.{Ctu}
-use Rattle.spec_cabac.specs.Contexts.{first_contexts}
+use Rattle.spec_slice_headers.specs.HvBase.{Breach}
+use Rattle.spec_slice_headers.specs.HeaderTypes.{size_in_ctbs}
+use Rattle.spec_slice_headers.specs.PlanTypes.{SegmentPlan}
+use Rattle.spec_slice_headers.specs.PlanTypes.{PicturePlan}
+use Rattle.spec_slice_data.specs.CtuRecords.{Ctu}
+use Rattle.spec_slice_data.specs.SpecCabac.{first_contexts}
 use Rattle.spec_slice_data.specs.declared.syntax.CtuSyntax.{CtuSyntax}
-use Rattle.block_geometry.specs.CodingTreeBlocks.{ctb_scan}
-use Rattle.spec_slice_data.specs.Segment.{PictureShape, SegmentShape, Between, Broken, segment_data, unit_of, unit_step}
+use Rattle.spec_slice_headers.specs.BlockGeometry.{ctb_scan}
+use Rattle.spec_slice_data.specs.Segment.{PictureShape, SegmentShape, Between, Broken, segment_data, unit_of}
+use Rattle.spec_slice_data.specs.Segment.{unit_step}
 use Rattle.spec_picture_trees.specs.Shapes.{end_of, picture_shape, segment_shape, segment_syntax}
 
 -- before the first unit of a picture. The first segment isn't a dependent one, so nothing of this but that there are no

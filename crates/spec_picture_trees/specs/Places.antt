@@ -1,7 +1,7 @@
 -- The coding tree units of a picture by place (6.3.1), and which places are available beside a unit (6.4.1). A place is
 -- a block of 4x4 luma samples.
 use Rattle.std.specs.Prelude.{ℕ, ◌+◌, ◌-◌, ◌*◌, ◌/◌, ◌^◌, ◌&&◌, nat_le, nat_lt, Bool}
-use Rattle.block_geometry.specs.CodingTreeBlocks.{is_decoded_before, is_from}
+use Rattle.spec_slice_headers.specs.BlockGeometry.{is_decoded_before, is_from}
 use Rattle.spec_slice_data.specs.Segment.{PictureShape, column_of, row_of}
 
 -- a unit's side in places, and the column and the row of the first place of the unit at an address

@@ -1,23 +1,24 @@
 -- A planned picture and its slice segments as their data are read (6.3.1, 7.3.8.1, 7.4.3.2, 7.4.3.3, 7.4.7.1, 9.3.1).
 -- Sizes are binary logarithms of sides in places of 4x4 luma samples.
-use Rattle.std.specs.Prelude.{ℕ, ◌+◌, ◌-◌, ◌*◌, ◌/◌, ◌^◌, ℤ, pos, ◌+ℤ◌, Bool, true, false, List, [], ◌∷◌, map, min, max}
+use Rattle.std.specs.Prelude.{ℕ, ◌+◌, ◌-◌, ◌*◌, ◌/◌, ◌^◌, ℤ, pos, ◌+ℤ◌, Bool, true, false, List, [], ◌∷◌, map, min}
+use Rattle.std.specs.Prelude.{max}
 use Rattle.std.specs.Prelude.{Option, Some, None, is_some, unwrap_or, slice_index_or, unsigned_abs, if◌then◌else◌}
-use Rattle.header_types.specs.declared.sps.SpsFields.{SpsFields}
-use Rattle.header_types.specs.declared.sps.PcmFormat.{PcmFormat}
-use Rattle.header_types.specs.declared.pps.PpsFields.{PpsFields}
-use Rattle.slice_types.specs.declared.slice.InterFields.{InterFields}
-use Rattle.slice_types.specs.declared.slice.SliceFields.{SliceFields}
-use Rattle.slice_types.specs.declared.slice.SliceType.{SliceType}
-use Rattle.block_geometry.specs.CodingTreeBlocks.{ctb_place}
-use Rattle.header_types.specs.SequenceParameterSets.{ctb_log2, min_cb_log2, min_tb_log2, max_tb_log2, min_pcm_log2}
-use Rattle.header_types.specs.SequenceParameterSets.{max_pcm_log2, width_in_ctbs, qp_bd_offset_y}
-use Rattle.plan_types.specs.declared.segment_plan.SegmentPlan.{SegmentPlan}
-use Rattle.plan_types.specs.declared.picture_plan.PicturePlan.{PicturePlan}
-use Rattle.plan_types.specs.Segments.{address_of}
+use Rattle.spec_slice_headers.specs.HeaderTypes.{SpsFields}
+use Rattle.spec_slice_headers.specs.HeaderTypes.{PcmFormat}
+use Rattle.spec_slice_headers.specs.HeaderTypes.{PpsFields}
+use Rattle.spec_slice_headers.specs.SliceTypes.{InterFields}
+use Rattle.spec_slice_headers.specs.SliceTypes.{SliceFields}
+use Rattle.spec_slice_headers.specs.SliceTypes.{SliceType}
+use Rattle.spec_slice_headers.specs.BlockGeometry.{ctb_place}
+use Rattle.spec_slice_headers.specs.HeaderTypes.{ctb_log2, min_cb_log2, min_tb_log2, max_tb_log2, min_pcm_log2}
+use Rattle.spec_slice_headers.specs.HeaderTypes.{max_pcm_log2, width_in_ctbs, qp_bd_offset_y}
+use Rattle.spec_slice_headers.specs.PlanTypes.{SegmentPlan}
+use Rattle.spec_slice_headers.specs.PlanTypes.{PicturePlan}
+use Rattle.spec_slice_headers.specs.PlanTypes.{address_of}
 use Rattle.spec_slice_headers.specs.InterFields.{is_b}
 use Rattle.spec_slice_headers.specs.SliceFields.{slice_qp}
 use Rattle.spec_slice_headers.specs.Substreams.{bytes_of}
-use Rattle.spec_cabac.specs.Contexts.{clip3, first_contexts}
+use Rattle.spec_slice_data.specs.SpecCabac.{clip3, first_contexts}
 use Rattle.spec_slice_data.specs.declared.syntax.CtuSyntax.{CtuSyntax}
 use Rattle.spec_slice_data.specs.declared.syntax.InterSyntax.{InterSyntax}
 use Rattle.spec_slice_data.specs.declared.syntax.PcmSyntax.{PcmSyntax}

@@ -1,10 +1,10 @@
 -- The coding tree units of a planned picture and of its slice segments, by their addresses (6.3.1, 7.4.7.1).
 use Rattle.std.specs.Prelude.{ℕ, suc, ◌-◌, List, map, drop, length}
 use Rattle.std.specs.List.{range_with_len, flat_map}
-use Rattle.header_types.specs.SequenceParameterSets.{size_in_ctbs}
-use Rattle.plan_types.specs.declared.picture_plan.PicturePlan.{PicturePlan}
-use Rattle.plan_types.specs.Segments.{begins_at}
-use Rattle.block_geometry.specs.CodingTreeBlocks.{ctb_scan}
+use Rattle.spec_slice_headers.specs.HeaderTypes.{size_in_ctbs}
+use Rattle.spec_slice_headers.specs.PlanTypes.{PicturePlan}
+use Rattle.spec_slice_headers.specs.PlanTypes.{begins_at}
+use Rattle.spec_slice_headers.specs.BlockGeometry.{ctb_scan}
 use Rattle.spec_picture_trees.specs.Picture.{TreeUnit}
 
 -- the coding tree units from a place of the scan to the one before another

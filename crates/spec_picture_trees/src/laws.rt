@@ -2,11 +2,11 @@
 
 ghost use Rattle.std.specs.Prelude.{◌≡◌, ℕ, ◌≤◌, List, ◌∷◌, ◌++◌, length, Ok};
 ghost use Rattle.std.specs.List.{range_with_len, flat_map};
-ghost use Rattle.plan_types.specs.declared.picture_plan.PicturePlan.{PicturePlan};
-ghost use Rattle.plan_types.specs.declared.segment_plan.SegmentPlan.{SegmentPlan};
+ghost use Rattle.spec_slice_headers.specs.PlanTypes.{PicturePlan};
+ghost use Rattle.spec_slice_headers.specs.PlanTypes.{SegmentPlan};
 ghost use Rattle.spec_picture_trees.specs.Picture.{Progress, TreeUnit, forgotten, picture_data, picture_read};
 ghost use Rattle.spec_picture_trees.specs.Shapes.{end_of};
-ghost use Rattle.plan_types.specs.Segments.{AreInOrder, address_of};
+ghost use Rattle.spec_slice_headers.specs.PlanTypes.{AreInOrder, address_of};
 ghost use Rattle.spec_picture_trees.specs.Units.{addresses, picture_units, segment_units, shared_units, with_segments};
 
 /// Reading a picture's units, each handed over, is reading the data of its segments one after the other.

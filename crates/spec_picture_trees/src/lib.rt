@@ -8,3 +8,6 @@ pub use laws::{
     picture_is_its_segments, pictures_have_all_units, segments_end_where_the_next_begins,
     segments_share_out_the_units,
 };
+pub use spec_slice_headers::{
+    InterFields, Payload, PicturePlan, SegmentPlan, SliceFields, SliceType, Substream,
+};

@@ -2,8 +2,8 @@
 use Rattle.std.specs.Prelude.{ℕ, Bool, ◌+◌, ◌-◌, ◌*◌, ◌/◌, ◌%◌, ◌^◌, ◌==◌, ◌&&◌, nat_lt, Option, Some, None, List, []}
 use Rattle.std.specs.Prelude.{◌++◌, map, slice_index_or, if◌then◌else◌}
 use Rattle.std.specs.List.{range_with_len}
-use Rattle.block_geometry.specs.declared.kind.Scan.TheVariants.{Diagonal}
-use Rattle.block_geometry.specs.Scans.{scan_index}
+use Rattle.spec_inter_prediction.specs.BlockGeometry.{Diagonal}
+use Rattle.spec_inter_prediction.specs.BlockGeometry.{scan_index}
 use Rattle.header_types.specs.declared.scaling.ScalingList.{ScalingList}
 use Rattle.header_types.specs.declared.scaling.ScalingLists.{ScalingLists}
 use Rattle.spec_reconstruction.specs.declared.format.ScalingFactors.{ScalingFactors}

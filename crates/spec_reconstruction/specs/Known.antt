@@ -1,6 +1,6 @@
 -- The samples that are known while a coding tree unit is built.
 use Rattle.std.specs.Prelude.{ℕ, ◌+◌, ◌-◌, ◌==◌, ◌&&◌, Option, Some, None, ℤ, pos, ◌+ℤ◌, if◌then◌else◌}
-use Rattle.spec_arithmetic.specs.Clipping.{clip1}
+use Rattle.spec_transforms.specs.SpecArithmetic.{clip1}
 use Rattle.ctu_records.specs.Places.{inside}
 
 -- by component, column and line, both counted from 1 at the unit's first sample: line 0 stands above the unit, column 0

@@ -7,3 +7,7 @@ pub mod Inter
 pub mod Pulses
 pub mod Unit
 pub mod Sound
+pub mod HeaderTypes
+pub mod SpecSliceData
+pub mod SpecInterPrediction
+pub mod SpecArithmetic

@@ -1,6 +1,6 @@
 -- The quantization parameters of transform blocks (8.6.1, 8.6.2).
 use Rattle.std.specs.Prelude.{ℕ, suc, ◌+◌, ◌-◌, ◌*◌, ◌==◌, ℤ, pos, negsuc, ◌+ℤ◌, ◌-ℤ◌, neg_ℤ, if◌then◌else◌}
-use Rattle.spec_arithmetic.specs.Clipping.{clip3}
+use Rattle.spec_transforms.specs.SpecArithmetic.{clip3}
 use Rattle.spec_reconstruction.specs.declared.format.UnitFormat.{UnitFormat}
 use Rattle.spec_slice_data.specs.Quantization.{chroma_qp_of_index}
 

@@ -9,4 +9,5 @@ mod unit_mode;
 
 pub use format::{ScalingFactors, UnitFormat};
 pub use laws::chroma_parameters_are_held;
+pub use spec_slice_data::chroma_qp_of_index;
 pub use unit_mode::UnitMode;

@@ -10,7 +10,8 @@ use Rattle.header_types.specs.declared.reference_pictures.PictureName.TheVariant
 use Rattle.header_types.specs.declared.short_term_set.ShortTermRef.{ShortTermRef}
 use Rattle.slice_types.specs.declared.slice.PictureKind.{PictureKind}
 use Rattle.slice_types.specs.declared.slice.ReferenceFields.{ReferenceFields}
-use Rattle.spec_reference_pictures.specs.ReferencePictureSet.{HasDistinctDeltas, found_set, is_among, is_for, is_named}
+use Rattle.spec_reference_pictures.specs.ReferencePictureSet.{HasDistinctDeltas, found_set, is_among, is_for}
+use Rattle.spec_reference_pictures.specs.ReferencePictureSet.{is_named}
 use Rattle.spec_reference_pictures.specs.ReferencePictureSet.{is_sought, long_term_places, named_sets, place_of}
 use Rattle.spec_reference_pictures.specs.ReferencePictureSet.{short_term_pocs, short_term_set}
 use Rattle.spec_reference_pictures.proofs.Found.{among_append, among_contains, among_picked, IsNamedBy}

@@ -5,3 +5,4 @@ pub mod DerivedSets
 pub mod Entries
 pub mod Distinct
 pub mod Total
+pub mod SpecFormatsLemmas

@@ -1,5 +1,6 @@
 -- What a short-term reference picture set is that was read.
-use Rattle.std.proofs.Common.{◌≡◌, ℕ, zero, suc, ◌+◌, ◌-◌, ◌*◌, ◌<◌, ◌≤◌, ℤ, pos, ◌+ℤ◌, ◌<ℤ◌, ◌≤ℤ◌, nat_abs, Bool, true}
+use Rattle.std.proofs.Common.{◌≡◌, ℕ, zero, suc, ◌+◌, ◌-◌, ◌*◌, ◌<◌, ◌≤◌, ℤ, pos, ◌+ℤ◌, ◌<ℤ◌, ◌≤ℤ◌, nat_abs, Bool}
+use Rattle.std.proofs.Common.{true}
 use Rattle.std.proofs.Common.{false, List, [], ◌∷◌, ◌++◌, length, reverse, Ok, refl, sym, ap, ⊎_elim, arith}
 use Rattle.std.specs.List.{All, AllPairs, filter}
 use Rattle.std.proofs.lemmas.Int.{ints}
@@ -16,7 +17,8 @@ use Rattle.spec_formats.specs.Fields.{read}
 use Rattle.spec_formats.proofs.Values.{CanBe, can_be}
 use Rattle.header_types.specs.ReferencePictures.{IsStRps}
 use Rattle.spec_reference_pictures.specs.ShortTermSets.{IsNearestFirst, IsRising, IsFalling, is_before, is_after}
-use Rattle.spec_reference_pictures.specs.ShortTermSets.{signed, step, outward, explicit_set, moved_entry, moved, itself}
+use Rattle.spec_reference_pictures.specs.ShortTermSets.{signed, step, outward, explicit_set, moved_entry, moved}
+use Rattle.spec_reference_pictures.specs.ShortTermSets.{itself}
 use Rattle.spec_reference_pictures.specs.ShortTermSets.{sides, moved_set, source_at, predicted_set, st_ref_pic_set}
 use Rattle.spec_reference_pictures.specs.ShortTermSets.{KeepsOrder, StaysNear}
 use Rattle.spec_reference_pictures.proofs.Lists.{pairs_nil, pairs_head, pairs_tail, pairs_append, All-reverse}

@@ -3,7 +3,7 @@ use Rattle.std.specs.Prelude.{ℕ, ◌+◌, ◌-◌, ◌*◌, ◌/◌, ◌%◌, 
 use Rattle.std.specs.Prelude.{if◌then◌else◌}
 use Rattle.block_geometry.specs.declared.kind.Scan.{Scan}
 use Rattle.block_geometry.specs.declared.kind.Scan.TheVariants.{Diagonal, Horizontal, Vertical}
-use Rattle.spec_formats.specs.Format.{◌>>=◌, give, when◌then◌else◌}
+use Rattle.spec_cabac.specs.SpecFormats.{◌>>=◌, give, when◌then◌else◌}
 use Rattle.spec_cabac.specs.Bins.{Tree, decision, fixed, truncated}
 use Rattle.spec_cabac.specs.declared.init_values.TheConstants.{TRANSFORM_SKIP_FLAG, LAST_SIG_COEFF_X_PREFIX}
 use Rattle.spec_cabac.specs.declared.init_values.TheConstants.{LAST_SIG_COEFF_Y_PREFIX}

@@ -6,8 +6,8 @@ use Rattle.hv_base.specs.declared.breach.Breach.{Breach}
 use Rattle.hv_base.specs.declared.breach.Breach.TheVariants as breach
 use Rattle.hv_base.specs.declared.fault.FaultKind.TheVariants as rule
 use Rattle.block_geometry.specs.Scans.{Place, scan_place}
-use Rattle.spec_bits.specs.Bits.{bit_of, digit}
-use Rattle.spec_formats.specs.Format.{◌>>=◌, give, wanted, when◌then◌else◌}
+use Rattle.spec_cabac.specs.SpecBits.{bit_of, digit}
+use Rattle.spec_cabac.specs.SpecFormats.{◌>>=◌, give, wanted, when◌then◌else◌}
 use Rattle.spec_cabac.specs.Bins.{Tree, decision, fixed, ones, times}
 use Rattle.spec_cabac.specs.declared.init_values.TheConstants.{COEFF_ABS_LEVEL_GREATER1_FLAG}
 use Rattle.spec_cabac.specs.declared.init_values.TheConstants.{COEFF_ABS_LEVEL_GREATER2_FLAG}

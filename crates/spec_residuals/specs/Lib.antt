@@ -2,3 +2,8 @@ pub mod LastPosition
 pub mod Significance
 pub mod Levels
 pub mod Residual
+pub mod BlockGeometry
+pub mod SpecCabac
+pub mod SpecFormats
+pub mod SpecBits
+pub mod SpecArithmetic

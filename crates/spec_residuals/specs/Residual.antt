@@ -2,8 +2,8 @@
 use Rattle.std.specs.Prelude.{ℕ, ◌+◌, ◌-◌, ◌*◌, ◌/◌, ◌%◌, ◌==◌, Bool, true, false, List, [], length, replicate}
 use Rattle.std.specs.Prelude.{slice_set}
 use Rattle.block_geometry.specs.Scans.{scan_index}
-use Rattle.spec_bits.specs.Bits.{digit}
-use Rattle.spec_formats.specs.Format.{◌>>=◌, give, when◌then◌else◌}
+use Rattle.spec_cabac.specs.SpecBits.{digit}
+use Rattle.spec_cabac.specs.SpecFormats.{◌>>=◌, give, when◌then◌else◌}
 use Rattle.spec_cabac.specs.Bins.{Tree, fixed, times}
 use Rattle.spec_residuals.specs.declared.block.ResidualBlock.{ResidualBlock}
 use Rattle.spec_residuals.specs.declared.progress.SubBlock.{SubBlock}
@@ -11,7 +11,8 @@ use Rattle.spec_residuals.specs.declared.progress.Progress.{Progress}
 use Rattle.spec_residuals.specs.declared.progress.Signs.{Signs}
 use Rattle.spec_residuals.specs.LastPosition.{transform_skip_flag, last_position}
 use Rattle.spec_residuals.specs.Significance.{sub_block_at, coded_sub_block_flag, coded_indices, is_none}
-use Rattle.spec_residuals.specs.Levels.{context_set, greater1_flags, greater2_flag, sign_hidden, Residual, levels_from}
+use Rattle.spec_residuals.specs.Levels.{context_set, greater1_flags, greater2_flag, sign_hidden, Residual}
+use Rattle.spec_residuals.specs.Levels.{levels_from}
 
 -- the flags and the signs of so many levels
 abbrev pub signs_of : ResidualBlock → ℕ → List ℕ → Tree Signs

@@ -5,7 +5,7 @@ use Rattle.std.specs.Prelude.{slice_index, slice_index_or, if◌then◌else◌}
 use Rattle.block_geometry.specs.declared.kind.Scan.{Scan}
 use Rattle.block_geometry.specs.declared.kind.Scan.TheVariants.{Diagonal, Horizontal, Vertical}
 use Rattle.block_geometry.specs.Scans.{Place, scan_place}
-use Rattle.spec_formats.specs.Format.{◌>>=◌, give, when◌then◌else◌}
+use Rattle.spec_cabac.specs.SpecFormats.{◌>>=◌, give, when◌then◌else◌}
 use Rattle.spec_cabac.specs.Bins.{Tree, decision, times}
 use Rattle.spec_cabac.specs.declared.init_values.TheConstants.{CODED_SUB_BLOCK_FLAG, SIG_COEFF_FLAG}
 use Rattle.spec_residuals.specs.declared.block.ResidualBlock.{ResidualBlock}

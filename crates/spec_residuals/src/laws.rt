@@ -1,7 +1,7 @@
 //! The law that binds the reading of a block to the bins that spell it.
 
 ghost use Rattle.spec_residuals.specs.declared.block.ResidualBlock.{ResidualBlock};
-ghost use Rattle.spec_formats.specs.Format.{IsReadAgain, IsSpelledAs};
+ghost use Rattle.spec_cabac.specs.SpecFormats.{IsReadAgain, IsSpelledAs};
 ghost use Rattle.spec_cabac.specs.Bins.{bin_at};
 ghost use Rattle.spec_residuals.specs.Residual.{residual_coding};
 

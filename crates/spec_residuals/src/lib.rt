@@ -8,6 +8,7 @@ mod progress;
 mod tables;
 
 pub use block::{Level, ResidualBlock};
+pub use block_geometry::{Scan, scan, scan_index};
 pub use laws::residuals_are_spelled;
 pub use progress::{Greater1Flags, LevelState, Progress, Signs, SubBlock};
 pub use tables::CTX_IDX_MAP;

@@ -1,7 +1,7 @@
 -- The offsets of a component of a coding tree unit, and which of them a sample has (7.4.9.3, 8.7.3.2).
 use Rattle.std.specs.Prelude.{ℕ, ◌+◌, ◌-◌, ◌/◌, ◌%◌, ◌^◌, ◌==◌, min, nat_lt, ℤ, pos, ◌+ℤ◌, ◌*ℤ◌, List, slice_index_or}
 use Rattle.std.specs.Prelude.{if◌then◌else◌}
-use Rattle.spec_arithmetic.specs.Clipping.{clip1}
+use Rattle.block_geometry.specs.SpecArithmetic.{clip1}
 
 -- SaoOffsetVal: none at index 0, and the four offsets, which are coded for up to 10 bits, from 1 on
 unfoldable pub offset_value : ℕ → List ℤ → ℕ → ℤ

@@ -2,13 +2,14 @@
 use Rattle.std.proofs.Common.{◌≡◌, ℕ, zero, suc, ◌+◌, List, [], ◌∷◌, Result, Ok, Err, refl, ap, ◌∙◌}
 use Rattle.hv_base.specs.declared.breach.Breach.{Breach}
 use Rattle.ctu_records.specs.Tree.{Ctu}
-use Rattle.spec_cabac.specs.Bins.{State, read, bin_at}
-use Rattle.spec_formats.proofs.Agreement.{found, only}
+use Rattle.spec_residuals.specs.SpecCabac.{State, read, bin_at}
+use Rattle.spec_residuals.proofs.SpecFormatsLemmas.{found, only}
 use Rattle.spec_slice_data.specs.declared.syntax.CtuSyntax.{CtuSyntax}
 use Rattle.spec_slice_data.specs.declared.syntax.End.{End}
-use Rattle.block_geometry.specs.CodingTreeBlocks.{ctb_scan}
+use Rattle.spec_residuals.specs.BlockGeometry.{ctb_scan}
 use Rattle.spec_slice_data.specs.Segment.{PictureShape, SegmentShape, Between, Broken, Bins, before_unit, behind_unit}
-use Rattle.spec_slice_data.specs.Segment.{unit_at, read_unit, then_unit, unit_step, and_then, units_from, IsUnitSpelled}
+use Rattle.spec_slice_data.specs.Segment.{unit_at, read_unit, then_unit, unit_step, and_then, units_from}
+use Rattle.spec_slice_data.specs.Segment.{IsUnitSpelled}
 use Rattle.spec_slice_data.specs.Segment.{UnitsSpelled, IsSegmentSpelled}
 
 -- what a step that wasn't refused gave, and what came of it

@@ -18,12 +18,12 @@ use Rattle.ctu_records.specs.declared.prediction.Rectangle.{Rectangle}
 use Rattle.ctu_records.specs.declared.prediction.VectorSyntax.{VectorSyntax}
 use Rattle.ctu_records.specs.Prediction.{part_block}
 use Rattle.ctu_records.specs.Tree.{Ctu, added, skipped_left, skipped_above}
-use Rattle.spec_cabac.specs.declared.init_values.TheConstants.{CU_SKIP_FLAG, PRED_MODE_FLAG, PART_MODE, MERGE_FLAG}
-use Rattle.spec_cabac.specs.declared.init_values.TheConstants.{MERGE_IDX, INTER_PRED_IDC, REF_IDX}
-use Rattle.spec_cabac.specs.declared.init_values.TheConstants.{ABS_MVD_GREATER0_FLAG, ABS_MVD_GREATER1_FLAG, MVP_FLAG}
-use Rattle.spec_cabac.specs.declared.init_values.TheConstants.{RQT_ROOT_CBF}
-use Rattle.spec_cabac.specs.Bins.{Tree, decision, bypass, truncated, exp_golomb}
-use Rattle.spec_formats.specs.Format.{◌>>=◌, give, wanted, when◌then◌else◌}
+use Rattle.spec_residuals.specs.SpecCabac.{CU_SKIP_FLAG, PRED_MODE_FLAG, PART_MODE, MERGE_FLAG}
+use Rattle.spec_residuals.specs.SpecCabac.{MERGE_IDX, INTER_PRED_IDC, REF_IDX}
+use Rattle.spec_residuals.specs.SpecCabac.{ABS_MVD_GREATER0_FLAG, ABS_MVD_GREATER1_FLAG, MVP_FLAG}
+use Rattle.spec_residuals.specs.SpecCabac.{RQT_ROOT_CBF}
+use Rattle.spec_residuals.specs.SpecCabac.{Tree, decision, bypass, truncated, exp_golomb}
+use Rattle.spec_residuals.specs.SpecFormats.{◌>>=◌, give, wanted, when◌then◌else◌}
 use Rattle.spec_slice_data.specs.Offset.{signed}
 use Rattle.spec_slice_data.specs.declared.syntax.InterSyntax.{InterSyntax}
 use Rattle.spec_slice_data.specs.declared.syntax.UnitStart.{UnitStart}

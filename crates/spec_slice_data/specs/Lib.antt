@@ -7,3 +7,8 @@ pub mod Inter
 pub mod Transform
 pub mod Tree
 pub mod Segment
+pub mod CtuRecords
+pub mod BlockGeometry
+pub mod SpecCabac
+pub mod SpecResiduals
+pub mod SpecArithmetic

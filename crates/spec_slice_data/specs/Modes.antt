@@ -3,9 +3,9 @@ use Rattle.std.specs.Prelude.{ℕ, ◌+◌, ◌-◌, ◌%◌, ◌^◌, ◌==◌,
 use Rattle.ctu_records.specs.declared.item.Item.TheVariants.{Luma}
 use Rattle.ctu_records.specs.declared.item.Square.{Square}
 use Rattle.ctu_records.specs.Tree.{Ctu, added, mode_left, mode_above, luma_mode_at}
-use Rattle.spec_cabac.specs.declared.init_values.TheConstants.{PREV_INTRA_LUMA_PRED_FLAG, INTRA_CHROMA_PRED_MODE}
-use Rattle.spec_cabac.specs.Bins.{Tree, decision, bypass, fixed, truncated}
-use Rattle.spec_formats.specs.Format.{◌>>=◌, give, when◌then◌else◌}
+use Rattle.spec_residuals.specs.SpecCabac.{PREV_INTRA_LUMA_PRED_FLAG, INTRA_CHROMA_PRED_MODE}
+use Rattle.spec_residuals.specs.SpecCabac.{Tree, decision, bypass, fixed, truncated}
+use Rattle.spec_residuals.specs.SpecFormats.{◌>>=◌, give, when◌then◌else◌}
 use Rattle.spec_slice_data.specs.declared.modes.Candidates.{Candidates}
 
 -- the first of planar, DC and vertical that is neither of two others

@@ -4,9 +4,9 @@ use Rattle.std.specs.Prelude.{Some, None, if◌then◌else◌}
 use Rattle.ctu_records.specs.declared.offset.ComponentOffset.{ComponentOffset}
 use Rattle.ctu_records.specs.declared.offset.ComponentOffset.TheVariants.{Off, Band, Edge}
 use Rattle.ctu_records.specs.declared.offset.Sao.{Sao}
-use Rattle.spec_cabac.specs.declared.init_values.TheConstants.{SAO_MERGE_FLAG, SAO_TYPE_IDX}
-use Rattle.spec_cabac.specs.Bins.{Tree, decision, bypass, fixed, truncated}
-use Rattle.spec_formats.specs.Format.{◌>>=◌, give, when◌then◌else◌}
+use Rattle.spec_residuals.specs.SpecCabac.{SAO_MERGE_FLAG, SAO_TYPE_IDX}
+use Rattle.spec_residuals.specs.SpecCabac.{Tree, decision, bypass, fixed, truncated}
+use Rattle.spec_residuals.specs.SpecFormats.{◌>>=◌, give, when◌then◌else◌}
 use Rattle.spec_slice_data.specs.declared.syntax.CtuSyntax.{CtuSyntax}
 
 -- cMax of sao_offset_abs, by the bit depth of the component

@@ -7,9 +7,9 @@ use Rattle.ctu_records.specs.declared.item.Item.TheVariants.{Delta}
 use Rattle.ctu_records.specs.declared.item.Square.{Square}
 use Rattle.ctu_records.specs.declared.records.Quantization.{Quantization}
 use Rattle.ctu_records.specs.Tree.{Ctu, added, with_quantization, qp_left, qp_above}
-use Rattle.spec_cabac.specs.declared.init_values.TheConstants.{CU_QP_DELTA_ABS}
-use Rattle.spec_cabac.specs.Bins.{Tree, decision, bypass, truncated, exp_golomb}
-use Rattle.spec_formats.specs.Format.{◌>>=◌, give, wanted, when◌then◌else◌}
+use Rattle.spec_residuals.specs.SpecCabac.{CU_QP_DELTA_ABS}
+use Rattle.spec_residuals.specs.SpecCabac.{Tree, decision, bypass, truncated, exp_golomb}
+use Rattle.spec_residuals.specs.SpecFormats.{◌>>=◌, give, wanted, when◌then◌else◌}
 use Rattle.spec_slice_data.specs.Offset.{signed}
 use Rattle.spec_slice_data.specs.declared.syntax.CtuSyntax.{CtuSyntax}
 

@@ -1,13 +1,13 @@
 -- A coded transform block (7.3.8.10, 7.3.8.11, 7.4.9.11).
 use Rattle.std.specs.Prelude.{ℕ, ◌+◌, ◌*◌, ◌^◌, ◌==◌, ◌&&◌, ◌||◌, nat_le, Bool, if◌then◌else◌}
 use Rattle.std.specs.List.{fold}
-use Rattle.block_geometry.specs.declared.kind.Scan.{Scan}
-use Rattle.block_geometry.specs.declared.kind.Scan.TheVariants.{Diagonal, Horizontal, Vertical}
+use Rattle.spec_residuals.specs.BlockGeometry.{Scan}
+use Rattle.spec_residuals.specs.BlockGeometry.{Diagonal, Horizontal, Vertical}
 use Rattle.ctu_records.specs.declared.item.CodedBlock.{CodedBlock}
 use Rattle.ctu_records.specs.declared.item.Item.TheVariants as item
 use Rattle.ctu_records.specs.Tree.{Ctu, added}
-use Rattle.spec_cabac.specs.Bins.{Tree}
-use Rattle.spec_formats.specs.Format.{◌>>=◌, give}
+use Rattle.spec_residuals.specs.SpecCabac.{Tree}
+use Rattle.spec_residuals.specs.SpecFormats.{◌>>=◌, give}
 use Rattle.spec_residuals.specs.declared.block.ResidualBlock.{ResidualBlock}
 use Rattle.spec_residuals.specs.declared.block.Level.{Level}
 use Rattle.spec_residuals.specs.Levels.{Residual}

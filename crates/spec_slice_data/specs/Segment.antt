@@ -5,14 +5,14 @@ use Rattle.std.specs.Prelude.{Result, Ok, Err, if◌then◌else◌}
 use Rattle.hv_base.specs.declared.breach.Breach.{Breach}
 use Rattle.hv_base.specs.declared.breach.Breach.TheVariants as breach
 use Rattle.hv_base.specs.declared.fault.FaultKind.TheVariants as rule
-use Rattle.block_geometry.specs.CodingTreeBlocks.{ctb_place, ctb_scan, is_from}
+use Rattle.spec_residuals.specs.BlockGeometry.{ctb_place, ctb_scan, is_from}
 use Rattle.ctu_records.specs.declared.side.Side.{Side}
 use Rattle.ctu_records.specs.declared.records.Quantization.{Quantization}
 use Rattle.ctu_records.specs.Tree.{Ctu, coding_at, luma_mode_at, qp_at, side}
-use Rattle.spec_bits.specs.Bits.{bits}
-use Rattle.spec_cabac.specs.Engine.{Engine, start_at, is_trailing}
-use Rattle.spec_cabac.specs.Bins.{State, Tree, Bin, BinValue, bin_at, read, data_end}
-use Rattle.spec_formats.specs.Format.{Word, Spells, Has}
+use Rattle.spec_residuals.specs.SpecBits.{bits}
+use Rattle.spec_residuals.specs.SpecCabac.{Engine, start_at, is_trailing}
+use Rattle.spec_residuals.specs.SpecCabac.{State, Tree, Bin, BinValue, bin_at, read, data_end}
+use Rattle.spec_residuals.specs.SpecFormats.{Word, Spells, Has}
 use Rattle.spec_slice_data.specs.declared.syntax.CtuSyntax.{CtuSyntax}
 use Rattle.spec_slice_data.specs.declared.syntax.End.{End}
 use Rattle.spec_slice_data.specs.declared.syntax.End.TheVariants as end

@@ -5,9 +5,9 @@ use Rattle.ctu_records.specs.declared.item.Item.TheVariants.{Transform}
 use Rattle.ctu_records.specs.declared.item.Square.{Square}
 use Rattle.ctu_records.specs.declared.item.TransformUnit.{TransformUnit}
 use Rattle.ctu_records.specs.Tree.{Ctu, added, luma_mode_at}
-use Rattle.spec_cabac.specs.declared.init_values.TheConstants.{SPLIT_TRANSFORM_FLAG, CBF_LUMA, CBF_CHROMA}
-use Rattle.spec_cabac.specs.Bins.{Tree, decision}
-use Rattle.spec_formats.specs.Format.{◌>>=◌, give, when◌then◌else◌}
+use Rattle.spec_residuals.specs.SpecCabac.{SPLIT_TRANSFORM_FLAG, CBF_LUMA, CBF_CHROMA}
+use Rattle.spec_residuals.specs.SpecCabac.{Tree, decision}
+use Rattle.spec_residuals.specs.SpecFormats.{◌>>=◌, give, when◌then◌else◌}
 use Rattle.spec_slice_data.specs.declared.syntax.CtuSyntax.{CtuSyntax}
 use Rattle.spec_slice_data.specs.declared.syntax.UnitSyntax.{UnitSyntax}
 use Rattle.spec_slice_data.specs.declared.syntax.ChromaFlags.{ChromaFlags}

@@ -12,9 +12,9 @@ use Rattle.ctu_records.specs.declared.prediction.PartMode.{PartMode}
 use Rattle.ctu_records.specs.declared.prediction.PartMode.TheVariants.{Whole}
 use Rattle.ctu_records.specs.Prediction.{part_block}
 use Rattle.ctu_records.specs.Tree.{Ctu, added, with_sao, with_quantization, depth_left, depth_above}
-use Rattle.spec_cabac.specs.declared.init_values.TheConstants.{SPLIT_CU_FLAG, CU_TRANSQUANT_BYPASS_FLAG, PART_MODE}
-use Rattle.spec_cabac.specs.Bins.{Tree, decision, terminate, pcm_start, sample, pcm_end, times}
-use Rattle.spec_formats.specs.Format.{◌>>=◌, give, wanted, when◌then◌else◌}
+use Rattle.spec_residuals.specs.SpecCabac.{SPLIT_CU_FLAG, CU_TRANSQUANT_BYPASS_FLAG, PART_MODE}
+use Rattle.spec_residuals.specs.SpecCabac.{Tree, decision, terminate, pcm_start, sample, pcm_end, times}
+use Rattle.spec_residuals.specs.SpecFormats.{◌>>=◌, give, wanted, when◌then◌else◌}
 use Rattle.spec_slice_data.specs.declared.syntax.CtuSyntax.{CtuSyntax}
 use Rattle.spec_slice_data.specs.declared.syntax.PcmSyntax.{PcmSyntax}
 use Rattle.spec_slice_data.specs.declared.syntax.UnitStart.{UnitStart}

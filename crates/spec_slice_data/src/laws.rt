@@ -3,8 +3,8 @@
 ghost use Rattle.std.specs.Prelude.{◌≡◌, ℕ, Bool};
 ghost use Rattle.ctu_records.specs.Tree.{Ctu};
 ghost use Rattle.ctu_records.specs.declared.offset.Sao.{Sao};
-ghost use Rattle.spec_cabac.specs.Bins.{bin_at};
-ghost use Rattle.spec_formats.specs.Format.{IsSpelledAs, IsReadAgain};
+ghost use Rattle.spec_residuals.specs.SpecCabac.{bin_at};
+ghost use Rattle.spec_residuals.specs.SpecFormats.{IsSpelledAs, IsReadAgain};
 ghost use Rattle.spec_slice_data.specs.declared.syntax.CtuSyntax.{CtuSyntax};
 ghost use Rattle.spec_slice_data.specs.Quantization.{chroma_qp_of_index};
 ghost use Rattle.spec_slice_data.specs.Tree.{unit_and_end};

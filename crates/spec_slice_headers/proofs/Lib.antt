@@ -1,2 +1,5 @@
 pub mod Cuts
 pub mod Ranges
+pub mod SpecNalUnitsLemmas
+pub mod SpecParameterSetsLemmas
+pub mod SpecReferencePicturesLemmas

@@ -5,7 +5,8 @@ use Rattle.std.proofs.Math.Nat.{min-le_right}
 use Rattle.std.proofs.lemmas.List.{take_min, take_all, drop_min, length-take}
 use Rattle.std.proofs.lemmas.List.Elements.{All-nil, All-cons}
 use Rattle.spec_slice_headers.specs.Substreams.{IsInside, bytes_of, payload_before, bytes_between, range_between}
-use Rattle.spec_slice_headers.specs.Substreams.{range_from, ranges_from, substreams_from, substream_ranges, substreams}
+use Rattle.spec_slice_headers.specs.Substreams.{range_from, ranges_from, substreams_from, substream_ranges}
+use Rattle.spec_slice_headers.specs.Substreams.{substreams}
 
 between : (payload removed : List ℕ) (from to : ℕ)
     → bytes_of payload (range_between payload removed from to) ≡ bytes_between payload removed from to

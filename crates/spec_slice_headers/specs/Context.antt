@@ -1,5 +1,6 @@
 -- What a slice segment header is read under.
-use Rattle.std.specs.Prelude.{ℕ, ◌-◌, ◌/◌, ◌^◌, Bool, true, false, ◌||◌, ◌&&◌, List, length, Option, Some, None, Result}
+use Rattle.std.specs.Prelude.{ℕ, ◌-◌, ◌/◌, ◌^◌, Bool, true, false, ◌||◌, ◌&&◌, List, length, Option, Some, None}
+use Rattle.std.specs.Prelude.{Result}
 use Rattle.std.specs.Prelude.{Ok, Err, slice_get, nat_lt, nat_le, ◌==◌, if◌then◌else◌}
 use Rattle.std.specs.List.{range_with_len, count_by}
 use Rattle.hv_base.specs.declared.breach.Breach.{Breach}
@@ -7,11 +8,11 @@ use Rattle.hv_base.specs.declared.breach.Breach.TheVariants as breach
 use Rattle.hv_base.specs.declared.fault.FaultKind.{FaultKind}
 use Rattle.hv_base.specs.declared.nal_types.TheConstants.{BLA_W_LP, CRA_NUT, IDR_N_LP}
 use Rattle.slice_types.specs.declared.slice.SliceHeaderFields.{SliceHeaderFields}
-use Rattle.header_types.specs.declared.former.Sets.{Sets}
-use Rattle.header_types.specs.declared.former.Former.{Former}
+use Rattle.slice_types.specs.HeaderTypes.{Sets}
+use Rattle.slice_types.specs.HeaderTypes.{Former}
 use Rattle.plan_types.specs.declared.segment_plan.SegmentPlan.{SegmentPlan}
-use Rattle.spec_formats.specs.Format.{refuse, when◌then◌else◌}
-use Rattle.spec_formats.specs.Fields.{Header, give, flag, ue_to}
+use Rattle.spec_parameter_sets.specs.SpecFormats.{refuse, when◌then◌else◌}
+use Rattle.spec_parameter_sets.specs.SpecFormats.{Header, give, flag, ue_to}
 
 -- a broken rule
 abbrev pub fault : FaultKind → Breach

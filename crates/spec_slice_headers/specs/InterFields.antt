@@ -1,11 +1,11 @@
 -- The fields of P and B slices (7.3.6.1, 7.3.6.2, 7.4.7.1, 7.4.7.2).
 use Rattle.std.specs.Prelude.{ℕ, ◌+◌, ◌-◌, Bool, true, false, ◌&&◌, List, Option, Some, None, nat_lt, if◌then◌else◌}
-use Rattle.header_types.specs.declared.pps.PpsFields.{PpsFields}
+use Rattle.slice_types.specs.HeaderTypes.{PpsFields}
 use Rattle.slice_types.specs.declared.slice.SliceType.{SliceType}
 use Rattle.slice_types.specs.declared.slice.SliceType.TheVariants as slice
 use Rattle.slice_types.specs.declared.slice.Collocated.{Collocated}
 use Rattle.slice_types.specs.declared.slice.InterFields.{InterFields}
-use Rattle.spec_formats.specs.Fields.{Header, ◌>>=◌, give, ranged, u, flag, ue_to, optional, repeated}
+use Rattle.spec_parameter_sets.specs.SpecFormats.{Header, ◌>>=◌, give, ranged, u, flag, ue_to, optional, repeated}
 use Rattle.spec_slice_headers.specs.Context.{ceil_log2, flag_or, ue_or}
 use Rattle.spec_slice_headers.specs.Weights.{pred_weight_table}
 

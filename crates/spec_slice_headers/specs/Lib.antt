@@ -9,3 +9,11 @@ pub mod SliceFields
 pub mod SegmentHeader
 pub mod Substreams
 pub mod UnitCuts
+pub mod PlanTypes
+pub mod SpecReferencePictures
+pub mod SpecParameterSets
+pub mod BlockGeometry
+pub mod HvBase
+pub mod HeaderTypes
+pub mod SliceTypes
+pub mod SpecNalUnits

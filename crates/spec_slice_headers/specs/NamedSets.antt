@@ -2,10 +2,10 @@
 use Rattle.std.specs.Prelude.{ℕ, Bool, false, ◌||◌, Option, Some, None, Result, Ok, Err, slice_index_or, ◌==◌}
 use Rattle.hv_base.specs.declared.breach.Breach.{Breach}
 use Rattle.hv_base.specs.declared.fault.FaultKind.TheVariants as rule
-use Rattle.header_types.specs.declared.sps.SpsFields.{SpsFields}
-use Rattle.header_types.specs.declared.pps.PpsFields.{PpsFields}
-use Rattle.header_types.specs.declared.former.Sets.{Sets}
-use Rattle.header_types.specs.Content.{same_content}
+use Rattle.slice_types.specs.HeaderTypes.{SpsFields}
+use Rattle.slice_types.specs.HeaderTypes.{PpsFields}
+use Rattle.slice_types.specs.HeaderTypes.{Sets}
+use Rattle.slice_types.specs.HeaderTypes.{same_content}
 use Rattle.spec_parameter_sets.specs.Fits.{fits}
 use Rattle.spec_slice_headers.specs.Context.{Context, fault, ◌>>=◌, kept, no_rasl_output_flag, agrees, first_of}
 

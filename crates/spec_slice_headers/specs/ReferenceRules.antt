@@ -10,8 +10,8 @@ use Rattle.slice_types.specs.declared.slice.ReferenceFields.{ReferenceFields}
 use Rattle.slice_types.specs.declared.slice.SliceHeaderFields.{SliceHeaderFields}
 use Rattle.std.specs.Bool.{beq}
 use Rattle.slice_types.specs.Content.{same_references}
-use Rattle.spec_reference_pictures.specs.PictureOrderCount.{pic_order_cnt_val}
-use Rattle.spec_reference_pictures.specs.ReferencePictureSet.{reference_picture_set, num_pic_total_curr}
+use Rattle.spec_parameter_sets.specs.SpecReferencePictures.{pic_order_cnt_val}
+use Rattle.spec_parameter_sets.specs.SpecReferencePictures.{reference_picture_set, num_pic_total_curr}
 use Rattle.spec_slice_headers.specs.Context.{Context, fault, ◌>>=◌, kept, agrees}
 
 -- whether a slice is an I slice

@@ -2,17 +2,17 @@
 use Rattle.std.specs.Prelude.{ℕ, ◌+◌, Bool, true, false, List, [], length, Option, Some, None, slice_index_or, nat_lt}
 use Rattle.std.specs.Prelude.{nat_le}
 use Rattle.std.specs.List.{range_with_len}
-use Rattle.header_types.specs.declared.sps.SpsFields.{SpsFields}
-use Rattle.header_types.specs.declared.sps.LongTermCandidate.{LongTermCandidate}
-use Rattle.header_types.specs.declared.short_term_set.StRps.{StRps}
+use Rattle.slice_types.specs.HeaderTypes.{SpsFields}
+use Rattle.slice_types.specs.HeaderTypes.{LongTermCandidate}
+use Rattle.slice_types.specs.HeaderTypes.{StRps}
 use Rattle.slice_types.specs.declared.slice.LongTermRefs.{LongTermRefs}
 use Rattle.slice_types.specs.declared.slice.ReferenceFields.{ReferenceFields}
-use Rattle.header_types.specs.declared.reference_pictures.LongTermRef.{LongTermRef}
-use Rattle.header_types.specs.SequenceParameterSets.{highest_ordering}
-use Rattle.spec_formats.specs.Format.{when◌then◌else◌}
-use Rattle.spec_formats.specs.Fields.{Header, ◌>>=◌, give, ranged, u, flag, ue, optional, each}
-use Rattle.spec_reference_pictures.specs.ShortTermSets.{st_ref_pic_set}
-use Rattle.spec_reference_pictures.specs.PictureOrderCount.{is_idr}
+use Rattle.slice_types.specs.HeaderTypes.{LongTermRef}
+use Rattle.slice_types.specs.HeaderTypes.{highest_ordering}
+use Rattle.spec_parameter_sets.specs.SpecFormats.{when◌then◌else◌}
+use Rattle.spec_parameter_sets.specs.SpecFormats.{Header, ◌>>=◌, give, ranged, u, flag, ue, optional, each}
+use Rattle.spec_parameter_sets.specs.SpecReferencePictures.{st_ref_pic_set}
+use Rattle.spec_parameter_sets.specs.SpecReferencePictures.{is_idr}
 use Rattle.spec_slice_headers.specs.Context.{ceil_log2, ue_or}
 
 -- a set without entries

@@ -5,17 +5,17 @@ use Rattle.hv_base.specs.declared.breach.Breach.{Breach}
 use Rattle.hv_base.specs.declared.fault.FaultKind.TheVariants as rule
 use Rattle.hv_base.specs.declared.field_rules.TheConstants.{SLICE_HEADER_RULES}
 use Rattle.hv_base.specs.declared.nal.Nal.{Nal}
-use Rattle.header_types.specs.declared.former.Sets.{Sets}
-use Rattle.header_types.specs.declared.former.Former.{Former}
+use Rattle.slice_types.specs.HeaderTypes.{Sets}
+use Rattle.slice_types.specs.HeaderTypes.{Former}
 use Rattle.plan_types.specs.declared.segment_plan.SegmentPlan.{SegmentPlan}
 use Rattle.slice_types.specs.declared.slice.SegmentFields.{SegmentFields}
 use Rattle.slice_types.specs.declared.slice.SliceFields.{SliceFields}
 use Rattle.slice_types.specs.declared.slice.SliceHeaderFields.{SliceHeaderFields}
-use Rattle.header_types.specs.SequenceParameterSets.{height_in_ctbs}
-use Rattle.spec_bits.specs.Bits.{bits}
-use Rattle.spec_bits.specs.Alignment.{aligned_at}
-use Rattle.spec_formats.specs.Format.{refuse, when◌then◌else◌}
-use Rattle.spec_formats.specs.Fields.{Header, read, ◌>>=◌, give, u, ue_to, optional, repeated, whole}
+use Rattle.slice_types.specs.HeaderTypes.{height_in_ctbs}
+use Rattle.spec_parameter_sets.specs.SpecBits.{bits}
+use Rattle.spec_parameter_sets.specs.SpecBits.{aligned_at}
+use Rattle.spec_parameter_sets.specs.SpecFormats.{refuse, when◌then◌else◌}
+use Rattle.spec_parameter_sets.specs.SpecFormats.{Header, read, ◌>>=◌, give, u, ue_to, optional, repeated, whole}
 use Rattle.spec_slice_headers.specs.Context.{Context, fault, judged, first_of, slice_header, ue_or}
 use Rattle.spec_slice_headers.specs.NamedSets.{Named, named_sets}
 use Rattle.spec_slice_headers.specs.SegmentStart.{front, place}

@@ -4,11 +4,11 @@ use Rattle.std.specs.Bool.{beq}
 use Rattle.std.specs.Option.{option_eq}
 use Rattle.hv_base.specs.declared.fault.FaultKind.TheVariants as rule
 use Rattle.slice_types.specs.declared.slice.SegmentFields.{SegmentFields}
-use Rattle.block_geometry.specs.CodingTreeBlocks.{is_decoded_before}
-use Rattle.header_types.specs.SequenceParameterSets.{size_in_ctbs}
-use Rattle.spec_formats.specs.Format.{wanted, when◌then◌else◌}
-use Rattle.spec_formats.specs.Fields.{Header, ◌>>=◌, give, ranged, u, flag, ue_to, optional}
-use Rattle.spec_reference_pictures.specs.PictureOrderCount.{is_irap}
+use Rattle.plan_types.specs.BlockGeometry.{is_decoded_before}
+use Rattle.slice_types.specs.HeaderTypes.{size_in_ctbs}
+use Rattle.spec_parameter_sets.specs.SpecFormats.{wanted, when◌then◌else◌}
+use Rattle.spec_parameter_sets.specs.SpecFormats.{Header, ◌>>=◌, give, ranged, u, flag, ue_to, optional}
+use Rattle.spec_parameter_sets.specs.SpecReferencePictures.{is_irap}
 use Rattle.spec_slice_headers.specs.Context.{Context, fault, ceil_log2, agrees, first_of, flag_or, last_address}
 use Rattle.spec_slice_headers.specs.NamedSets.{Named}
 

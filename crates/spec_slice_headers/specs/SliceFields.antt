@@ -3,9 +3,9 @@ use Rattle.std.specs.Prelude.{ℕ, ◌+◌, ℤ, pos, ◌+ℤ◌, Bool, true, fa
 use Rattle.std.specs.Prelude.{◌==◌, if◌then◌else◌}
 use Rattle.std.specs.Bool.{beq}
 use Rattle.hv_base.specs.declared.fault.FaultKind.TheVariants as rule
-use Rattle.header_types.specs.declared.sps.SpsFields.{SpsFields}
-use Rattle.header_types.specs.declared.pps.PpsFields.{PpsFields}
-use Rattle.header_types.specs.declared.pps.DeblockingControl.{DeblockingControl}
+use Rattle.slice_types.specs.HeaderTypes.{SpsFields}
+use Rattle.slice_types.specs.HeaderTypes.{PpsFields}
+use Rattle.slice_types.specs.HeaderTypes.{DeblockingControl}
 use Rattle.slice_types.specs.declared.slice.SliceType.{SliceType}
 use Rattle.slice_types.specs.declared.slice.SliceType.TheVariants as slice
 use Rattle.slice_types.specs.declared.slice.PictureKind.{PictureKind}
@@ -14,11 +14,12 @@ use Rattle.slice_types.specs.declared.slice.InterFields.{InterFields}
 use Rattle.slice_types.specs.declared.slice.SliceDeblocking.{SliceDeblocking}
 use Rattle.slice_types.specs.declared.slice.SliceFields.{SliceFields}
 use Rattle.slice_types.specs.declared.slice.SliceHeaderFields.{SliceHeaderFields}
-use Rattle.header_types.specs.SequenceParameterSets.{max_lsb, qp_bd_offset_y}
-use Rattle.spec_formats.specs.Format.{wanted, when◌then◌else◌}
-use Rattle.spec_formats.specs.Fields.{Header, ◌>>=◌, give, ranged, is_within, u, flag, ue_to, se, se_within, optional}
-use Rattle.spec_reference_pictures.specs.PictureOrderCount.{is_irap, is_idr}
-use Rattle.spec_reference_pictures.specs.ReferencePictureSet.{num_pic_total_curr}
+use Rattle.slice_types.specs.HeaderTypes.{max_lsb, qp_bd_offset_y}
+use Rattle.spec_parameter_sets.specs.SpecFormats.{wanted, when◌then◌else◌}
+use Rattle.spec_parameter_sets.specs.SpecFormats.{Header, ◌>>=◌, give, ranged, is_within, u, flag, ue_to, se}
+use Rattle.spec_parameter_sets.specs.SpecFormats.{se_within, optional}
+use Rattle.spec_parameter_sets.specs.SpecReferencePictures.{is_irap, is_idr}
+use Rattle.spec_parameter_sets.specs.SpecReferencePictures.{num_pic_total_curr}
 use Rattle.spec_slice_headers.specs.Context.{Context, fault, judged, no_rasl_output_flag, agrees, flag_or}
 use Rattle.spec_slice_headers.specs.NamedSets.{Named}
 use Rattle.spec_slice_headers.specs.ReferenceRules.{is_i, judged_references}

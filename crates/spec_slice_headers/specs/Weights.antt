@@ -5,7 +5,8 @@ use Rattle.slice_types.specs.declared.weights.LumaWeight.{LumaWeight}
 use Rattle.slice_types.specs.declared.weights.ChromaWeight.{ChromaWeight}
 use Rattle.slice_types.specs.declared.weights.RefWeights.{RefWeights}
 use Rattle.slice_types.specs.declared.weights.PredWeightTable.{PredWeightTable}
-use Rattle.spec_formats.specs.Fields.{Header, ◌>>=◌, give, ranged, flag, ue_to, se, se_within, optional, repeated, each}
+use Rattle.spec_parameter_sets.specs.SpecFormats.{Header, ◌>>=◌, give, ranged, flag, ue_to, se, se_within, optional}
+use Rattle.spec_parameter_sets.specs.SpecFormats.{repeated, each}
 
 -- a luma weight with its offset (7.3.6.3)
 unfoldable pub luma_weight : Header LumaWeight

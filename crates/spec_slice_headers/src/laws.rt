@@ -1,9 +1,9 @@
 //! Laws of the definitions.
 
 ghost use Rattle.hv_base.specs.declared.field_rules.TheConstants.{SLICE_HEADER_RULES};
-ghost use Rattle.spec_formats.specs.Fields.{field_at, read};
-ghost use Rattle.spec_formats.specs.Format.{IsSpelledAs};
-ghost use Rattle.spec_formats.specs.Locality.{IsLocal};
+ghost use Rattle.spec_parameter_sets.specs.SpecFormats.{field_at, read};
+ghost use Rattle.spec_parameter_sets.specs.SpecFormats.{IsSpelledAs};
+ghost use Rattle.spec_parameter_sets.specs.SpecFormats.{IsLocal};
 ghost use Rattle.spec_slice_headers.specs.Context.{Context};
 ghost use Rattle.spec_slice_headers.specs.SegmentHeader.{slice_segment_header};
 ghost use Rattle.spec_slice_headers.specs.Substreams.{RangesAreInside, RangesHoldSubstreams};

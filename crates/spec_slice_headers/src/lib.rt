@@ -7,3 +7,5 @@ pub use laws::{
     headers_are_spelled, places_are_found, ranges_hold_substreams, substreams_are_cuts,
     substreams_join,
 };
+pub use plan_types::{Payload, PicturePlan, SegmentPlan};
+pub use slice_types::{InterFields, SliceFields, SliceType, Substream};

@@ -3,4 +3,5 @@
 
 mod laws;
 
+pub use hv_base::{Digest, Nal};
 pub use laws::written_hashes_are_stated;

@@ -1,3 +1,4 @@
 pub mod Matrices
 pub mod Scaling
 pub mod Transforms
+pub mod SpecArithmetic

@@ -1,5 +1,6 @@
 -- The matrices of the transformation process (8.6.4.2).
-use Rattle.std.specs.Prelude.{ℕ, ◌+◌, ◌-◌, ◌*◌, ◌/◌, ◌%◌, ◌==◌, nat_le, if◌then◌else◌, Bool, true, false, ℤ, pos, neg_ℤ}
+use Rattle.std.specs.Prelude.{ℕ, ◌+◌, ◌-◌, ◌*◌, ◌/◌, ◌%◌, ◌==◌, nat_le, if◌then◌else◌, Bool, true, false, ℤ, pos}
+use Rattle.std.specs.Prelude.{neg_ℤ}
 use Rattle.std.specs.Prelude.{List, slice_index_or}
 use Rattle.spec_transforms.specs.declared.matrices.TheConstants.{COSINE_MATRIX, COSINES, SINE_MATRIX, SINES}
 

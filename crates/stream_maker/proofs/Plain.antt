@@ -1,7 +1,8 @@
 -- Streams whose pictures move and whose rows aren't spoiled are those of a seed.
 use Rattle.std.proofs.Common.{◌≡◌, ℕ, zero, suc, ◌+◌, ◌-◌, ◌%◌, Bool, true, false, List, [], ◌++◌, refl, ap, ◌∙◌}
 use Rattle.std.specs.Prelude.{◌==◌, if◌then◌else◌}
-use Rattle.spec_made.specs.Stream.{Making, idr_made, inter_made, picture_made, pictures_made, set_units, start_of, made}
+use Rattle.spec_made.specs.Stream.{Making, idr_made, inter_made, picture_made, pictures_made, set_units, start_of}
+use Rattle.spec_made.specs.Stream.{made}
 use Rattle.spec_made.specs.Flat.{Turned, idr_by, inter_by, picture_by, pictures_by, made_by}
 
 abbrev pub plain : Turned

@@ -12,8 +12,8 @@ use Rattle.board_core.specs.States.{IsBad}
 use Rattle.sample_words.specs.declared.sizes.FlightSizes.{FlightSizes}
 use Rattle.sample_words.specs.Sizes.{columns, rows}
 use Rattle.sample_words.specs.Words.{line_at}
-use Rattle.spec_flights.specs.Pictures.{PlannedFlight}
-use Rattle.spec_flights.specs.Rows.{flight_rows, picture_rows}
+use Rattle.taken_pictures.specs.SpecFlights.{PlannedFlight}
+use Rattle.taken_pictures.specs.SpecFlights.{flight_rows, picture_rows}
 use Rattle.progress_words.specs.Core.{fault_in}
 use Rattle.progress_words.specs.Faults.{IsFault, NamesBad, unit_in}
 use Rattle.flight_lines.specs.Flights.{IsSized, meaning_of}
@@ -22,15 +22,15 @@ use Rattle.flight_lines.specs.Shown.{least_in}
 use Rattle.flight_lines.proofs.Laid.{few_numbers}
 use Rattle.flight_lines.proofs.Meant.{bad_is_told, told_at}
 use Rattle.flight_lines.proofs.Placed.{unit_is_number}
-use Rattle.flight_unit_laws.specs.Planned.{IsPlanned}
-use Rattle.flight_unit_laws.proofs.Pictures.{as_many}
-use Rattle.flight_facts.specs.declared.flight_facts.FlightFacts.{FlightFacts}
-use Rattle.flight_facts.specs.Boards.{board_flight, flight_meaning, sizes_in}
-use Rattle.flight_facts.specs.Facts.{flight_in}
-use Rattle.flight_facts.specs.Flights.{IsOfFlight}
-use Rattle.flight_facts.specs.Held.{HoldsPictures, StopsByRule}
-use Rattle.flight_facts.proofs.Sized.{flight_sized}
-use Rattle.flight_facts.proofs.Told.{on_board}
+use Rattle.taken_pictures.specs.FlightUnitLaws.{IsPlanned}
+use Rattle.taken_pictures.proofs.FlightUnitLawsLemmas.{as_many}
+use Rattle.taken_pictures.specs.FlightFacts.{FlightFacts}
+use Rattle.taken_pictures.specs.FlightFacts.{board_flight, flight_meaning, sizes_in}
+use Rattle.taken_pictures.specs.FlightFacts.{flight_in}
+use Rattle.taken_pictures.specs.FlightFacts.{IsOfFlight}
+use Rattle.taken_pictures.specs.FlightFacts.{HoldsPictures, StopsByRule}
+use Rattle.taken_pictures.proofs.FlightFactsLemmas.{flight_sized}
+use Rattle.taken_pictures.proofs.FlightFactsLemmas.{on_board}
 use Rattle.taken_flights.specs.Taken.{IsBroken, StopsInside}
 
 -- the last unit of a picture is before those of later ones

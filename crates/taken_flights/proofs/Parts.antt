@@ -6,10 +6,10 @@ use Rattle.std.proofs.lemmas.Bool.{cases_eq, cases_lt}
 use Rattle.std.proofs.lemmas.Option.{same_Some, slice_get_within}
 use Rattle.plan_types.specs.declared.picture_plan.PicturePlan.{PicturePlan}
 use Rattle.sample_words.specs.declared.sizes.FlightSizes.{FlightSizes}
-use Rattle.spec_flights.specs.Pictures.{PlannedFlight}
-use Rattle.flight_facts.specs.declared.flight_facts.FlightFacts.{FlightFacts}
-use Rattle.flight_facts.specs.Facts.{flight_in}
-use Rattle.flight_facts.specs.Flights.{IsOfFlight}
+use Rattle.taken_pictures.specs.SpecFlights.{PlannedFlight}
+use Rattle.taken_pictures.specs.FlightFacts.{FlightFacts}
+use Rattle.taken_pictures.specs.FlightFacts.{flight_in}
+use Rattle.taken_pictures.specs.FlightFacts.{IsOfFlight}
 use Rattle.taken_pictures.proofs.Pictures.{picture_inside}
 use Rattle.taken_pictures.proofs.Places.{sizes_of}
 use Rattle.taken_flights.specs.Taken.{AreDecoded, AreParts, AreSized, AreTaken, IsBroken, IsDecoded, IsSized, Part}

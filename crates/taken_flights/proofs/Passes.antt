@@ -12,11 +12,11 @@ use Rattle.progress_words.specs.Places.{Place}
 use Rattle.progress_words.specs.Views.{AllSound, HasEnded, joined, kept_part, new_part, seen_of}
 use Rattle.progress_words.proofs.Counts.{greater_at}
 use Rattle.line_words.specs.Passes.{AreAllSound}
-use Rattle.flight_facts.specs.declared.flight_facts.FlightFacts.{FlightFacts}
-use Rattle.flight_facts.specs.Boards.{flight_meaning}
-use Rattle.flight_facts.specs.Facts.{flight_in}
-use Rattle.flight_facts.specs.Flights.{IsOfFlight}
-use Rattle.flight_waits.specs.Waits.{AreAllKnown}
+use Rattle.taken_pictures.specs.FlightFacts.{FlightFacts}
+use Rattle.taken_pictures.specs.FlightFacts.{flight_meaning}
+use Rattle.taken_pictures.specs.FlightFacts.{flight_in}
+use Rattle.taken_pictures.specs.FlightFacts.{IsOfFlight}
+use Rattle.flight_workers.specs.FlightWaits.{AreAllKnown}
 use Rattle.flight_workers.specs.Working.{IsGathered}
 use Rattle.flight_workers.proofs.Steps.{no_job, own_on}
 use Rattle.taken_pictures.specs.Pictures.{HasSeenMore}

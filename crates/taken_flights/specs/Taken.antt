@@ -4,11 +4,11 @@ use Rattle.hv_base.specs.declared.line.Phase.TheVariants.{S}
 use Rattle.plan_types.specs.declared.picture_plan.PicturePlan.{PicturePlan}
 use Rattle.picture_buffer.specs.Motion.{FieldPlaces, HasPlaces}
 use Rattle.picture_buffer.specs.Planes.{HasSides, PictureSamples}
-use Rattle.picture_build.specs.Pictures.{decoded_of}
+use Rattle.taken_pictures.specs.PictureBuild.{decoded_of}
 use Rattle.board_core.specs.Places.{line_of}
 use Rattle.sample_words.specs.declared.sizes.FlightSizes.{FlightSizes}
 use Rattle.sample_words.specs.Sizes.{rows}
-use Rattle.spec_flights.specs.Pictures.{PlannedFlight, known_decoded, pictures_before}
+use Rattle.taken_pictures.specs.SpecFlights.{PlannedFlight, known_decoded, pictures_before}
 use Rattle.progress_words.specs.declared.pass.Pass.{Pass}
 use Rattle.progress_words.specs.Core.{fault_in}
 use Rattle.progress_words.specs.Faults.{NamesBad, unit_in}
@@ -17,12 +17,12 @@ use Rattle.progress_words.specs.Places.{Place}
 use Rattle.progress_words.specs.Views.{HasEnded}
 use Rattle.flight_lines.specs.Numbers.{unit_number}
 use Rattle.flight_lines.specs.Shown.{least_in}
-use Rattle.flight_facts.specs.declared.flight_facts.FlightFacts.{FlightFacts}
-use Rattle.flight_facts.specs.Boards.{flight_meaning, sizes_in}
-use Rattle.flight_facts.specs.Facts.{flight_in}
-use Rattle.flight_facts.specs.Flights.{IsOfFlight}
-use Rattle.flight_facts.specs.Held.{StopsByRule}
-use Rattle.flight_waits.specs.Waits.{AreAllKnown}
+use Rattle.taken_pictures.specs.FlightFacts.{FlightFacts}
+use Rattle.taken_pictures.specs.FlightFacts.{flight_meaning, sizes_in}
+use Rattle.taken_pictures.specs.FlightFacts.{flight_in}
+use Rattle.taken_pictures.specs.FlightFacts.{IsOfFlight}
+use Rattle.taken_pictures.specs.FlightFacts.{StopsByRule}
+use Rattle.flight_workers.specs.FlightWaits.{AreAllKnown}
 use Rattle.taken_pictures.specs.Pictures.{HasSeenMore, held_picture}
 
 -- planes and a motion field, into which a picture is taken

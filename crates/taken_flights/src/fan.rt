@@ -2,12 +2,11 @@
 
 ghost use Rattle.std.specs.Prelude.{◌≡◌, ◌+◌, ◌-◌, ◌/◌, ◌≤◌};
 ghost use Rattle.std.specs.Thread.{IsSync};
-ghost use Rattle.flight_facts.specs.Facts.{flight_in};
+ghost use Rattle.taken_pictures.specs.FlightFacts.{flight_in};
 ghost use Rattle.flight_workers.specs.Working.{IsGathered};
 ghost use Rattle.taken_flights.specs.Taken.{AreParts, AreTaken, HasLookedOn, MayLook, MayTake};
 
 use crate::shares::take_share;
-use flight_facts::FlightFacts;
 use hv_io::Gate;
 use picture_buffer::{MotionField, Planes};
 use plan_types::PicturePlan;
@@ -15,6 +14,7 @@ use progress_words::{Board, Pass};
 use sample_words::Layout;
 use std::sync::Wait;
 use std::thread::{Threads, join_mut};
+use taken_pictures::FlightFacts;
 
 /// A pass that is back from taking pictures of a flight, and how many were taken.
 pub struct Taken {

@@ -2,10 +2,10 @@
 
 ghost use Rattle.std.specs.Prelude.{ℕ, List};
 ghost use Rattle.sample_words.specs.declared.sizes.FlightSizes.{FlightSizes};
-ghost use Rattle.flight_facts.specs.declared.flight_facts.FlightFacts.{FlightFacts};
-ghost use Rattle.flight_facts.specs.Facts.{flight_in};
-ghost use Rattle.flight_facts.specs.Flights.{IsOfFlight};
-ghost use Rattle.flight_facts.specs.Held.{HoldsPictures};
+ghost use Rattle.taken_pictures.specs.FlightFacts.{FlightFacts};
+ghost use Rattle.taken_pictures.specs.FlightFacts.{flight_in};
+ghost use Rattle.taken_pictures.specs.FlightFacts.{IsOfFlight};
+ghost use Rattle.taken_pictures.specs.FlightFacts.{HoldsPictures};
 ghost use Rattle.taken_flights.specs.Taken.{IsBroken, StopsInside};
 
 /// Where a fault was found in a picture or before it, the fault word of the closed board isn't none: decoding stops at

@@ -2,17 +2,16 @@
 
 ghost use Rattle.std.specs.Prelude.{◌≡◌, Some, slice_get};
 ghost use Rattle.progress_words.specs.declared.waiting.Waited.TheVariants.{Ready, Stopped};
-ghost use Rattle.flight_facts.specs.Facts.{flight_in};
+ghost use Rattle.taken_pictures.specs.FlightFacts.{flight_in};
 ghost use Rattle.taken_flights.specs.Taken.{AreParts, AreTaken, HasLookedOn, IsBroken, IsDecoded, IsSized, MayLook};
 
-use flight_facts::FlightFacts;
 use hv_io::Gate;
 use picture_buffer::{MotionField, Planes};
 use plan_types::PicturePlan;
 use progress_words::{Board, Pass, Waited};
 use sample_words::Layout;
 use std::sync::Wait;
-use taken_pictures::{see_picture, take_picture};
+use taken_pictures::{FlightFacts, see_picture, take_picture};
 
 /// Takes pictures of the flight one after the other, from one on, until all are taken or a fault is found in the next
 /// one or before it. How many it has taken.

@@ -12,10 +12,10 @@ use Rattle.sample_lines.specs.FactsOfFlights.{decoded_of}
 use Rattle.sample_words.specs.declared.sizes.FlightSizes.{FlightSizes}
 use Rattle.sample_words.specs.Contents.{component_side}
 use Rattle.sample_words.specs.Sizes.{IsFlight}
-use Rattle.spec_picture_build.specs.Border.{has_sample}
+use Rattle.row_above_laws.specs.SpecPictureBuild.{has_sample}
 use Rattle.spec_picture_trees.specs.Places.{has_place}
 use Rattle.spec_picture_trees.specs.Shapes.{picture_shape}
-use Rattle.spec_decoded_pictures.specs.Decoded.{DecodedUnits, decoded_by, samples_filtered}
+use Rattle.spec_flights.specs.SpecDecodedPictures.{DecodedUnits, decoded_by, samples_filtered}
 use Rattle.spec_flights.specs.Phases.{phase_samples}
 use Rattle.spec_flights.specs.Pictures.{PlannedFlight, folded_at, folded_in, known_decoded, known_folded}
 use Rattle.spec_flights.specs.Pictures.{pictures_before}

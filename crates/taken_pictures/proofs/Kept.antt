@@ -5,7 +5,7 @@ use Rattle.plan_types.specs.declared.segment_plan.SegmentPlan.{SegmentPlan}
 use Rattle.spec_motion.specs.declared.vectors.Motion.{Motion}
 use Rattle.sample_words.specs.Packing.{bits_at}
 use Rattle.sample_words.specs.Values.{modes_in, motion_in, mv_in, vector_in}
-use Rattle.flight_value_laws.specs.Motion.{kept_in, kept_motion, motion_where}
+use Rattle.row_above_laws.specs.FlightValueLaws.{kept_in, kept_motion, motion_where}
 use Rattle.taken_pictures.specs.Kept.{kept_by, motion_in_segment, pointing_in}
 
 -- a picture keeps motion as it stands in the words of a place

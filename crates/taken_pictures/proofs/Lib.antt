@@ -13,3 +13,5 @@ pub mod Held
 pub mod Seen
 pub mod Taken
 pub mod Pictures
+pub mod FlightUnitLawsLemmas
+pub mod FlightFactsLemmas

@@ -7,7 +7,7 @@ use Rattle.plan_types.specs.declared.segment_plan.SegmentPlan.{SegmentPlan}
 use Rattle.picture_buffer.specs.declared.place_motion.PlaceMotion.{PlaceMotion}
 use Rattle.picture_buffer.specs.Motion.{FieldPlaces, HasPlaces, motions_of as motions_held}
 use Rattle.picture_buffer.specs.Planes.{HasSides, PictureSamples, PlaneSamples, plane_at, samples_of}
-use Rattle.spec_picture_build.specs.References.{motions_of}
+use Rattle.row_above_laws.specs.SpecPictureBuild.{motions_of}
 use Rattle.spec_picture_motion.specs.Derived.{References, added_in, unit_added, units_derived, with_unit}
 use Rattle.spec_picture_motion.specs.Field.{Motions, no_motions, unit_laid}
 use Rattle.spec_picture_trees.specs.Picture.{TreeUnit}

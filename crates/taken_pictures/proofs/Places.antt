@@ -12,7 +12,7 @@ use Rattle.sample_words.specs.Values.{modes_in, modes_word, motion_in, vectors_w
 use Rattle.spec_picture_trees.specs.Shapes.{picture_shape}
 use Rattle.spec_flights.specs.Pictures.{folded_at}
 use Rattle.spec_flights.specs.Words.{flight_sizes}
-use Rattle.flight_value_laws.specs.Motion.{kept_motion}
+use Rattle.row_above_laws.specs.FlightValueLaws.{kept_motion}
 use Rattle.sample_lines.specs.FactsOfFlights.{FlightFacts}
 use Rattle.sample_lines.specs.FactsOfFlights.{flight_in}
 use Rattle.sample_lines.specs.FactsOfFlights.{IsOfFlight}

@@ -15,7 +15,7 @@ use Rattle.sample_words.specs.Sizes.{columns, ctb_size, rows}
 use Rattle.sample_words.specs.Words.{line_units}
 use Rattle.spec_flights.specs.Rows.{is_sound, is_sound_in, is_sound_of}
 use Rattle.spec_flights.specs.Words.{flight_sizes}
-use Rattle.flight_value_laws.proofs.Rows.{in_picture}
+use Rattle.row_above_laws.proofs.FlightValueLawsLemmas.{in_picture}
 use Rattle.sample_lines.specs.FactsOfFlights.{FlightFacts}
 use Rattle.sample_lines.specs.FactsOfFlights.{flight_in}
 use Rattle.line_words.specs.Places.{UnitAt}

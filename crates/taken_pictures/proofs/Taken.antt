@@ -10,11 +10,12 @@ use Rattle.sample_words.specs.declared.sizes.FlightSizes.{FlightSizes}
 use Rattle.sample_words.specs.Contents.{component_side}
 use Rattle.sample_words.specs.Sizes.{IsFlight, columns}
 use Rattle.sample_words.specs.Words.{line_units}
-use Rattle.picture_buffer.specs.Planes.{HasSides, PictureSamples, plane_height, plane_samples, plane_width, samples_of}
+use Rattle.picture_buffer.specs.Planes.{HasSides, PictureSamples, plane_height, plane_samples, plane_width}
+use Rattle.picture_buffer.specs.Planes.{samples_of}
 use Rattle.picture_buffer.specs.Planes.{with_component}
 use Rattle.picture_buffer.proofs.Lent.{read_at, written_at}
 use Rattle.picture_buffer.specs.declared.place_motion.PlaceMotion.{PlaceMotion}
-use Rattle.spec_picture_build.specs.Border.{Samples}
+use Rattle.row_above_laws.specs.SpecPictureBuild.{Samples}
 use Rattle.spec_flights.specs.Pictures.{PlannedFlight, folded_at}
 use Rattle.line_words.specs.Places.{UnitAt}
 use Rattle.sample_lines.specs.FactsOfFlights.{FlightFacts}

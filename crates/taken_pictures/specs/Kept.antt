@@ -8,7 +8,7 @@ use Rattle.picture_buffer.specs.declared.place_motion.PlaceMotion.{PlaceMotion}
 use Rattle.spec_picture_motion.specs.Field.{pointing_motion}
 use Rattle.spec_picture_motion.specs.Slices.{slice_motion}
 use Rattle.sample_words.specs.Values.{modes_in, motion_in}
-use Rattle.flight_value_laws.specs.Motion.{kept_motion}
+use Rattle.row_above_laws.specs.FlightValueLaws.{kept_motion}
 use Rattle.taken_pictures.specs.declared.kept_places.SegmentMotion.{SegmentMotion}
 use Rattle.taken_pictures.specs.declared.place_rows.PlaceRow.{PlaceRow}
 

@@ -2,13 +2,13 @@
 
 ghost use Rattle.std.specs.Prelude.{◌≡◌, Option, slice_get};
 ghost use Rattle.spec_picture_trees.specs.Shapes.{picture_shape};
-ghost use Rattle.flight_value_laws.specs.Motion.{motion_where};
+ghost use Rattle.row_above_laws.specs.FlightValueLaws.{motion_where};
 ghost use Rattle.taken_pictures.specs.Kept.{IsOfSegment, kept_by, motion_in_segment, pointing_in};
 
 use picture_buffer::PlaceMotion;
 use picture_layout::CodingTreeUnit;
-use picture_motion::{pointing_motion, slice_motion};
 use plan_types::PicturePlan;
+use row_above_laws::{pointing_motion, slice_motion};
 use sample_words::{unpack_modes, unpack_motion};
 use spec_motion::{Motion, SliceMotion};
 

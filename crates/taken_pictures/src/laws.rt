@@ -19,8 +19,9 @@ ghost use Rattle.taken_pictures.specs.Kept.{kept_by};
 ghost use Rattle.taken_pictures.specs.Pictures.{held_picture};
 ghost use Rattle.taken_pictures.specs.Places.{IsTreeUnit, address_at, column_at, row_at, word_in};
 
-use flight_value_laws::{references_come_back, values_fit_their_words};
-use row_above_laws::expected_words_are_of_their_places;
+use row_above_laws::{
+    expected_words_are_of_their_places, references_come_back, values_fit_their_words,
+};
 use sample_lines::{
     decoded_samples_are_of_the_last_phase, pictures_have_the_sizes_of_their_flight,
 };

@@ -15,5 +15,6 @@ mod whole_pictures;
 
 pub use row_motion::take_row_motion;
 pub use row_samples::take_row_samples;
+pub use sample_lines::FlightFacts;
 pub use seen_rows::see_picture;
 pub use whole_pictures::take_picture;

@@ -1,3 +1,4 @@
 pub mod Growth
 pub mod Powers
 pub mod Trees
+pub mod CabacContextsLemmas

@@ -2,7 +2,7 @@
 use Rattle.std.proofs.Common.{◌≡◌, ℕ, suc, ◌+◌, ◌-◌, ◌<◌, ap, arith}
 use Rattle.ctu_records.specs.declared.item.Square.{Square}
 use Rattle.ctu_records.specs.Tree.{Ctu}
-use Rattle.spec_cabac.specs.Bins.{State, read}
+use Rattle.residual_syntax.specs.SpecCabac.{State, read}
 use Rattle.spec_slice_data.specs.declared.syntax.CtuSyntax.{CtuSyntax}
 use Rattle.spec_slice_data.specs.declared.syntax.UnitSyntax.{UnitSyntax}
 use Rattle.spec_slice_data.specs.declared.syntax.ChromaFlags.{ChromaFlags}

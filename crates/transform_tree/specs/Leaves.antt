@@ -2,10 +2,10 @@
 use Rattle.std.specs.Prelude.{◌≡◌, ℕ, ◌+◌, ◌≤◌, length, Result, Ok, Err, OnOk}
 use Rattle.hv_base.specs.declared.breach.Breach.{Breach}
 use Rattle.ctu_records.specs.Tree.{Ctu}
-use Rattle.spec_cabac.specs.Engine.{IsLive}
-use Rattle.spec_cabac.specs.Bins.{State, Tree, read}
-use Rattle.cabac_contexts.specs.declared.bin_reader.BinReader.{BinReader}
-use Rattle.cabac_contexts.specs.Takes.{state_of}
+use Rattle.residual_syntax.specs.SpecCabac.{IsLive}
+use Rattle.residual_syntax.specs.SpecCabac.{State, Tree, read}
+use Rattle.residual_syntax.specs.CabacContexts.{BinReader}
+use Rattle.residual_syntax.specs.CabacContexts.{state_of}
 
 -- what a call left of a value, and the state behind it, is what reading gives
 abbrev pub Leaves : {X Y : Type 0} → Result X Breach → Y → State → Result (Y × State) Breach → Type 0

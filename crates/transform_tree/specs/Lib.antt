@@ -1,2 +1,4 @@
 pub mod Leaves
 pub mod Quarters
+pub mod CabacContexts
+pub mod CabacEngine

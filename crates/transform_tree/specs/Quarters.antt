@@ -1,8 +1,8 @@
 -- The quarters of a square in reading order.
 use Rattle.ctu_records.specs.declared.item.Square.{Square}
 use Rattle.ctu_records.specs.Tree.{Ctu}
-use Rattle.spec_cabac.specs.Bins.{Tree}
-use Rattle.spec_formats.specs.Format.{◌>>=◌}
+use Rattle.residual_syntax.specs.SpecCabac.{Tree}
+use Rattle.residual_syntax.specs.SpecFormats.{◌>>=◌}
 use Rattle.spec_slice_data.specs.Modes.{upper_left, upper_right, lower_left, lower_right}
 
 -- a tree for each quarter of a square, each on what the one before it gave

@@ -2,18 +2,16 @@
 
 ghost use Rattle.std.specs.Prelude.{◌≡◌, ◌+◌, ◌*◌, ◌^◌, ◌≤◌, length};
 ghost use Rattle.ctu_records.specs.Tree.{room};
-ghost use Rattle.spec_cabac.specs.Engine.{IsLive};
+ghost use Rattle.residual_syntax.specs.SpecCabac.{IsLive};
 ghost use Rattle.spec_slice_data.specs.Residual.{coded_block, residual_block, scan_of, scan_of_mode, with_level};
 ghost use Rattle.spec_slice_data.specs.Residual.{with_residual};
 ghost use Rattle.spec_slice_data.specs.Transform.{block_where};
 ghost use Rattle.transform_tree.specs.Leaves.{Fills, Grows};
 
 use crate::node::UnitContext;
-use block_geometry::Scan;
-use cabac_contexts::BinReader;
 use ctu_records::{CodedBlock, Item, Records};
 use hv_base::Breach;
-use residual_syntax::{Level, Levels, ResidualBlock, read_residual};
+use residual_syntax::{BinReader, Level, Levels, ResidualBlock, Scan, read_residual};
 use spec_slice_data::{TransformBlock, UnitSyntax};
 
 /// scanIdx by an intra mode.

@@ -12,5 +12,6 @@ mod tree;
 
 pub use quantization::begin_group;
 pub use quarters::{lower_left, lower_right, upper_left, upper_right};
+pub use residual_syntax::{BinReader, Contexts, Interval, Levels};
 pub use sign::signed;
 pub use tree::unit_tree;

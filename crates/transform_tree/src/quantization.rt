@@ -2,18 +2,17 @@
 
 ghost use Rattle.std.specs.Prelude.{◌≡◌, ℕ, ◌+◌, ◌-◌, ◌*◌, ◌/◌, ◌^◌, ◌<◌, ◌≤◌, true, length, IfOk};
 ghost use Rattle.ctu_records.specs.Tree.{IsPlaced, room};
-ghost use Rattle.spec_cabac.specs.Engine.{IsLive};
-ghost use Rattle.spec_cabac.specs.Bins.{truncated};
+ghost use Rattle.residual_syntax.specs.SpecCabac.{IsLive};
+ghost use Rattle.residual_syntax.specs.SpecCabac.{truncated};
 ghost use Rattle.spec_slice_data.specs.Quantization.{cu_qp_delta, cu_qp_delta_abs, delta_bin, delta_where, group_at};
 ghost use Rattle.spec_slice_data.specs.Quantization.{grouped, is_delta, qp_of};
-ghost use Rattle.cabac_contexts.specs.Takes.{Takes};
+ghost use Rattle.residual_syntax.specs.CabacContexts.{Takes};
 ghost use Rattle.transform_tree.specs.Leaves.{Fills, Grows};
 
 use crate::sign::signed;
-use cabac_contexts::BinReader;
 use ctu_records::{QpDelta, Quantization, Records, Square};
 use hv_base::{Breach, FaultKind};
-use spec_cabac::CU_QP_DELTA_ABS;
+use residual_syntax::{BinReader, CU_QP_DELTA_ABS};
 use spec_slice_data::CtuSyntax;
 
 const OUT_OF_RANGE: Breach = Breach::Fault(FaultKind::QpRange);

@@ -2,21 +2,19 @@
 
 ghost use Rattle.std.specs.Prelude.{◌≡◌, ◌+◌, ◌*◌, ◌^◌, ◌≤◌, length};
 ghost use Rattle.ctu_records.specs.Tree.{IsPlaced, room};
-ghost use Rattle.spec_cabac.specs.Engine.{IsLive};
+ghost use Rattle.residual_syntax.specs.SpecCabac.{IsLive};
 ghost use Rattle.spec_slice_data.specs.Syntax.{IsSyntax};
 ghost use Rattle.spec_slice_data.specs.Transform.{cbf_luma, cbf_luma_at, chroma_blocks, chroma_of, luma_of};
 ghost use Rattle.spec_slice_data.specs.Transform.{transform_blocks, transform_unit};
-ghost use Rattle.cabac_contexts.specs.Takes.{Takes};
+ghost use Rattle.residual_syntax.specs.CabacContexts.{Takes};
 ghost use Rattle.transform_tree.specs.Leaves.{Fills, Grows};
 
 use crate::coded_block::block_where;
 use crate::node::{TransformNode, UnitContext};
 use crate::quantization::delta_where;
-use cabac_contexts::BinReader;
 use ctu_records::{Item, Records, Square, TransformUnit};
 use hv_base::Breach;
-use residual_syntax::Levels;
-use spec_cabac::CBF_LUMA;
+use residual_syntax::{BinReader, CBF_LUMA, Levels};
 use spec_slice_data::{ChromaFlags, TransformBlock, UnitSyntax};
 
 /// The two chroma blocks of a square of at least 8x8 luma samples.

@@ -2,23 +2,21 @@
 
 ghost use Rattle.std.specs.Prelude.{◌≡◌, ◌+◌, ◌-◌, ◌*◌, ◌^◌, ◌<◌, ◌≤◌, false, length, IfOk};
 ghost use Rattle.ctu_records.specs.Tree.{IsPlaced, room};
-ghost use Rattle.spec_cabac.specs.Engine.{IsLive};
+ghost use Rattle.residual_syntax.specs.SpecCabac.{IsLive};
 ghost use Rattle.spec_slice_data.specs.Syntax.{IsSyntax};
 ghost use Rattle.spec_slice_data.specs.Transform.{cbf_chroma, chroma_flags, max_depth, split_transform_flag};
 ghost use Rattle.spec_slice_data.specs.Transform.{transform_tree};
 ghost use Rattle.spec_slice_data.specs.Tree.{unit_tree};
-ghost use Rattle.cabac_contexts.specs.Takes.{Takes};
+ghost use Rattle.residual_syntax.specs.CabacContexts.{Takes};
 ghost use Rattle.transform_tree.specs.Leaves.{Fills, Grows};
 ghost use Rattle.transform_tree.specs.Quarters.{in_quarters};
 
 use crate::node::{TransformNode, UnitContext};
 use crate::quarters::{lower_left, lower_right, upper_left, upper_right};
 use crate::transform_unit::transform_unit;
-use cabac_contexts::BinReader;
 use ctu_records::Records;
 use hv_base::Breach;
-use residual_syntax::Levels;
-use spec_cabac::{CBF_CHROMA, SPLIT_TRANSFORM_FLAG};
+use residual_syntax::{BinReader, CBF_CHROMA, Levels, SPLIT_TRANSFORM_FLAG};
 use spec_slice_data::{ChromaFlags, CtuSyntax, UnitSyntax};
 
 /// MaxTrafoDepth.

@@ -4,10 +4,10 @@ use Rattle.std.proofs.lemmas.Bool.Decides.{nat_tests}
 use Rattle.spec_motion.specs.declared.slice_motion.SliceMotion.{SliceMotion}
 use Rattle.spec_motion.specs.Vectors.{Known}
 use Rattle.spec_picture_filters.specs.Units.{motion_near}
-use Rattle.spec_picture_motion.specs.Field.{Motions, pointing_motion}
-use Rattle.spec_picture_motion.specs.Field.{unit_laid}
-use Rattle.spec_picture_trees.specs.Places.{first_column, first_row, is_there}
-use Rattle.spec_slice_data.specs.Segment.{PictureShape}
+use Rattle.spec_picture_build.specs.SpecPictureMotion.{Motions, pointing_motion}
+use Rattle.spec_picture_build.specs.SpecPictureMotion.{unit_laid}
+use Rattle.picture_filters.specs.SpecPictureTrees.{first_column, first_row, is_there}
+use Rattle.spec_picture_build.specs.SpecSliceData.{PictureShape}
 use Rattle.unit_build.specs.Near.{is_inside}
 
 -- that of the unit's own places

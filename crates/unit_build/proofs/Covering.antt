@@ -1,12 +1,12 @@
 -- The parts of units by the numbers of their picture.
 use Rattle.std.proofs.Common.{◌≡◌, ℕ, ◌*◌, ◌/◌, ◌%◌, ◌^◌, ◌≤◌, ap, subst, ◌∙◌, arith}
 use Rattle.std.proofs.Math.Nat.{mul-le-mul_left}
-use Rattle.spec_slice_data.specs.Segment.{PictureShape}
-use Rattle.spec_slice_data.specs.Residual.{samples_of_place}
+use Rattle.spec_picture_build.specs.SpecSliceData.{PictureShape}
+use Rattle.spec_picture_build.specs.SpecSliceData.{samples_of_place}
 use Rattle.spec_picture_build.specs.Border.{height_of, unit_side, width_of}
 use Rattle.unit_build.specs.declared.part.Part.{Part}
 use Rattle.unit_build.specs.Parts.{IsPart}
-use Rattle.picture_layout.specs.Shape.{IsShape}
+use Rattle.picture_motion.specs.PictureLayout.{IsShape}
 
 -- units cover the rows of each plane
 pub covered : (picture : PictureShape) (c : ℕ) → IsShape picture

@@ -5,16 +5,16 @@ use Rattle.ctu_records.specs.Tree.{Ctu}
 use Rattle.picture_filters.specs.declared.given.UnitFilters.{UnitFilters}
 use Rattle.picture_filters.specs.Filtering.{IsUnit}
 use Rattle.picture_filters.specs.Given.{IsGiven}
-use Rattle.picture_layout.specs.declared.coding_tree_unit.CodingTreeUnit.{CodingTreeUnit}
+use Rattle.picture_motion.specs.PictureLayout.{CodingTreeUnit}
 use Rattle.picture_motion.specs.Deriving.{derived_over, known_over}
 use Rattle.picture_motion.proofs.Derived.{known_is, laid_is}
-use Rattle.plan_types.specs.declared.picture_plan.PicturePlan.{PicturePlan}
-use Rattle.plan_types.specs.declared.segment_plan.SegmentPlan.{SegmentPlan}
+use Rattle.picture_filters.specs.PlanTypes.{PicturePlan}
+use Rattle.picture_filters.specs.PlanTypes.{SegmentPlan}
 use Rattle.spec_motion.specs.declared.slice_motion.SliceMotion.{SliceMotion}
 use Rattle.spec_motion.specs.Units.{unit_derived}
 use Rattle.spec_motion.specs.Vectors as motion
-use Rattle.spec_picture_motion.specs.Field.{Motions, beneath_unit, known_beside}
-use Rattle.spec_picture_motion.specs.Slices.{slice_motion}
+use Rattle.spec_picture_build.specs.SpecPictureMotion.{Motions, beneath_unit, known_beside}
+use Rattle.spec_picture_build.specs.SpecPictureMotion.{slice_motion}
 use Rattle.unit_build.specs.Near.{motion_behind}
 
 -- the motion of a unit

@@ -3,15 +3,15 @@ use Rattle.std.proofs.Common.{◌≡◌, ℕ, zero, suc, ◌+◌, ◌-◌, ◌*�
 use Rattle.std.proofs.Common.{Bool, true, false, Option, Some, None, refl, sym, ap, subst, ◌∙◌, if◌then◌else◌, arith}
 use Rattle.std.proofs.Math.Path.{fun_ext}
 use Rattle.std.proofs.lemmas.Bool.Decides.{nat_tests}
-use Rattle.spec_slice_data.specs.Segment.{PictureShape}
-use Rattle.spec_reconstruction.specs.Known.{Known}
+use Rattle.spec_picture_build.specs.SpecSliceData.{PictureShape}
+use Rattle.spec_picture_build.specs.SpecReconstruction.{Known}
 use Rattle.spec_picture_build.specs.Border.{Samples, has_sample, height_of, is_available, known_beside, sample_beside}
 use Rattle.spec_picture_build.specs.Border.{unit_side, width_of}
-use Rattle.spec_picture_trees.specs.Places.{unit_at}
+use Rattle.picture_filters.specs.SpecPictureTrees.{unit_at}
 use Rattle.unit_build.specs.declared.part.Part.{Part}
 use Rattle.unit_build.specs.Beside.{beside_part, first_above, has_left, is_above, is_left, sample_at}
 use Rattle.unit_build.specs.Parts.{IsPart, IsRoom}
-use Rattle.picture_layout.specs.Shape.{IsShape}
+use Rattle.picture_motion.specs.PictureLayout.{IsShape}
 use Rattle.unit_build.proofs.Covering.{covered, part_of, whole_part}
 use Rattle.unit_build.proofs.Tests.{other}
 use Rattle.unit_build.proofs.Units.{above, column_is_left, first_column, line_is, none_inside, seen, unit_beside}

@@ -2,7 +2,7 @@
 use Rattle.std.proofs.Common.{◌≡◌, ℕ, ◌+◌, ◌-◌, ◌≤◌, ◌==◌, ◌&&◌, ◌||◌, nat_le, Bool, true, Some, ap, ◌∙◌, arith}
 use Rattle.std.proofs.Common.{if◌then◌else◌}
 use Rattle.std.proofs.lemmas.Bool.Decides.{nat_tests}
-use Rattle.spec_reconstruction.specs.Known.{Known}
+use Rattle.spec_picture_build.specs.SpecReconstruction.{Known}
 use Rattle.spec_picture_build.specs.Border.{Samples}
 use Rattle.unit_build.specs.declared.part.Part.{Part}
 use Rattle.unit_build.specs.Beside.{sample_at}

@@ -8,3 +8,5 @@ pub mod Left
 pub mod Around
 pub mod Joined
 pub mod Weighing
+pub mod PictureFiltersLemmas
+pub mod PictureMotionLemmas

@@ -2,7 +2,7 @@
 use Rattle.std.proofs.Common.{◌≡◌, ℕ, ◌+◌, ◌-◌, ◌*◌, ◌/◌, ◌%◌, ◌<◌, ◌≤◌, ap, ◌∙◌, arith}
 use Rattle.std.proofs.Math.Nat.{mod-lt, mul-le-mul_left}
 use Rattle.std.proofs.lemmas.Nat.{div-mul-add, mod-mul-add, div_below, le-div}
-use Rattle.picture_layout.proofs.Places.{before, whole}
+use Rattle.picture_motion.proofs.PictureLayoutLemmas.{before, whole}
 
 -- the block of a place
 pub block_is : (n q x : ℕ) → n * q ≤ x → x < n * q + n → x / n ≡ q

@@ -1,8 +1,9 @@
 -- The samples of a unit, and those beside it, by their places.
-use Rattle.std.proofs.Common.{◌≡◌, ℕ, ◌+◌, ◌-◌, ◌*◌, ◌/◌, ◌%◌, ◌<◌, ◌≤◌, ◌==◌, ◌&&◌, nat_le, nat_lt, Bool, true, false}
+use Rattle.std.proofs.Common.{◌≡◌, ℕ, ◌+◌, ◌-◌, ◌*◌, ◌/◌, ◌%◌, ◌<◌, ◌≤◌, ◌==◌, ◌&&◌, nat_le, nat_lt, Bool, true}
+use Rattle.std.proofs.Common.{false}
 use Rattle.std.proofs.Common.{zero, suc, refl, ap, ◌∙◌, if◌then◌else◌, ◌⊎◌, inl, inr, arith}
 use Rattle.std.proofs.lemmas.Bool.Decides.{nat_tests}
-use Rattle.picture_layout.proofs.Places.{before, block_begins, block_ends}
+use Rattle.picture_motion.proofs.PictureLayoutLemmas.{before, block_begins, block_ends}
 use Rattle.unit_build.proofs.Places.{below, block_is, column_is, not_before, row_is, times_none, times_some}
 use Rattle.unit_build.proofs.Places.{unit_above, unit_is, unit_left}
 use Rattle.unit_build.proofs.Tests.{same_tests}

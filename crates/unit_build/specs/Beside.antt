@@ -1,7 +1,7 @@
 -- Which samples beside a coding tree unit are known (6.4.1).
 use Rattle.std.specs.Prelude.{ℕ, ◌+◌, ◌-◌, ◌*◌, ◌==◌, ◌&&◌, ◌||◌, nat_le, nat_lt, Bool, Option, Some, None}
 use Rattle.std.specs.Prelude.{if◌then◌else◌}
-use Rattle.spec_slice_data.specs.Segment.{PictureShape, column_of}
+use Rattle.spec_picture_build.specs.SpecSliceData.{PictureShape, column_of}
 use Rattle.spec_picture_build.specs.Border.{Samples}
 use Rattle.unit_build.specs.declared.part.Part.{Part}
 

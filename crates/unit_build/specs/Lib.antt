@@ -1,3 +1,11 @@
 pub mod Parts
 pub mod Beside
 pub mod Near
+pub mod PictureFilters
+pub mod CtuBuild
+pub mod CtuMotion
+pub mod SpecPictureFilters
+pub mod InterSamples
+pub mod SpecLoopFilters
+pub mod PictureMotion
+pub mod SpecPictureBuild

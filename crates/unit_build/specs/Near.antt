@@ -2,10 +2,10 @@
 use Rattle.std.specs.Prelude.{ℕ, ◌&&◌, nat_le, Bool}
 use Rattle.spec_motion.specs.declared.slice_motion.SliceMotion.{SliceMotion}
 use Rattle.spec_motion.specs.Vectors.{Known}
-use Rattle.spec_picture_motion.specs.Field.{Motions, unit_laid}
-use Rattle.spec_picture_trees.specs.Places.{unit_places}
-use Rattle.spec_slice_data.specs.Segment.{PictureShape}
-use Rattle.picture_layout.specs.declared.coding_tree_unit.CodingTreeUnit.{CodingTreeUnit}
+use Rattle.spec_picture_build.specs.SpecPictureMotion.{Motions, unit_laid}
+use Rattle.picture_filters.specs.SpecPictureTrees.{unit_places}
+use Rattle.spec_picture_build.specs.SpecSliceData.{PictureShape}
+use Rattle.picture_motion.specs.PictureLayout.{CodingTreeUnit}
 
 -- the motion of the picture behind a unit of which this is known
 abbrev pub motion_behind : CodingTreeUnit → SliceMotion → Known → Motions → Motions

@@ -1,6 +1,6 @@
 -- Where the samples of coding tree units are in the planes of a picture (6.3.1).
 use Rattle.std.specs.Prelude.{◌≡◌, ℕ, ◌+◌, ◌<◌, ◌≤◌, ◌==◌, ◌&&◌, nat_le, nat_lt, Bool}
-use Rattle.spec_slice_data.specs.Segment.{PictureShape}
+use Rattle.spec_picture_build.specs.SpecSliceData.{PictureShape}
 use Rattle.spec_picture_build.specs.Border.{height_of, unit_column, unit_line, unit_side, width_of}
 use Rattle.unit_build.specs.declared.part.Part.{Part}
 

@@ -9,7 +9,7 @@ ghost use Rattle.spec_picture_build.specs.Border.{known_beside};
 use crate::part::Part;
 use crate::view::Beside;
 use ctu_build::UnitSamples;
-use picture_layout::CodingTreeUnit;
+use picture_motion::CodingTreeUnit;
 
 /// What is known beside a unit becomes known, and nothing else is.
 pub(crate) fn gather<B: Beside>(unit: &CodingTreeUnit, beside: &B, samples: &mut UnitSamples)

@@ -1,8 +1,8 @@
 //! What a coding tree unit's work leaves.
 
 use ctu_build::UnitSamples;
-use ctu_motion::UnitMotion;
 use picture_filters::UnitFilters;
+use picture_motion::UnitMotion;
 use spec_motion::{Reference, SliceMotion};
 
 /// What a unit's work leaves: it is as large as the greatest unit asks, and is filled anew by each unit.

@@ -6,7 +6,7 @@ ghost use Rattle.spec_picture_filters.specs.Units.{coded_near};
 
 use crate::view::Beside;
 use picture_filters::CodedBeside;
-use picture_layout::CodingTreeUnit;
+use picture_motion::CodingTreeUnit;
 
 /// Which places beside a unit are coded.
 pub(crate) fn coded_beside<B: Beside>(unit: &CodingTreeUnit, beside: &B) -> CodedBeside

@@ -14,6 +14,12 @@ mod view;
 mod weights;
 
 pub use built::BuiltUnit;
+pub use ctu_build::{Scratch, UnitSamples};
 pub use part::Part;
+pub use picture_filters::{FilterScratch, PictureFilters, UnitFilters, filter_format};
+pub use picture_motion::{
+    MotionBeneath, MotionBeside, MotionView, UnitMotion, collocated_entry, lay_unit,
+    pointing_motion, slice_motion,
+};
 pub use unit::{UnitSource, build_unit, derive_unit, fill_unit};
 pub use view::Beside;

@@ -2,15 +2,13 @@
 
 ghost use Rattle.std.specs.Prelude.{◌≡◌};
 ghost use Rattle.std.specs.List.{All};
-ghost use Rattle.ctu_motion.specs.Held.{held};
+ghost use Rattle.picture_motion.specs.CtuMotion.{held};
 ghost use Rattle.spec_motion.specs.Units.{IsPlacedItem, unit_derived};
-ghost use Rattle.spec_picture_motion.specs.Field.{beneath_unit, known_beside};
+ghost use Rattle.spec_picture_build.specs.SpecPictureMotion.{beneath_unit, known_beside};
 
 use crate::view::Beside;
-use ctu_motion::{UnitMotion, derive_motion};
 use ctu_records::Records;
-use picture_layout::CodingTreeUnit;
-use picture_motion::{gather_beneath, gather_beside};
+use picture_motion::{CodingTreeUnit, UnitMotion, derive_motion, gather_beneath, gather_beside};
 use spec_motion::SliceMotion;
 
 /// Derives the motion of a unit over that beside it and that of the collocated picture.

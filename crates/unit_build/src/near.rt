@@ -1,17 +1,13 @@
 //! The motion of a coding tree unit and beside it, as edges ask for it (8.7.2.4).
 
 ghost use Rattle.std.specs.Prelude.{◌≡◌, ◌≤◌};
-ghost use Rattle.ctu_motion.specs.Held.{held};
+ghost use Rattle.picture_motion.specs.CtuMotion.{held};
 ghost use Rattle.unit_build.specs.Near.{is_inside, motion_behind};
 ghost use Rattle.spec_picture_filters.specs.Units.{motion_near};
 
 use crate::view::Beside;
-use boundary_strengths::PlaceMotions;
-use ctu_motion::UnitMotion;
-use motion_candidates::MotionView;
-use picture_buffer::PlaceMotion;
-use picture_layout::CodingTreeUnit;
-use picture_motion::pointing_motion;
+use picture_filters::PlaceMotions;
+use picture_motion::{CodingTreeUnit, MotionView, PlaceMotion, UnitMotion, pointing_motion};
 use spec_motion::SliceMotion;
 
 /// The motion of a unit that is derived, over that beside it.

@@ -2,10 +2,10 @@
 
 ghost use Rattle.std.specs.Prelude.{◌≡◌, ◌*◌, ◌<◌, ◌≤◌};
 ghost use Rattle.unit_build.specs.Parts.{IsPart, IsRoom};
-ghost use Rattle.picture_layout.specs.Shape.{IsShape};
-ghost use Rattle.spec_slice_data.specs.Residual.{samples_of_place};
+ghost use Rattle.picture_motion.specs.PictureLayout.{IsShape};
+ghost use Rattle.spec_picture_build.specs.SpecSliceData.{samples_of_place};
 
-use picture_layout::CodingTreeUnit;
+use picture_motion::CodingTreeUnit;
 
 /// Where the samples of a component of a unit are in the component's plane.
 #[derive(Clone, Copy)]

@@ -2,24 +2,22 @@
 
 ghost use Rattle.std.specs.Prelude.{◌≡◌, ◌≤◌};
 ghost use Rattle.ctu_build.specs.Held.{held};
-ghost use Rattle.ctu_motion.specs.Held.{held as motion_held};
-ghost use Rattle.inter_samples.specs.Inter.{AreSmall, inter_unit};
+ghost use Rattle.picture_motion.specs.CtuMotion.{held as motion_held};
+ghost use Rattle.ctu_build.specs.InterSamples.{AreSmall, inter_unit};
 ghost use Rattle.spec_picture_build.specs.Border.{known_beside};
 ghost use Rattle.spec_picture_build.specs.Weights.{slice_weighting};
-ghost use Rattle.spec_picture_trees.specs.Places.{first_column, first_row};
-ghost use Rattle.spec_reconstruction.specs.Sound.{AreSound, IsFormat};
-ghost use Rattle.spec_reconstruction.specs.Unit.{unit_built};
+ghost use Rattle.picture_filters.specs.SpecPictureTrees.{first_column, first_row};
+ghost use Rattle.spec_picture_build.specs.SpecReconstruction.{AreSound, IsFormat};
+ghost use Rattle.spec_picture_build.specs.SpecReconstruction.{unit_built};
 
 use crate::beside::gather;
 use crate::built::BuiltUnit;
 use crate::unit::UnitSource;
 use crate::view::Beside;
 use crate::weights::slice_weighting;
-use ctu_build::{Scratch, build_ctu};
+use ctu_build::{RefWindow, Scratch, UnitInter, build_ctu};
 use ctu_records::Records;
-use inter_pred::RefWindow;
-use inter_samples::UnitInter;
-use picture_layout::CodingTreeUnit;
+use picture_motion::CodingTreeUnit;
 
 /// Where a unit stands that the picture has.
 #[derive(Clone, Copy)]

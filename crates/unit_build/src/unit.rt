@@ -3,19 +3,19 @@
 ghost use Rattle.std.specs.Prelude.{◌≡◌, ℕ, ◌<◌, ◌≤◌};
 ghost use Rattle.std.specs.List.{All};
 ghost use Rattle.ctu_build.specs.Held.{held};
-ghost use Rattle.ctu_motion.specs.Held.{held as motion_held};
+ghost use Rattle.picture_motion.specs.CtuMotion.{held as motion_held};
 ghost use Rattle.ctu_records.specs.Tree.{qp_at};
-ghost use Rattle.inter_samples.specs.Inter.{AreSmall, inter_unit};
+ghost use Rattle.ctu_build.specs.InterSamples.{AreSmall, inter_unit};
 ghost use Rattle.picture_filters.specs.Filtering.{IsUnit};
 ghost use Rattle.picture_filters.specs.Given.{IsGiven};
 ghost use Rattle.picture_motion.specs.Deriving.{derived_over, known_over};
 ghost use Rattle.spec_motion.specs.Units.{IsPlacedItem};
 ghost use Rattle.spec_picture_build.specs.Border.{known_beside};
 ghost use Rattle.spec_picture_build.specs.Weights.{slice_weighting};
-ghost use Rattle.spec_picture_motion.specs.Slices.{slice_motion};
-ghost use Rattle.spec_picture_trees.specs.Places.{first_column, first_row};
-ghost use Rattle.spec_reconstruction.specs.Sound.{AreSound, IsFormat};
-ghost use Rattle.spec_reconstruction.specs.Unit.{unit_built};
+ghost use Rattle.spec_picture_build.specs.SpecPictureMotion.{slice_motion};
+ghost use Rattle.picture_filters.specs.SpecPictureTrees.{first_column, first_row};
+ghost use Rattle.spec_picture_build.specs.SpecReconstruction.{AreSound, IsFormat};
+ghost use Rattle.spec_picture_build.specs.SpecReconstruction.{unit_built};
 ghost use Rattle.unit_build.specs.Near.{motion_behind};
 
 use crate::built::BuiltUnit;
@@ -24,13 +24,11 @@ use crate::motion::derive_over;
 use crate::near::UnitNear;
 use crate::samples::{Standing, build_samples};
 use crate::view::Beside;
-use ctu_build::Scratch;
+use ctu_build::{RefWindow, Scratch};
 use ctu_records::Records;
-use inter_pred::RefWindow;
-use picture_filters::{UnitFilters, unit_filters};
+use picture_filters::{PicturePlan, SegmentPlan, UnitFilters, unit_filters};
 use picture_motion::slice_motion;
-use plan_types::{PicturePlan, SegmentPlan};
-use spec_reconstruction::UnitFormat;
+use spec_picture_build::UnitFormat;
 
 /// The slice segment of a unit.
 #[derive(Clone, Copy)]

@@ -1,12 +1,11 @@
 //! Where what a coding tree unit depends on is taken from, but for the pictures that it refers to.
 
 ghost use Rattle.std.specs.Prelude.{◌≡◌, ℕ, ◌+◌, ◌-◌, ◌*◌, ◌<◌, ◌≤◌, Bool, length, slice_index_or};
-ghost use Rattle.picture_layout.specs.declared.coding_tree_unit.CodingTreeUnit.{CodingTreeUnit};
+ghost use Rattle.picture_motion.specs.PictureLayout.{CodingTreeUnit};
 ghost use Rattle.unit_build.specs.Parts.{IsPart, IsRoom};
 
 use crate::part::Part;
-use picture_layout::CodingTreeUnit;
-use picture_motion::{MotionBeneath, MotionBeside};
+use picture_motion::{CodingTreeUnit, MotionBeneath, MotionBeside};
 
 /// What stands beside a coding tree unit in its picture: the line above it, the column on its left, the motion and the
 /// coded places there, and the motion of the collocated picture beneath it.

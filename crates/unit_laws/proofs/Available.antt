@@ -3,10 +3,10 @@ use Rattle.std.proofs.Common.{◌≡◌, ◌<◌, ◌≤◌, ℕ, true, Ok, arit
 use Rattle.block_geometry.specs.CodingTreeBlocks.{is_from}
 use Rattle.ctu_records.specs.Tree.{Ctu}
 use Rattle.header_types.specs.SequenceParameterSets.{IsSps, min_tb_log2}
-use Rattle.plan_types.specs.declared.picture_plan.PicturePlan.{PicturePlan}
-use Rattle.plan_types.specs.declared.segment_plan.SegmentPlan.{SegmentPlan}
+use Rattle.spec_picture_build.specs.PlanTypes.{PicturePlan}
+use Rattle.spec_picture_build.specs.PlanTypes.{SegmentPlan}
 use Rattle.spec_cabac.specs.Bins.{State, read}
-use Rattle.spec_picture_trees.specs.Shapes.{in_places, picture_shape, segment_syntax, slice_syntax}
+use Rattle.spec_picture_build.specs.SpecPictureTrees.{in_places, picture_shape, segment_syntax, slice_syntax}
 use Rattle.spec_slice_data.specs.Segment.{Between, SegmentShape, unit_at}
 use Rattle.spec_slice_data.specs.declared.syntax.End.{End}
 use Rattle.unit_laws.proofs.Beside.{least_block, same_width}

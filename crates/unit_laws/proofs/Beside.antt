@@ -9,9 +9,9 @@ use Rattle.block_geometry.specs.Availability.{available, block_start, min_transf
 use Rattle.block_geometry.specs.Availability.{width_in_units, z_scan_order}
 use Rattle.block_geometry.specs.declared.availability.SliceArea.{SliceArea}
 use Rattle.header_types.specs.SequenceParameterSets.{IsSps, blocks_across, ctb_log2, min_cb_log2, min_tb_log2}
-use Rattle.plan_types.specs.declared.picture_plan.PicturePlan.{PicturePlan}
-use Rattle.spec_picture_trees.specs.Places.{has_place, is_available, unit_at, unit_places}
-use Rattle.spec_picture_trees.specs.Shapes.{in_places, picture_shape}
+use Rattle.spec_picture_build.specs.PlanTypes.{PicturePlan}
+use Rattle.spec_picture_build.specs.SpecPictureTrees.{has_place, is_available, unit_at, unit_places}
+use Rattle.spec_picture_build.specs.SpecPictureTrees.{in_places, picture_shape}
 use Rattle.spec_slice_data.specs.Segment.{PictureShape}
 use Rattle.unit_laws.specs.Order.{slice_area}
 

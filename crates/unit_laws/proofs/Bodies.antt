@@ -12,8 +12,8 @@ use Rattle.ctu_records.specs.declared.prediction.PartMode.TheVariants.{Whole}
 use Rattle.ctu_records.specs.declared.prediction.MotionSyntax.{MotionSyntax}
 use Rattle.ctu_records.specs.Tree.{Ctu, added}
 use Rattle.spec_cabac.specs.Bins.{Tree}
-use Rattle.spec_residuals.specs.declared.block.Level.{Level}
-use Rattle.spec_residuals.specs.Levels.{Residual}
+use Rattle.spec_slice_data.specs.SpecResiduals.{Level}
+use Rattle.spec_slice_data.specs.SpecResiduals.{Residual}
 use Rattle.spec_slice_data.specs.declared.syntax.CtuSyntax.{CtuSyntax}
 use Rattle.spec_slice_data.specs.declared.syntax.InterSyntax.{InterSyntax}
 use Rattle.spec_slice_data.specs.declared.syntax.PcmSyntax.{PcmSyntax}

@@ -6,8 +6,8 @@ use Rattle.hv_base.specs.declared.breach.Breach.{Breach}
 use Rattle.spec_bits.specs.Bits.{u_at, digit}
 use Rattle.spec_bits.proofs.Digits.{u_at-only}
 use Rattle.spec_bits.proofs.Codes.{bind_some}
-use Rattle.spec_formats.specs.Format.{Give, Refuse, One, Then}
-use Rattle.spec_formats.proofs.Agreement.{ok_is, bind_ok}
+use Rattle.spec_cabac.specs.SpecFormats.{Give, Refuse, One, Then}
+use Rattle.spec_cabac.proofs.SpecFormatsLemmas.{ok_is, bind_ok}
 use Rattle.spec_cabac.specs.Engine.{Engine, left, number_at, sample_at}
 use Rattle.spec_cabac.specs.Bins.{State, Tree, Sample, bin_at, read, stepped, times, fixed_after, bypass, unary}
 use Rattle.spec_cabac.specs.Bins.{truncated}

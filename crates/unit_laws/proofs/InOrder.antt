@@ -16,7 +16,7 @@ use Rattle.spec_slice_data.specs.declared.syntax.CtuSyntax.{CtuSyntax}
 use Rattle.spec_slice_data.specs.declared.syntax.End.{End}
 use Rattle.spec_slice_data.specs.Modes.{upper_left, upper_right, lower_left, lower_right}
 use Rattle.spec_slice_data.specs.Quantization.{grouped}
-use Rattle.spec_picture_trees.specs.Places.{first_column, first_row}
+use Rattle.spec_picture_build.specs.SpecPictureTrees.{first_column, first_row}
 use Rattle.spec_slice_data.specs.Segment.{Between, PictureShape, SegmentShape, begins_row, is_last, next_unit}
 use Rattle.spec_slice_data.specs.Segment.{syntax_at}
 use Rattle.spec_slice_data.specs.Segment.{unit_at, unit_begins}

@@ -10,7 +10,7 @@ use Rattle.block_geometry.specs.Availability.{width_in_units, z_scan_order}
 use Rattle.block_geometry.specs.CodingTreeBlocks.{is_from}
 use Rattle.block_geometry.specs.declared.availability.SliceArea.{SliceArea}
 use Rattle.ctu_records.specs.declared.item.Square.{Square}
-use Rattle.spec_picture_trees.specs.Places.{first_column, first_row}
+use Rattle.spec_picture_build.specs.SpecPictureTrees.{first_column, first_row}
 use Rattle.spec_slice_data.specs.Segment.{PictureShape, column_of, row_of}
 use Rattle.unit_laws.proofs.ScanOrder.{IsAligned, block_order, side_small}
 use Rattle.unit_laws.specs.Order.{AreAvailable, AreScanned, IsWhole, is_in, no_square, slice_area, unit_order}

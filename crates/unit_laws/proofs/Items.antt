@@ -12,11 +12,12 @@ use Rattle.ctu_records.specs.declared.item.Square.{Square}
 use Rattle.ctu_records.specs.declared.records.Quantization.{Quantization}
 use Rattle.ctu_records.specs.declared.offset.Sao.{Sao}
 use Rattle.ctu_records.specs.Places.{inside}
-use Rattle.ctu_records.specs.Tree.{Ctu, added, with_sao, with_quantization, no_side, no_mode, not_read, luma_mode_laid}
+use Rattle.ctu_records.specs.Tree.{Ctu, added, with_sao, with_quantization, no_side, no_mode, not_read}
+use Rattle.ctu_records.specs.Tree.{luma_mode_laid}
 use Rattle.ctu_records.specs.Tree.{luma_mode_at, qp_laid, qp_at}
-use Rattle.spec_reconstruction.specs.declared.format.UnitFormat.{UnitFormat}
-use Rattle.spec_reconstruction.specs.Pulses.{sample_of}
-use Rattle.spec_reconstruction.specs.Sound.{IsSound, HasPulses, BeginsPulses, ArePulses}
+use Rattle.spec_picture_build.specs.SpecReconstruction.{UnitFormat}
+use Rattle.spec_picture_build.specs.SpecReconstruction.{sample_of}
+use Rattle.spec_picture_build.specs.SpecReconstruction.{IsSound, HasPulses, BeginsPulses, ArePulses}
 
 -- quantization parameters up to a greatest one
 pub record IsQuantized (greatest : ℕ) (q : Quantization) : Type 0 where

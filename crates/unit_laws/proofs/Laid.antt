@@ -12,7 +12,7 @@ use Rattle.ctu_records.specs.declared.item.TransformUnit.{TransformUnit}
 use Rattle.ctu_records.specs.declared.offset.Sao.{Sao}
 use Rattle.ctu_records.specs.Tree.{Ctu, added}
 use Rattle.spec_cabac.specs.Bins.{Tree}
-use Rattle.spec_picture_trees.specs.Places.{first_column, first_row}
+use Rattle.spec_picture_build.specs.SpecPictureTrees.{first_column, first_row}
 use Rattle.spec_slice_data.specs.declared.syntax.ChromaFlags.{ChromaFlags}
 use Rattle.spec_slice_data.specs.declared.syntax.CtuSyntax.{CtuSyntax}
 use Rattle.spec_slice_data.specs.declared.syntax.End.{End}
@@ -25,13 +25,15 @@ use Rattle.spec_slice_data.specs.Segment.{syntax_at}
 use Rattle.spec_slice_data.specs.Segment.{unit_at, unit_begins}
 use Rattle.spec_slice_data.specs.Transform.{max_depth, split_or_blocks, split_transform_flag, splits_first, transform}
 use Rattle.spec_slice_data.specs.Transform.{transform_tree, transform_unit}
-use Rattle.spec_slice_data.specs.Tree.{begun_unit, coding_tree_unit, coding_unit, intra_body, intra_syntax, intra_unit}
+use Rattle.spec_slice_data.specs.Tree.{begun_unit, coding_tree_unit, coding_unit, intra_body, intra_syntax}
+use Rattle.spec_slice_data.specs.Tree.{intra_unit}
 use Rattle.spec_slice_data.specs.Tree.{unit_and_end, unit_at as started, unit_body}
 use Rattle.unit_laws.proofs.Bodies.{IsQuiet, blocks_have, grouped_same, inter_has, modes_have, pcm_has, skipped_has}
 use Rattle.unit_laws.proofs.Bodies.{start_gives}
 use Rattle.unit_laws.proofs.Formats.{Gives, after_any, always, give_gives, then_gives, when_gives}
 use Rattle.unit_laws.proofs.InOrder.{Reaches, gives_same, nothing_before, one_more, passed, scanned, tree_up}
-use Rattle.unit_laws.proofs.ScanOrder.{IsAligned, end_at, fourth_at, lower_left_aligned, lower_right_aligned, second_at}
+use Rattle.unit_laws.proofs.ScanOrder.{IsAligned, end_at, fourth_at, lower_left_aligned, lower_right_aligned}
+use Rattle.unit_laws.proofs.ScanOrder.{second_at}
 use Rattle.unit_laws.proofs.ScanOrder.{third_at, upper_left_aligned, upper_right_aligned}
 use Rattle.unit_laws.specs.Laid.{Laid, laid_by, laid_items, nothing_laid}
 use Rattle.unit_laws.specs.Order.{AreScanned, unit_order}

@@ -4,7 +4,7 @@ use Rattle.std.specs.Prelude.{◌==◌, ◌&&◌, not, nat_lt, nat_le}
 use Rattle.ctu_records.specs.declared.item.Item.TheVariants.{Luma}
 use Rattle.ctu_records.specs.declared.item.Square.{Square}
 use Rattle.ctu_records.specs.Tree.{Ctu, mode_left, mode_above, luma_mode_at}
-use Rattle.spec_reconstruction.specs.declared.format.UnitFormat.{UnitFormat}
+use Rattle.spec_picture_build.specs.SpecReconstruction.{UnitFormat}
 use Rattle.spec_slice_data.specs.declared.modes.Candidates.{Candidates}
 use Rattle.spec_slice_data.specs.Modes.{third_candidate, candidates, candidate, passed, remaining, luma_mode}
 use Rattle.spec_slice_data.specs.Modes.{upper_left, upper_right, lower_left, lower_right, luma_block, luma_blocks}

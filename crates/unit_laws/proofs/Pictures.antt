@@ -8,26 +8,29 @@ use Rattle.std.proofs.lemmas.Bool.{ltb-false}
 use Rattle.std.proofs.lemmas.List.Elements.{All-nil, All-cons, All-append}
 use Rattle.hv_base.specs.declared.breach.Breach.{Breach}
 use Rattle.header_types.specs.declared.sps.BlockSizes.{BlockSizes}
-use Rattle.slice_types.specs.declared.slice.InterFields.{InterFields}
-use Rattle.slice_types.specs.declared.slice.SliceType.{SliceType}
+use Rattle.spec_picture_build.specs.SliceTypes.{InterFields}
+use Rattle.spec_picture_build.specs.SliceTypes.{SliceType}
 use Rattle.header_types.specs.declared.sps.PcmFormat.{PcmFormat}
 use Rattle.header_types.specs.declared.sps.PictureFormat.{PictureFormat}
 use Rattle.header_types.specs.declared.sps.SpsFields.{SpsFields}
 use Rattle.header_types.specs.SequenceParameterSets.{IsSps, IsPcmFormat, ctb_log2, max_tb_log2}
 use Rattle.header_types.specs.SequenceParameterSets.{max_pcm_log2, size_in_ctbs}
-use Rattle.plan_types.specs.declared.segment_plan.SegmentPlan.{SegmentPlan}
-use Rattle.plan_types.specs.declared.picture_plan.PicturePlan.{PicturePlan}
-use Rattle.spec_reconstruction.specs.declared.format.UnitFormat.{UnitFormat}
-use Rattle.spec_reconstruction.specs.Sound.{IsFormat, AreSound}
+use Rattle.spec_picture_build.specs.PlanTypes.{SegmentPlan}
+use Rattle.spec_picture_build.specs.PlanTypes.{PicturePlan}
+use Rattle.spec_picture_build.specs.SpecReconstruction.{UnitFormat}
+use Rattle.spec_picture_build.specs.SpecReconstruction.{IsFormat, AreSound}
 use Rattle.spec_slice_data.specs.declared.syntax.PcmSyntax.{PcmSyntax}
 use Rattle.block_geometry.specs.CodingTreeBlocks.{ctb_scan}
 use Rattle.spec_slice_data.specs.Segment.{Between, unit_step}
-use Rattle.spec_slice_headers.specs.SliceFields.{slice_qp}
-use Rattle.spec_picture_trees.specs.Shapes.{picture_shape, qp_bd_offset, pcm_syntax, inter_syntax, slice_syntax}
-use Rattle.spec_picture_trees.specs.Shapes.{segment_syntax, first_qp, end_of, segment_shape}
-use Rattle.spec_picture_trees.specs.Picture.{before_picture, TreeUnit, Progress, Halt, SegmentAt, segment_at, with_unit}
-use Rattle.spec_picture_trees.specs.Picture.{then_units, units_read, and_segments, segment_read, segments_read}
-use Rattle.spec_picture_trees.specs.Picture.{picture_read, unit_given}
+use Rattle.spec_picture_build.specs.SpecSliceHeaders.{slice_qp}
+use Rattle.spec_picture_build.specs.SpecPictureTrees.{picture_shape, qp_bd_offset, pcm_syntax, inter_syntax}
+use Rattle.spec_picture_build.specs.SpecPictureTrees.{slice_syntax}
+use Rattle.spec_picture_build.specs.SpecPictureTrees.{segment_syntax, first_qp, end_of, segment_shape}
+use Rattle.spec_picture_build.specs.SpecPictureTrees.{before_picture, TreeUnit, Progress, Halt, SegmentAt, segment_at}
+use Rattle.spec_picture_build.specs.SpecPictureTrees.{with_unit}
+use Rattle.spec_picture_build.specs.SpecPictureTrees.{then_units, units_read, and_segments, segment_read}
+use Rattle.spec_picture_build.specs.SpecPictureTrees.{segments_read}
+use Rattle.spec_picture_build.specs.SpecPictureTrees.{picture_read, unit_given}
 use Rattle.spec_picture_build.specs.Format.{unit_format}
 use Rattle.unit_laws.proofs.Items.{IsKept}
 use Rattle.unit_laws.proofs.Predictions.{FitsInter}

@@ -12,13 +12,14 @@ use Rattle.ctu_records.specs.declared.prediction.Rectangle.{Rectangle}
 use Rattle.ctu_records.specs.declared.prediction.VectorSyntax.{VectorSyntax}
 use Rattle.ctu_records.specs.Prediction.{part_block}
 use Rattle.ctu_records.specs.Tree.{Ctu, IsPlaced}
-use Rattle.spec_reconstruction.specs.declared.format.UnitFormat.{UnitFormat}
-use Rattle.spec_reconstruction.specs.Sound.{IsMotion, IsVector, least_size}
+use Rattle.spec_picture_build.specs.SpecReconstruction.{UnitFormat}
+use Rattle.spec_picture_build.specs.SpecReconstruction.{IsMotion, IsVector, least_size}
 use Rattle.spec_slice_data.specs.declared.syntax.InterSyntax.{InterSyntax}
 use Rattle.spec_slice_data.specs.declared.syntax.UnitStart.{UnitStart}
 use Rattle.spec_slice_data.specs.Inter.{two_parts, beside_or_four, may_have_four, beside_parts, more_parts, part_mode}
 use Rattle.spec_slice_data.specs.Inter.{merge_bin, merged, reference_bin, vector_in, vector_where, has_difference_1}
-use Rattle.spec_slice_data.specs.Inter.{vectors, motion, unit_of_part, with_part, prediction_unit, part_count, last_two}
+use Rattle.spec_slice_data.specs.Inter.{vectors, motion, unit_of_part, with_part, prediction_unit, part_count}
+use Rattle.spec_slice_data.specs.Inter.{last_two}
 use Rattle.spec_slice_data.specs.Inter.{later_parts}
 use Rattle.unit_laws.proofs.Formats.{Gives, give_gives, then_gives, after_any, always, when_gives, cond_holds}
 use Rattle.unit_laws.proofs.Formats.{truncated_gives}

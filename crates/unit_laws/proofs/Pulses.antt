@@ -10,9 +10,9 @@ use Rattle.ctu_records.specs.declared.item.Item.TheVariants.{Pcm, Sample}
 use Rattle.ctu_records.specs.declared.item.Square.{Square}
 use Rattle.ctu_records.specs.Tree.{Ctu, added}
 use Rattle.spec_cabac.specs.Bins.{Tree, times}
-use Rattle.spec_reconstruction.specs.declared.format.UnitFormat.{UnitFormat}
-use Rattle.spec_reconstruction.specs.Pulses.{sample_of}
-use Rattle.spec_reconstruction.specs.Sound.{HasPulses, ArePulses}
+use Rattle.spec_picture_build.specs.SpecReconstruction.{UnitFormat}
+use Rattle.spec_picture_build.specs.SpecReconstruction.{sample_of}
+use Rattle.spec_picture_build.specs.SpecReconstruction.{HasPulses, ArePulses}
 use Rattle.spec_slice_data.specs.Tree.{pcm_sample, pcm_samples}
 use Rattle.unit_laws.proofs.Formats.{Gives, give_gives, then_gives, sample_gives}
 use Rattle.unit_laws.proofs.Items.{IsRead, IsKept, added_read, kept_of, whole_pulses, pulses_appended}

@@ -5,7 +5,7 @@ use Rattle.std.proofs.Math.Nat.{mod-lt}
 use Rattle.ctu_records.specs.declared.item.Item.TheVariants.{Unit, Delta}
 use Rattle.ctu_records.specs.declared.item.Square.{Square}
 use Rattle.ctu_records.specs.Tree.{Ctu, with_quantization, qp_left, qp_above, qp_at}
-use Rattle.spec_reconstruction.specs.declared.format.UnitFormat.{UnitFormat}
+use Rattle.spec_picture_build.specs.SpecReconstruction.{UnitFormat}
 use Rattle.spec_slice_data.specs.declared.syntax.CtuSyntax.{CtuSyntax}
 use Rattle.spec_slice_data.specs.declared.syntax.UnitStart.{UnitStart}
 use Rattle.spec_slice_data.specs.Offset.{signed}

@@ -4,7 +4,7 @@ use Rattle.std.proofs.Math.Nat.{pow-suc, pow-le-pow_right}
 use Rattle.std.proofs.lemmas.Nat.{pow_pos, pow-add}
 use Rattle.ctu_records.specs.declared.item.Square.{Square}
 use Rattle.ctu_records.specs.Tree.{Ctu}
-use Rattle.spec_reconstruction.specs.Sound.{IsSquare, IsCoded}
+use Rattle.spec_picture_build.specs.SpecReconstruction.{IsSquare, IsCoded}
 use Rattle.spec_slice_data.specs.declared.syntax.UnitSyntax.{UnitSyntax}
 use Rattle.spec_slice_data.specs.declared.syntax.TransformBlock.{TransformBlock}
 use Rattle.spec_slice_data.specs.Modes.{upper_left, upper_right, lower_left, lower_right}

@@ -7,10 +7,10 @@ use Rattle.ctu_records.specs.declared.item.Item.TheVariants as item
 use Rattle.ctu_records.specs.declared.item.Square.{Square}
 use Rattle.ctu_records.specs.Tree.{Ctu, added}
 use Rattle.spec_cabac.specs.Bins.{Tree}
-use Rattle.spec_reconstruction.specs.declared.format.UnitFormat.{UnitFormat}
-use Rattle.spec_reconstruction.specs.Sound.{IsSquare}
-use Rattle.spec_residuals.specs.declared.block.Level.{Level}
-use Rattle.spec_residuals.specs.Levels.{Residual}
+use Rattle.spec_picture_build.specs.SpecReconstruction.{UnitFormat}
+use Rattle.spec_picture_build.specs.SpecReconstruction.{IsSquare}
+use Rattle.spec_slice_data.specs.SpecResiduals.{Level}
+use Rattle.spec_slice_data.specs.SpecResiduals.{Residual}
 use Rattle.spec_slice_data.specs.declared.syntax.CtuSyntax.{CtuSyntax}
 use Rattle.spec_slice_data.specs.declared.syntax.UnitSyntax.{UnitSyntax}
 use Rattle.spec_slice_data.specs.declared.syntax.ChromaFlags.{ChromaFlags}
@@ -18,7 +18,8 @@ use Rattle.spec_slice_data.specs.declared.syntax.TransformBlock.{TransformBlock}
 use Rattle.spec_slice_data.specs.Modes.{upper_left, upper_right, lower_left, lower_right}
 use Rattle.spec_slice_data.specs.Residual.{coded, with_level, with_residual, coded_block}
 use Rattle.spec_slice_data.specs.Transform.{splits_first, max_depth, split_transform_flag, block_where}
-use Rattle.spec_slice_data.specs.Transform.{chroma_transform, chroma_blocks, whole_of_fourth, chroma_of, luma_transform}
+use Rattle.spec_slice_data.specs.Transform.{chroma_transform, chroma_blocks, whole_of_fourth, chroma_of}
+use Rattle.spec_slice_data.specs.Transform.{luma_transform}
 use Rattle.spec_slice_data.specs.Transform.{any_coded, has_delta, transform_blocks, transform, transform_unit}
 use Rattle.spec_slice_data.specs.Transform.{split_or_blocks, transform_tree}
 use Rattle.unit_laws.proofs.Formats.{Gives, give_gives, then_gives, after_any, always, when_gives}

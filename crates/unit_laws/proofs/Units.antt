@@ -14,14 +14,15 @@ use Rattle.ctu_records.specs.Tree.{Ctu, luma_mode_at, qp_at, no_side, side}
 use Rattle.spec_cabac.specs.Engine.{Engine, start_at}
 use Rattle.spec_cabac.specs.Bins.{State, Tree, read}
 use Rattle.spec_bits.specs.Bits.{bits}
-use Rattle.spec_reconstruction.specs.declared.format.UnitFormat.{UnitFormat}
-use Rattle.spec_reconstruction.specs.Sound.{IsSound, ArePulses}
+use Rattle.spec_picture_build.specs.SpecReconstruction.{UnitFormat}
+use Rattle.spec_picture_build.specs.SpecReconstruction.{IsSound, ArePulses}
 use Rattle.spec_slice_data.specs.declared.syntax.CtuSyntax.{CtuSyntax}
 use Rattle.spec_slice_data.specs.declared.syntax.End.{End}
 use Rattle.spec_slice_data.specs.Offset.{no_sao}
 use Rattle.spec_slice_data.specs.Segment.{PictureShape, SegmentShape, Between, nothing_read, no_group, unit_of}
 use Rattle.spec_slice_data.specs.Segment.{begins_row, begins_substream, side_of, unit_begins, syntax_at}
-use Rattle.spec_slice_data.specs.Segment.{contexts_before, qp_before, restarted, substream_of, before_unit, judged_end}
+use Rattle.spec_slice_data.specs.Segment.{contexts_before, qp_before, restarted, substream_of, before_unit}
+use Rattle.spec_slice_data.specs.Segment.{judged_end}
 use Rattle.spec_slice_data.specs.Segment.{behind_unit, is_last, unit_at, read_unit, then_unit, unit_step}
 use Rattle.unit_laws.proofs.Formats.{Gives, cond_holds}
 use Rattle.unit_laws.proofs.Items.{IsQuantized, IsKept, cond_below}

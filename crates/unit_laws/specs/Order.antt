@@ -1,5 +1,6 @@
 -- The order in which the coding units of a coding tree unit are read, and which places they have (6.4.1, 6.5.2).
-use Rattle.std.specs.Prelude.{◌≡◌, ℕ, ◌+◌, ◌*◌, ◌%◌, ◌^◌, ◌<◌, ◌≤◌, pos, Bool, false, ◌||◌, nat_lt, List, [], ◌∷◌, All}
+use Rattle.std.specs.Prelude.{◌≡◌, ℕ, ◌+◌, ◌*◌, ◌%◌, ◌^◌, ◌<◌, ◌≤◌, pos, Bool, false, ◌||◌, nat_lt, List, [], ◌∷◌}
+use Rattle.std.specs.Prelude.{All}
 use Rattle.std.specs.Prelude.{length, slice_index_or, take}
 use Rattle.block_geometry.specs.declared.availability.SliceArea.{SliceArea}
 use Rattle.block_geometry.specs.Availability.{available, spread}
@@ -7,7 +8,7 @@ use Rattle.ctu_records.specs.declared.item.Item.{Item}
 use Rattle.ctu_records.specs.declared.item.Item.TheVariants.{Unit}
 use Rattle.ctu_records.specs.declared.item.Square.{Square}
 use Rattle.ctu_records.specs.Places.{inside}
-use Rattle.spec_picture_trees.specs.Places.{first_column, first_row, unit_places}
+use Rattle.spec_picture_build.specs.SpecPictureTrees.{first_column, first_row, unit_places}
 use Rattle.spec_slice_data.specs.Segment.{PictureShape}
 
 -- the square of a coding unit, in front of others

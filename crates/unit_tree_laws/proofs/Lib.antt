@@ -1,3 +1,5 @@
 pub mod Starts
 pub mod Units
 pub mod Stored
+pub mod CodingQuadtreeLemmas
+pub mod UnitTreesLemmas

@@ -1,9 +1,10 @@
 -- What a unit begins with, in two readings that agree.
-use Rattle.std.proofs.Common.{◌≡◌, ℕ, Bool, true, false, ◌||◌, ◌&&◌, not, List, [], get_or, Option, Some, None, Result}
+use Rattle.std.proofs.Common.{◌≡◌, ℕ, Bool, true, false, ◌||◌, ◌&&◌, not, List, [], get_or, Option, Some, None}
+use Rattle.std.proofs.Common.{Result}
 use Rattle.std.proofs.Common.{Ok, Err, refl, if◌then◌else◌}
 use Rattle.hv_base.specs.declared.breach.Breach.{Breach}
 use Rattle.spec_bits.specs.Bits.{bits}
-use Rattle.spec_cabac.specs.Engine.{Engine, start_at}
+use Rattle.spec_slice_data.specs.SpecCabac.{Engine, start_at}
 use Rattle.spec_slice_data.specs.Segment.{PictureShape, SegmentShape, Between, before_unit, begins_row}
 use Rattle.spec_slice_data.specs.Segment.{begins_substream, contexts_before, has_stored, qp_before, restarted}
 use Rattle.spec_slice_data.specs.Segment.{substream_of}

@@ -1,19 +1,20 @@
 -- The contexts that are stored.
-use Rattle.std.proofs.Common.{◌≡◌, ℕ, zero, suc, ◌+◌, ◌<◌, Bool, true, false, List, Option, Some, None, Result, Ok, Err}
+use Rattle.std.proofs.Common.{◌≡◌, ℕ, zero, suc, ◌+◌, ◌<◌, Bool, true, false, List, Option, Some, None, Result, Ok}
+use Rattle.std.proofs.Common.{Err}
 use Rattle.std.proofs.Common.{refl, ap, sym, ◌∙◌, if◌then◌else◌, arith}
 use Rattle.hv_base.specs.declared.breach.Breach.{Breach}
 use Rattle.hv_base.specs.declared.breach.Breach.TheVariants as breach
 use Rattle.hv_base.specs.declared.fault.FaultKind.TheVariants as rule
-use Rattle.block_geometry.specs.CodingTreeBlocks.{ctb_scan}
+use Rattle.spec_slice_data.specs.BlockGeometry.{ctb_scan}
 use Rattle.ctu_records.specs.Tree.{Ctu}
-use Rattle.spec_cabac.specs.Engine.{Engine}
-use Rattle.spec_cabac.specs.Bins.{State, read}
+use Rattle.spec_slice_data.specs.SpecCabac.{Engine}
+use Rattle.spec_slice_data.specs.SpecCabac.{State, read}
 use Rattle.spec_slice_data.specs.declared.syntax.CtuSyntax.{CtuSyntax}
 use Rattle.spec_slice_data.specs.declared.syntax.End.{End}
 use Rattle.spec_slice_data.specs.Segment.{PictureShape, SegmentShape, Between, Broken, and_then, before_unit}
 use Rattle.spec_slice_data.specs.Segment.{begins_substream, behind_unit, judged_end, read_unit, restarted}
 use Rattle.spec_slice_data.specs.Segment.{stored_behind, then_unit, unit_at, unit_step, units_from}
-use Rattle.coding_quadtree.specs.Next.{next_between}
+use Rattle.unit_trees.specs.CodingQuadtree.{next_between}
 use Rattle.unit_tree_laws.specs.Agreement.{stores}
 
 restart_keeps : (contexts : List ℕ) (last : ℕ) (before after : Between) (engine : Option Engine)

@@ -2,7 +2,8 @@
 use Rattle.std.specs.Prelude.{◌≡◌, ◌-◌, ◌^◌, ◌==◌, ◌&&◌, ◌++◌, ◌∷◌, [], not, ℕ, Bool, true, false, Result, Ok, Err}
 use Rattle.hv_base.specs.declared.breach.Breach.{Breach}
 use Rattle.ctu_records.specs.Tree.{Ctu}
-use Rattle.spec_slice_data.specs.Segment.{PictureShape, SegmentShape, Between, begins_row, begins_substream, column_of}
+use Rattle.spec_slice_data.specs.Segment.{PictureShape, SegmentShape, Between, begins_row, begins_substream}
+use Rattle.spec_slice_data.specs.Segment.{column_of}
 use Rattle.spec_slice_data.specs.Segment.{has_above, has_left, has_stored, is_first, unit_of}
 use Rattle.unit_trees.specs.Edges.{bottom_of, right_of}
 

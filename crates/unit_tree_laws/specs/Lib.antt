@@ -1,1 +1,5 @@
 pub mod Agreement
+pub mod SpecSliceData
+pub mod BlockGeometry
+pub mod UnitTrees
+pub mod CodingQuadtree

@@ -1,7 +1,7 @@
 //! On what the reading of a coding tree unit depends.
 
 ghost use Rattle.std.specs.Prelude.{◌≡◌, ℕ, ◌+◌, ◌<◌, Ok, true, false};
-ghost use Rattle.block_geometry.specs.CodingTreeBlocks.{ctb_scan};
+ghost use Rattle.spec_slice_data.specs.BlockGeometry.{ctb_scan};
 ghost use Rattle.spec_slice_data.specs.declared.syntax.CtuSyntax.{CtuSyntax};
 ghost use Rattle.spec_slice_data.specs.Segment.{Between, PictureShape, SegmentShape, unit_step, units_from};
 ghost use Rattle.unit_tree_laws.specs.Agreement.{Agree, IsSameStep, stores};

@@ -6,8 +6,8 @@ use Rattle.hv_base.specs.declared.breach.Breach.TheVariants as breach
 use Rattle.hv_base.specs.declared.fault.FaultKind.TheVariants as rule
 use Rattle.ctu_records.specs.declared.offset.Sao.{Sao}
 use Rattle.ctu_records.specs.Tree.{Ctu}
-use Rattle.spec_cabac.specs.Bins.{State, bin_at, read, Terminate}
-use Rattle.spec_formats.specs.Format.{bind, give, wanted, when◌then◌else◌, ◌>>=◌}
+use Rattle.coding_quadtree.specs.SpecCabac.{State, bin_at, read, Terminate}
+use Rattle.coding_quadtree.specs.SpecFormats.{bind, give, wanted, when◌then◌else◌, ◌>>=◌}
 use Rattle.spec_slice_data.specs.declared.syntax.CtuSyntax.{CtuSyntax}
 use Rattle.spec_slice_data.specs.declared.syntax.End.{End}
 use Rattle.spec_slice_data.specs.declared.syntax.End.TheVariants as end

@@ -2,12 +2,13 @@
 use Rattle.std.specs.Prelude.{◌≡◌, ℕ, ◌-◌, ◌*◌, ◌^◌, true, false, List, [], Result, Ok, Err}
 use Rattle.hv_base.specs.declared.breach.Breach.{Breach}
 use Rattle.ctu_records.specs.Tree.{Ctu, side}
-use Rattle.spec_cabac.specs.Engine.{IsLive}
-use Rattle.spec_cabac.specs.Bins.{State, read}
+use Rattle.coding_quadtree.specs.SpecCabac.{IsLive}
+use Rattle.coding_quadtree.specs.SpecCabac.{State, read}
 use Rattle.spec_slice_data.specs.declared.syntax.CtuSyntax.{CtuSyntax}
 use Rattle.spec_slice_data.specs.declared.syntax.End.{End}
 use Rattle.spec_slice_data.specs.Offset.{no_sao}
-use Rattle.spec_slice_data.specs.Segment.{PictureShape, SegmentShape, Between, begins_row, begins_substream, column_of}
+use Rattle.spec_slice_data.specs.Segment.{PictureShape, SegmentShape, Between, begins_row, begins_substream}
+use Rattle.spec_slice_data.specs.Segment.{column_of}
 use Rattle.spec_slice_data.specs.Segment.{has_above, has_left, is_last, next_unit, places_left, row_of, syntax_at}
 use Rattle.spec_slice_data.specs.Segment.{unit_of}
 use Rattle.spec_slice_data.specs.Tree.{unit_and_end}

@@ -10,7 +10,9 @@ mod slice_syntax;
 mod units;
 mod view;
 
+pub use coding_quadtree::{BinReader, Contexts, Interval, Levels};
 pub use edges::Edge;
 pub use laws::units_over_edges_are_the_next_step;
+pub use picture_layout::{CodingTreeUnit, Layout, address_of, slice_address, slice_of};
 pub use segment_data::SegmentData;
 pub use units::UnitReader;

@@ -2,17 +2,16 @@
 
 ghost use Rattle.std.specs.Prelude.{◌≡◌, ◌-◌, ◌^◌, ◌≤◌, ◌<◌, ◌∷◌, [], drop, length, take, slice_index_or};
 ghost use Rattle.header_types.specs.SequenceParameterSets.{size_in_ctbs};
-ghost use Rattle.spec_slice_headers.specs.SliceFields.{slice_qp};
-ghost use Rattle.spec_cabac.specs.Contexts.{first_contexts};
-ghost use Rattle.spec_slice_headers.specs.Substreams.{bytes_of};
+ghost use Rattle.spec_picture_trees.specs.SpecSliceHeaders.{slice_qp};
+ghost use Rattle.coding_quadtree.specs.SpecCabac.{first_contexts};
+ghost use Rattle.spec_picture_trees.specs.SpecSliceHeaders.{bytes_of};
 ghost use Rattle.spec_picture_trees.specs.Shapes.{first_qp, qp_bd_offset, segment_shape};
 
 use crate::slice_syntax::init_type;
-use cabac_contexts::Contexts;
+use coding_quadtree::Contexts;
 use header_types::Pps;
 use picture_layout::slice_address;
-use plan_types::{Payload, PicturePlan, SegmentPlan};
-use slice_types::Substream;
+use spec_picture_trees::{Payload, PicturePlan, SegmentPlan, Substream};
 use std::marker::Model;
 
 /// A slice segment: where its units stand, what its slice begins with, and its substreams.
@@ -37,7 +36,7 @@ pub(crate) struct Segment<'a> {
 impl<'a> Model for Segment<'a> {
     ghost use Rattle.std.specs.Prelude.{map, ◌+◌, ◌≤◌};
     ghost use Rattle.spec_slice_data.specs.Segment.{SegmentShape};
-    ghost use Rattle.spec_slice_headers.specs.Substreams.{bytes_of};
+    ghost use Rattle.spec_picture_trees.specs.SpecSliceHeaders.{bytes_of};
 
     ghost Value = { SegmentShape };
 

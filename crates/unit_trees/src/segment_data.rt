@@ -3,7 +3,7 @@
 ghost use Rattle.std.specs.Prelude.{◌≡◌, ℕ, ◌+◌, ◌-◌, ◌*◌, ◌^◌, ◌≤◌, ◌<◌, ◌==◌, ◌&&◌, ◌∷◌, [], List, length, not};
 ghost use Rattle.std.specs.Prelude.{slice_index_or};
 ghost use Rattle.header_types.specs.SequenceParameterSets.{size_in_ctbs, width_in_ctbs};
-ghost use Rattle.plan_types.specs.declared.segment_plan.SegmentPlan.{SegmentPlan};
+ghost use Rattle.spec_picture_trees.specs.PlanTypes.{SegmentPlan};
 ghost use Rattle.spec_slice_data.specs.Segment.{begins_row, begins_substream, column_of, has_above, has_left};
 ghost use Rattle.spec_slice_data.specs.Segment.{has_stored, is_first, is_last, row_of, substream_of, syntax_at};
 ghost use Rattle.spec_slice_data.specs.Syntax.{IsSyntax};
@@ -12,10 +12,9 @@ ghost use Rattle.spec_picture_trees.specs.Shapes.{end_of};
 
 use crate::segment::Segment;
 use crate::slice_syntax::segment_syntax;
-use cabac_contexts::Contexts;
-use coding_quadtree::UnitPlace;
+use coding_quadtree::{Contexts, UnitPlace};
 use picture_layout::Layout;
-use plan_types::{PicturePlan, SegmentPlan};
+use spec_picture_trees::{PicturePlan, SegmentPlan};
 use spec_slice_data::CtuSyntax;
 use std::marker::Model;
 

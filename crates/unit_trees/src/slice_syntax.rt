@@ -5,11 +5,10 @@ ghost use Rattle.header_types.specs.SequenceParameterSets.{ctb_log2, max_pcm_log
 ghost use Rattle.spec_slice_data.specs.Syntax.{IsSyntax};
 ghost use Rattle.spec_picture_trees.specs.Shapes.{active, in_places, init_type, init_type_of, inter_syntax, pcm_syntax};
 ghost use Rattle.spec_picture_trees.specs.Shapes.{segment_syntax};
-ghost use Rattle.spec_slice_headers.specs.InterFields.{is_b};
+ghost use Rattle.spec_picture_trees.specs.SpecSliceHeaders.{is_b};
 
 use header_types::{PcmFormat, Sps};
-use plan_types::{PicturePlan, SegmentPlan};
-use slice_types::{InterFields, SliceFields, SliceType};
+use spec_picture_trees::{InterFields, PicturePlan, SegmentPlan, SliceFields, SliceType};
 use spec_slice_data::{CtuSyntax, InterSyntax, PcmSyntax};
 
 /// What the elements of all units of a segment depend on.

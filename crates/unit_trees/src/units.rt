@@ -2,8 +2,8 @@
 
 ghost use Rattle.std.specs.Prelude.{◌≡◌, ◌+◌, ◌*◌, ◌<◌, ℕ, List, [], OnOk, IfOk, false};
 ghost use Rattle.ctu_records.specs.Tree.{Ctu};
-ghost use Rattle.spec_cabac.specs.Engine.{IsLive};
-ghost use Rattle.cabac_contexts.specs.Takes.{state_of};
+ghost use Rattle.coding_quadtree.specs.SpecCabac.{IsLive};
+ghost use Rattle.coding_quadtree.specs.CabacContexts.{state_of};
 ghost use Rattle.spec_slice_data.specs.Segment.{before_unit, begins_row, contexts_before, is_last};
 ghost use Rattle.spec_slice_data.specs.Segment.{qp_before};
 ghost use Rattle.spec_slice_data.specs.declared.syntax.End.TheVariants as end;
@@ -14,12 +14,9 @@ ghost use Rattle.unit_trees.specs.Units.{MayGoOn, Steps, between_of, unit_over};
 use crate::edges::Edge;
 use crate::segment_data::SegmentData;
 use crate::view::View;
-use cabac_contexts::{BinReader, Contexts};
-use cabac_engine::Interval;
-use coding_quadtree::read_ctu;
+use coding_quadtree::{BinReader, Contexts, Interval, Levels, read_ctu};
 use ctu_records::Records;
 use hv_base::{Breach, FaultKind};
-use residual_syntax::Levels;
 use spec_slice_data::End;
 
 /// Bits are needed past the end of the segment.

@@ -6,7 +6,7 @@ use Rattle.std.proofs.lemmas.Bool.{ltb-false, ltb-true}
 use Rattle.ctu_records.specs.Tree.{Ctu, no_side, side}
 use Rattle.ctu_records.specs.declared.side.Side.{Side}
 use Rattle.ctu_records.specs.declared.offset.Sao.{Sao}
-use Rattle.spec_slice_data.specs.Segment.{side_of}
+use Rattle.unit_trees.specs.SpecSliceData.{side_of}
 use Rattle.unit_trees.specs.Edges.{bottom_of}
 use Rattle.unit_trees.specs.declared.edges.Edge.{Edge}
 use Rattle.sample_words.specs.Offsets.{first_word, sao_in}

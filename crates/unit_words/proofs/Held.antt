@@ -3,8 +3,8 @@ use Rattle.std.proofs.Common.{◌≡◌, ℕ, zero, suc, ◌+◌, ◌*◌, ◌/�
 use Rattle.std.proofs.Common.{Bool, true, false, cond, nat_lt}
 use Rattle.std.proofs.lemmas.Bool.{ltb-true}
 use Rattle.hv_base.specs.declared.line.Phase.TheVariants.{B}
-use Rattle.cabac_contexts.specs.Packing.{packed}
-use Rattle.cabac_engine.specs.Steps.{state_of}
+use Rattle.unit_trees.specs.CabacContexts.{packed}
+use Rattle.unit_trees.specs.CabacEngine.{state_of}
 use Rattle.sample_words.specs.Carried.{carried_word}
 use Rattle.sample_words.specs.Contents.{component_side, there}
 use Rattle.sample_words.specs.Offsets.{first_word, second_word}

@@ -5,3 +5,4 @@ pub mod Bottom
 pub mod Places
 pub mod Resumed
 pub mod Standing
+pub mod PictureFiltersLemmas

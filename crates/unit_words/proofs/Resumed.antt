@@ -8,9 +8,9 @@ use Rattle.std.proofs.lemmas.Bool.{false≢true, le-ltb, lt-ltb, true≢false}
 use Rattle.std.proofs.lemmas.List.{get_or_default, same_lists}
 use Rattle.std.proofs.lemmas.List.FromFn.{length-map-range_with_len}
 use Rattle.spec_bits.proofs.Places.{length-bits}
-use Rattle.spec_cabac.specs.Engine.{Engine}
-use Rattle.cabac_contexts.specs.Packing.{eight_from, packed, unpacked}
-use Rattle.cabac_contexts.proofs.Packs.{round_trip}
+use Rattle.unit_trees.specs.SpecCabac.{Engine}
+use Rattle.unit_trees.specs.CabacContexts.{eight_from, packed, unpacked}
+use Rattle.unit_trees.proofs.CabacContextsLemmas.{round_trip}
 use Rattle.unit_trees.specs.declared.units.UnitReader.{UnitReader}
 use Rattle.sample_words.specs.Carried.{carried_word}
 use Rattle.sample_words.specs.declared.carry.Carry.{Carry}

@@ -3,11 +3,11 @@ use Rattle.std.specs.Prelude.{◌≡◌, ℕ, ◌-◌, ◌*◌, ◌<◌, ◌≤�
 use Rattle.std.specs.Option.{unwrap_or}
 use Rattle.std.specs.List.{All}
 use Rattle.ctu_records.specs.Tree.{Ctu, no_side}
-use Rattle.spec_slice_data.specs.Segment.{side_of}
+use Rattle.unit_trees.specs.SpecSliceData.{side_of}
 use Rattle.spec_motion.specs.declared.vectors.Motion.{Motion}
 use Rattle.spec_bits.specs.Bits.{bits}
-use Rattle.spec_cabac.specs.Engine.{IsLive}
-use Rattle.cabac_contexts.specs.Packing.{unpacked}
+use Rattle.unit_trees.specs.SpecCabac.{IsLive}
+use Rattle.unit_trees.specs.CabacContexts.{unpacked}
 use Rattle.unit_trees.specs.declared.units.UnitReader.{UnitReader}
 use Rattle.sample_words.specs.Carried.{carried_word}
 use Rattle.sample_words.specs.declared.carry.Carry.{Carry}

@@ -2,12 +2,12 @@
 use Rattle.std.specs.Prelude.{ℕ, ◌+◌, None}
 use Rattle.std.specs.Option.{unwrap_or}
 use Rattle.ctu_records.specs.Tree.{Ctu}
-use Rattle.spec_slice_data.specs.Segment.{side_of}
+use Rattle.unit_trees.specs.SpecSliceData.{side_of}
 use Rattle.spec_motion.specs.declared.vectors.Motion.{Motion}
-use Rattle.ctu_build.specs.Held.{Cells, held}
-use Rattle.ctu_motion.specs.Held.{Cells as MotionCells, held as motion_held}
-use Rattle.picture_filters.specs.declared.given.UnitFilters.{UnitFilters}
-use Rattle.picture_filters.specs.Filtering.{read_place}
+use Rattle.unit_build.specs.CtuBuild.{Cells, held}
+use Rattle.unit_build.specs.CtuMotion.{Cells as MotionCells, held as motion_held}
+use Rattle.unit_build.specs.PictureFilters.{UnitFilters}
+use Rattle.unit_build.specs.PictureFilters.{read_place}
 use Rattle.sample_words.specs.declared.modes.PlaceModes.{PlaceModes}
 
 -- the sample of a component in a column and a line of the unit, 0 where none is known

@@ -2,8 +2,8 @@
 -- its words then are.
 use Rattle.std.specs.Prelude.{◌≡◌, ℕ, ◌+◌, ◌*◌, ◌/◌, ◌^◌, ◌<◌}
 use Rattle.hv_base.specs.declared.line.Phase.TheVariants.{B}
-use Rattle.cabac_contexts.specs.Packing.{packed}
-use Rattle.cabac_engine.specs.Steps.{state_of}
+use Rattle.unit_trees.specs.CabacContexts.{packed}
+use Rattle.unit_trees.specs.CabacEngine.{state_of}
 use Rattle.unit_trees.specs.declared.units.UnitReader.{UnitReader}
 use Rattle.sample_words.specs.declared.carry.Carry.{Carry}
 use Rattle.sample_words.specs.declared.unit_content.UnitContent.{UnitContent}

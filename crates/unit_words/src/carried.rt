@@ -2,18 +2,16 @@
 
 ghost use Rattle.std.specs.Prelude.{◌≡◌, ℕ, ◌^◌, ◌<◌, List, length, slice_index};
 ghost use Rattle.std.specs.List.{All};
-ghost use Rattle.cabac_contexts.specs.Packing.{packed, unpacked};
+ghost use Rattle.unit_trees.specs.CabacContexts.{packed, unpacked};
 ghost use Rattle.sample_words.specs.Carried.{carried_word};
 ghost use Rattle.sample_words.specs.declared.carry.Carry.{Carry};
-ghost use Rattle.spec_cabac.specs.Engine.{IsLive};
+ghost use Rattle.unit_trees.specs.SpecCabac.{IsLive};
 ghost use Rattle.unit_trees.specs.declared.units.UnitReader.{UnitReader};
 ghost use Rattle.unit_words.specs.Above.{AreContexts, AreOfCarry, MayResume, ReadsOn};
 ghost use Rattle.unit_words.specs.Work.{carry_behind};
 
-use cabac_contexts::{BinReader, Contexts};
-use cabac_engine::Interval;
 use sample_words::Carry;
-use unit_trees::UnitReader;
+use unit_trees::{BinReader, Contexts, Interval, UnitReader};
 
 /// The contexts behind the second unit of a row.
 pub fn unpack_contexts(words: [u64; 20]) -> Contexts

@@ -17,3 +17,5 @@ pub use done_unit::DoneUnit;
 pub use laws::contents_stand_at_their_words;
 pub use lines::{pack_line, unpack_line};
 pub use unit_above::{KnownPlace, unpack_bottom, unpack_place};
+pub use unit_build::{collocated_entry, filter_format, pointing_motion, slice_motion};
+pub use unit_trees::{Edge, Layout, Levels, SegmentData, UnitReader, address_of, slice_of};

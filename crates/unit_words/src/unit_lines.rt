@@ -7,8 +7,8 @@ ghost use Rattle.sample_words.specs.Values.{sample_bits, samples_word};
 ghost use Rattle.unit_words.specs.Units.{unit_sample};
 
 use crate::lines::pack_line;
-use ctu_build::UnitSamples;
 use sample_words::Layout;
+use unit_build::UnitSamples;
 
 /// The words of the first so many samples of a line of a component.
 pub(crate) fn pack_unit_line(

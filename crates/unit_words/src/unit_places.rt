@@ -2,15 +2,13 @@
 
 ghost use Rattle.std.specs.Prelude.{◌≡◌, ℕ, ◌<◌, ◌≤◌, length, slice_index};
 ghost use Rattle.sample_words.specs.Values.{IsModes, IsMotion, modes_word, vectors_word};
-ghost use Rattle.spec_slice_data.specs.Segment.{side_of};
+ghost use Rattle.unit_trees.specs.SpecSliceData.{side_of};
 ghost use Rattle.unit_words.specs.Units.{unit_modes, unit_motion};
 
-use ctu_motion::UnitMotion;
 use ctu_records::{Records, Side};
-use motion_candidates::MotionView;
-use picture_filters::UnitFilters;
 use sample_words::{PlaceModes, pack_modes, pack_vectors};
 use spec_motion::Motion;
+use unit_build::{MotionView, UnitFilters, UnitMotion};
 
 /// A place without vectors.
 const NO_MOTION: Motion = Motion {

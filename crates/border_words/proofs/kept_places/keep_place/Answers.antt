@@ -1,6 +1,6 @@
 use Rattle.std.proofs.Common.{ap, sym, ◌∙◌, slice_get}
 use Rattle.spec_picture_motion.specs.Field.{motion_of}
-use Rattle.unit_words.specs.declared.unit_above.KnownPlace.{KnownPlace}
+use Rattle.row_above_laws.specs.UnitWords.{KnownPlace}
 use Rattle.border_words.specs.Kept.{motion_in_segment, pointing_in}
 use Rattle.border_words.proofs.kept_places.keep_place.Goals as goal
 

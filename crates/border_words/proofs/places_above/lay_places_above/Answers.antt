@@ -5,7 +5,7 @@ use Rattle.picture_layout.specs.Shape.{IsShape}
 use Rattle.spec_slice_data.specs.Segment.{PictureShape}
 use Rattle.spec_picture_trees.specs.Places.{unit_places}
 use Rattle.spec_picture_trees.specs.Shapes.{picture_shape}
-use Rattle.spec_decoded_pictures.specs.Decoded.{DecodedUnits}
+use Rattle.spec_flights.specs.SpecDecodedPictures.{DecodedUnits}
 use Rattle.spec_flights.specs.Pictures.{folded_at}
 use Rattle.sample_words.specs.declared.unit_content.UnitContent.TheVariants.{Modes}
 use Rattle.row_borders.specs.Next.{HasPlaces}

@@ -1,5 +1,5 @@
 use Rattle.std.proofs.Common.{◌≡◌, refl, None, Some, Option, Bool}
-use Rattle.picture_buffer.specs.declared.place_motion.PlaceMotion.{PlaceMotion}
+use Rattle.spec_boundary_strengths.specs.PictureBuffer.{PlaceMotion}
 use Rattle.spec_boundary_strengths.specs.Strengths.{strength}
 use Rattle.boundary_strengths.proofs.edges.strength_behind.Goals as goal
 

@@ -5,16 +5,17 @@ use Rattle.header_types.specs.SequenceParameterSets.{width_in_ctbs}
 use Rattle.board_core.specs.Places.{line_of}
 use Rattle.sample_words.specs.Words.{line_number}
 use Rattle.spec_picture_trees.specs.Places.{unit_places}
-use Rattle.row_borders.specs.Next.{IsLaid}
+use Rattle.border_words.specs.RowBorders.{IsLaid}
 use Rattle.progress_words.specs.declared.pass.Pass.{Pass}
 use Rattle.progress_words.specs.declared.view.View.{View}
 use Rattle.progress_words.specs.Passes.{view}
 use Rattle.progress_words.specs.Views.{seen_of}
-use Rattle.flight_facts.specs.declared.flight_facts.FlightFacts.{FlightFacts}
+use Rattle.border_words.specs.FlightFacts.{FlightFacts}
 use Rattle.built_rows.specs.declared.row_builder.RowBuilder.{RowBuilder}
 use Rattle.built_rows.specs.Stages.{shape_of, units_in}
 use Rattle.built_rows.proofs.Inside.{column_inside, columns_are}
-use Rattle.built_rows.proofs.Laid.{above_inside, above_seen, above_sound, laid_before, laid_first, laid_last, laid_next}
+use Rattle.built_rows.proofs.Laid.{above_inside, above_seen, above_sound, laid_before, laid_first, laid_last}
+use Rattle.built_rows.proofs.Laid.{laid_next}
 use Rattle.built_rows.proofs.above.lay_next_above.Goals as goal
 use Rattle.built_rows.proofs.above.lay_next_above.Goals.{then-x-eq0, else-x-eq0}
 

@@ -1,7 +1,7 @@
 use Rattle.std.proofs.Common.{◌≡◌, sym, subst, refl}
 use Rattle.ctu_records.specs.Tree.{Ctu}
 use Rattle.plan_types.specs.declared.segment_plan.SegmentPlan.{SegmentPlan}
-use Rattle.picture_filters.specs.Filtering.{IsUnit}
+use Rattle.border_words.specs.PictureFilters.{IsUnit}
 use Rattle.progress_words.specs.Passes.{view}
 use Rattle.spec_picture_build.specs.Format.{unit_format}
 use Rattle.spec_picture_build.specs.References.{motions_of}
@@ -11,9 +11,9 @@ use Rattle.spec_picture_trees.specs.Shapes.{slice_start}
 use Rattle.spec_reconstruction.specs.Sound.{AreSound}
 use Rattle.spec_decoded_pictures.specs.Decoded.{unit_decoded}
 use Rattle.spec_flights.specs.Pictures.{pictures_before}
-use Rattle.row_borders.specs.Building.{HoldsUnit, IsBeneath, IsDerived, tree_unit}
-use Rattle.flight_facts.specs.Facts.{flight_in}
-use Rattle.flight_windows.specs.Pictures.{seen_pictures}
+use Rattle.border_words.specs.RowBorders.{HoldsUnit, IsBeneath, IsDerived, tree_unit}
+use Rattle.border_words.specs.FlightFacts.{flight_in}
+use Rattle.row_waits.specs.FlightWindows.{seen_pictures}
 use Rattle.built_rows.specs.Stages.{units_in}
 use Rattle.built_rows.proofs.Built.{has_built, number_there, segment_there}
 use Rattle.built_rows.proofs.filling.fill_next.Goals as goal

@@ -1,15 +1,15 @@
 use Rattle.std.proofs.Common.{ap, sym, subst, ◌∙◌}
 use Rattle.header_types.specs.declared.sps.SpsFields.{SpsFields}
-use Rattle.picture_build.specs.Formats.{HasDepths}
+use Rattle.border_words.specs.PictureBuild.{HasDepths}
 use Rattle.spec_picture_build.specs.Format.{unit_format}
 use Rattle.spec_picture_build.specs.References.{pictures_of}
 use Rattle.spec_picture_motion.specs.Derived.{collocated_motions}
 use Rattle.spec_picture_motion.specs.Slices.{collocated_entry}
 use Rattle.spec_picture_trees.specs.Shapes.{slice_start}
-use Rattle.row_borders.specs.Building.{IsBeneath}
-use Rattle.flight_facts.specs.Facts.{flight_in}
-use Rattle.flight_windows.specs.Pictures.{seen_pictures}
-use Rattle.flight_windows.proofs.Agreeing.{same_motions}
+use Rattle.border_words.specs.RowBorders.{IsBeneath}
+use Rattle.border_words.specs.FlightFacts.{flight_in}
+use Rattle.row_waits.specs.FlightWindows.{seen_pictures}
+use Rattle.row_waits.proofs.FlightWindowsLemmas.{same_motions}
 use Rattle.built_rows.proofs.filling.fill_over.Goals as goal
 
 pub new-windows-requires-clause-flight : goal.new-windows-requires-clause-flight

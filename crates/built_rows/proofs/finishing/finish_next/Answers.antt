@@ -2,10 +2,10 @@ use Rattle.std.proofs.Common.{◌≡◌, ap, sym, subst}
 use Rattle.progress_words.specs.declared.view.View.{View}
 use Rattle.progress_words.specs.Passes.{view}
 use Rattle.progress_words.specs.Views.{HasEnded}
-use Rattle.row_borders.specs.Borders.{Bordering, with_left}
-use Rattle.flight_facts.specs.declared.flight_facts.FlightFacts.{FlightFacts}
-use Rattle.flight_facts.specs.Boards.{flight_meaning}
-use Rattle.flight_facts.specs.Facts.{flight_in}
+use Rattle.border_words.specs.RowBorders.{Bordering, with_left}
+use Rattle.border_words.specs.FlightFacts.{FlightFacts}
+use Rattle.border_words.specs.FlightFacts.{flight_meaning}
+use Rattle.border_words.specs.FlightFacts.{flight_in}
 use Rattle.built_rows.specs.declared.row_builder.RowBuilder.{RowBuilder}
 use Rattle.built_rows.specs.Stages.{StandsAt, next_of}
 use Rattle.built_rows.proofs.Counted.{counts_on, row_ended}

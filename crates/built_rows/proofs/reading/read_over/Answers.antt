@@ -1,8 +1,8 @@
 use Rattle.std.proofs.Common.{◌<◌, sym, subst}
 use Rattle.header_types.specs.SequenceParameterSets.{size_in_ctbs}
 use Rattle.plan_types.specs.declared.picture_plan.PicturePlan.{PicturePlan}
-use Rattle.row_trees.specs.Reading.{StandsBefore}
-use Rattle.flight_facts.specs.Facts.{flight_in}
+use Rattle.row_waits.specs.RowTrees.{StandsBefore}
+use Rattle.border_words.specs.FlightFacts.{flight_in}
 use Rattle.row_waits.specs.Pictures.{address_in}
 use Rattle.built_rows.proofs.Inside.{column_inside, is_shape, row_inside}
 use Rattle.built_rows.proofs.Over.{is_under, read_here}

@@ -4,11 +4,11 @@ use Rattle.sample_words.specs.declared.sizes.FlightSizes.{FlightSizes}
 use Rattle.progress_words.specs.declared.view.View.{View}
 use Rattle.progress_words.specs.Passes.{view}
 use Rattle.spec_flights.specs.Rows.{flight_rows}
-use Rattle.flight_facts.specs.declared.flight_facts.FlightFacts.{FlightFacts}
-use Rattle.flight_facts.specs.Facts.{flight_in}
-use Rattle.flight_facts.specs.Flights.{IsOfFlight}
-use Rattle.flight_facts.proofs.Laid.{board_sizes}
-use Rattle.flight_waits.specs.Waits.{AreSeen, HoldsUnit}
+use Rattle.border_words.specs.FlightFacts.{FlightFacts}
+use Rattle.border_words.specs.FlightFacts.{flight_in}
+use Rattle.border_words.specs.FlightFacts.{IsOfFlight}
+use Rattle.border_words.proofs.FlightFactsLemmas.{board_sizes}
+use Rattle.done_units.specs.FlightWaits.{AreSeen, HoldsUnit}
 use Rattle.border_words.proofs.Passes.{stays_own}
 use Rattle.built_rows.specs.Stages.{HasRead, IsWorking}
 use Rattle.built_rows.proofs.Broken.{tells_fault, unit_rule, unit_unsound}

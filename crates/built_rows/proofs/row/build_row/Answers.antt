@@ -1,7 +1,7 @@
 use Rattle.std.proofs.Common.{refl, ap, sym, subst, arith}
 use Rattle.progress_words.specs.Passes.{view}
 use Rattle.line_words.specs.Places.{UnitAt}
-use Rattle.flight_waits.specs.Waits.{HoldsUnit}
+use Rattle.done_units.specs.FlightWaits.{HoldsUnit}
 use Rattle.row_waits.specs.Pictures.{IsUnitOf}
 use Rattle.built_rows.specs.Stages.{StandsAt}
 use Rattle.built_rows.proofs.Going.{goes_on}

@@ -1,7 +1,7 @@
 use Rattle.std.proofs.Common.{ap, sym, subst, ◌∙◌}
 use Rattle.progress_words.specs.declared.view.View.{View}
 use Rattle.progress_words.specs.Passes.{view}
-use Rattle.flight_facts.specs.declared.flight_facts.FlightFacts.{FlightFacts}
+use Rattle.border_words.specs.FlightFacts.{FlightFacts}
 use Rattle.built_rows.specs.Stages.{GoesOn, HasReached, HasRead, IsWorking}
 use Rattle.built_rows.proofs.Going.{goes_on, knows_still}
 use Rattle.built_rows.proofs.Working.{is_ready, reached_built, read_built, works_built}

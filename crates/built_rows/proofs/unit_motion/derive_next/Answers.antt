@@ -1,8 +1,8 @@
 use Rattle.std.proofs.Common.{ap, sym, subst, ◌∙◌}
-use Rattle.picture_filters.specs.Filtering.{IsUnit}
+use Rattle.border_words.specs.PictureFilters.{IsUnit}
 use Rattle.spec_slice_data.specs.Segment.{PictureShape}
 use Rattle.progress_words.specs.Passes.{view}
-use Rattle.row_borders.specs.Borders.{Bordering}
+use Rattle.border_words.specs.RowBorders.{Bordering}
 use Rattle.built_rows.proofs.Current.{collocated_before, each_has, number_less}
 use Rattle.built_rows.proofs.Going.{goes_on}
 use Rattle.built_rows.proofs.Standing.{has_read_at, left_at, reads_on, waits_on, works_at}

@@ -1,10 +1,10 @@
 use Rattle.std.proofs.Common.{ap, ◌∙◌, arith, slice_get}
 use Rattle.header_types.specs.declared.pps.PpsFields.{PpsFields}
 use Rattle.slice_types.specs.declared.slice.SliceHeaderFields.{SliceHeaderFields}
-use Rattle.picture_build.specs.Formats.{of_slice}
+use Rattle.border_words.specs.PictureBuild.{of_slice}
 use Rattle.spec_flights.specs.Pictures.{pictures_before}
 use Rattle.progress_words.specs.Passes.{view}
-use Rattle.flight_facts.specs.Facts.{flight_in}
+use Rattle.border_words.specs.FlightFacts.{flight_in}
 use Rattle.built_rows.proofs.Beneath.{unit_here}
 use Rattle.built_rows.proofs.Derived.{are_references, beneath_counted, beneath_sound, goes_derived, motion_derived}
 use Rattle.built_rows.proofs.Derived.{read_derived, works_derived}

@@ -1,6 +1,6 @@
 use Rattle.std.proofs.Common.{rules}
 use Rattle.std.proofs.lemmas.Result.{err_from_is_err_and}
-use Rattle.spec_formats.specs.Format.{give}
+use Rattle.spec_cabac.specs.SpecFormats.{give}
 use Rattle.spec_slice_data.specs.Inter.{merge_bin}
 use Rattle.spec_cabac.proofs.Prefix.{unary_goes_on, unary_stops, unary_ends, unary_over}
 use Rattle.coding_quadtree.proofs.bins.merge_idx.Goals as goal

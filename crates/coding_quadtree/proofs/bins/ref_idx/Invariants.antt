@@ -1,9 +1,9 @@
 use Rattle.std.proofs.Common.{◌≡◌, ◌-◌}
-use Rattle.spec_formats.specs.Format.{give}
+use Rattle.spec_cabac.specs.SpecFormats.{give}
 use Rattle.spec_cabac.specs.Engine.{IsLive}
 use Rattle.spec_cabac.specs.Bins.{read, unary, truncated}
 use Rattle.spec_slice_data.specs.Inter.{reference_bin}
-use Rattle.cabac_contexts.specs.Takes.{state_of}
+use Rattle.transform_tree.specs.CabacContexts.{state_of}
 use Rattle.coding_quadtree.proofs.bins.ref_idx.Given as goal
 
 abbrev pub invariant-loop-i : goal.invariant-loop-i

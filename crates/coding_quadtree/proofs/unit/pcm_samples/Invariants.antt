@@ -1,7 +1,7 @@
 use Rattle.std.proofs.Common.{◌≡◌, ◌+◌, ◌-◌, ◌≤◌, length}
 use Rattle.spec_cabac.specs.Bins.{read, times}
 use Rattle.spec_slice_data.specs.Tree.{pcm_sample, pcm_samples}
-use Rattle.cabac_contexts.specs.Takes.{state_of}
+use Rattle.transform_tree.specs.CabacContexts.{state_of}
 use Rattle.coding_quadtree.proofs.unit.pcm_samples.Given as goal
 
 abbrev pub invariant-loop-i : goal.invariant-loop-i

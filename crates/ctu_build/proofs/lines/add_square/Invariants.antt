@@ -1,4 +1,5 @@
-use Rattle.std.proofs.Common.{◌≡◌, ℕ, ◌+◌, ◌-◌, ◌*◌, ◌^◌, ◌<◌, ◌==◌, cond, nat_le, nat_lt, ◌&&◌, slice_index_or, length}
+use Rattle.std.proofs.Common.{◌≡◌, ℕ, ◌+◌, ◌-◌, ◌*◌, ◌^◌, ◌<◌, ◌==◌, cond, nat_le, nat_lt, ◌&&◌, slice_index_or}
+use Rattle.std.proofs.Common.{length}
 use Rattle.std.proofs.Common.{false}
 use Rattle.spec_transforms.specs.Matrices.{at}
 use Rattle.ctu_build.specs.Held.{added, cell}

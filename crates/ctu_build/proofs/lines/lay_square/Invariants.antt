@@ -1,4 +1,5 @@
-use Rattle.std.proofs.Common.{◌≡◌, ℕ, ◌+◌, ◌-◌, ◌*◌, ◌^◌, ◌<◌, ◌==◌, cond, nat_le, nat_lt, ◌&&◌, slice_index_or, length}
+use Rattle.std.proofs.Common.{◌≡◌, ℕ, ◌+◌, ◌-◌, ◌*◌, ◌^◌, ◌<◌, ◌==◌, cond, nat_le, nat_lt, ◌&&◌, slice_index_or}
+use Rattle.std.proofs.Common.{length}
 use Rattle.ctu_build.specs.Held.{cell}
 use Rattle.ctu_build.proofs.lines.lay_square.Given as goal
 

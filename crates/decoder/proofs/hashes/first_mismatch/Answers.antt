@@ -1,5 +1,5 @@
 use Rattle.std.proofs.Common.{rules, ◌≡◌, length}
-use Rattle.picture_build.specs.Pictures.{decoded_of}
+use Rattle.row_jobs.specs.PictureBuild.{decoded_of}
 use Rattle.decoder.proofs.Hashing.{no-unit}
 use Rattle.decoder.proofs.hashes.first_mismatch.Goals as goal
 

@@ -1,7 +1,7 @@
 use Rattle.std.proofs.Common.{get_or, refl}
 use Rattle.hv_base.specs.declared.digest.Digest.{Digest}
 use Rattle.plan_types.specs.declared.stated_hash.StatedHash.{StatedHash}
-use Rattle.picture_build.specs.Pictures.{decoded_of}
+use Rattle.row_jobs.specs.PictureBuild.{decoded_of}
 use Rattle.decoder.proofs.Hashing.{left-none, left-some, passed-all}
 use Rattle.decoder.proofs.hashes.first_that_differs.Goals as goal
 

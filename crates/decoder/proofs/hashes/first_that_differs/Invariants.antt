@@ -1,6 +1,6 @@
 -- The units so far have no mismatch.
 use Rattle.std.proofs.Common.{◌≡◌, drop}
-use Rattle.picture_build.specs.Pictures.{decoded_of}
+use Rattle.row_jobs.specs.PictureBuild.{decoded_of}
 use Rattle.spec_decoder.specs.Hashes.{first_mismatch}
 use Rattle.decoder.proofs.hashes.first_that_differs.Given as goal
 

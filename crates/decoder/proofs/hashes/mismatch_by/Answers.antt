@@ -1,4 +1,4 @@
-use Rattle.picture_build.specs.Pictures.{decoded_of}
+use Rattle.row_jobs.specs.PictureBuild.{decoded_of}
 use Rattle.decoder.proofs.Hashing.{cb-differs, cr-decides, luma-differs}
 use Rattle.decoder.proofs.hashes.mismatch_by.Goals as goal
 

@@ -1,5 +1,5 @@
 use Rattle.std.proofs.Common.{refl, sym, ap, subst, ◌∙◌}
-use Rattle.picture_build.specs.Pictures.{decoded_of}
+use Rattle.row_jobs.specs.PictureBuild.{decoded_of}
 use Rattle.picture_buffer.specs.Pictures.{HeldPicture}
 use Rattle.spec_decoded_pictures.specs.Decoded.{picture_decoded}
 use Rattle.spec_decoder.specs.Decoder.{compared, decoded_data}

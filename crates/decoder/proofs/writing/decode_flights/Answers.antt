@@ -1,4 +1,4 @@
-use Rattle.std.proofs.Common.{subst, sym}
+use Rattle.std.proofs.Common.{refl, subst, sym}
 use Rattle.picture_plan.specs.Flights.{pictures_of}
 use Rattle.decoder.specs.Headline.{change_of}
 use Rattle.decoder.specs.Writing.{WritesFirst}
@@ -9,9 +9,9 @@ pub loop-flight-preserved : goal.loop-flight-preserved
 loop-flight-preserved g c =
     passes-flight g.O.Sink.contents g.O.Sink.faults c.args.options.form c.args.options.hash c.args.out.now
     c.loop-flight.out c.decode_pictures.new.out
-    (pictures_of c.args.flights) c.loop-flight.left c.next.new.self c.in-Some.flight c.as_slice.result.now
+    (pictures_of c.args.flights) c.loop-flight.left c.next.new.self c.in-Some.flight c.in-Some.flight
     c.args.buffer.now c.loop-flight.buffer c.decode_pictures.new.buffer
-    c.in-Some.ensures.value c.as_slice.ensures c.loop-flight.invariant c.in_ok-decode_pictures.ensures
+    c.in-Some.ensures.value refl c.loop-flight.invariant c.in_ok-decode_pictures.ensures
 
 pub returns-in_err-decode_pictures : goal.returns-in_err-decode_pictures
 returns-in_err-decode_pictures g c =
@@ -21,9 +21,9 @@ returns-in_err-decode_pictures g c =
     (sym (exit-is c.from_residual.result c.in_err-decode_pictures.field-0.0 c.from_residual.ensures.1))
     (over-flight g.O.Sink.contents g.O.Sink.faults c.args.options.form c.args.options.hash c.args.out.now
     c.loop-flight.out c.decode_pictures.new.out
-    (pictures_of c.args.flights) c.loop-flight.left c.next.new.self c.in-Some.flight c.as_slice.result.now
+    (pictures_of c.args.flights) c.loop-flight.left c.next.new.self c.in-Some.flight c.in-Some.flight
     c.args.buffer.now c.loop-flight.buffer c.in_err-decode_pictures.field-0.0
-    c.in-Some.ensures.value c.as_slice.ensures c.loop-flight.invariant c.in_err-decode_pictures.ensures)
+    c.in-Some.ensures.value refl c.loop-flight.invariant c.in_err-decode_pictures.ensures)
 
 pub loop-flight-init : goal.loop-flight-init
 loop-flight-init g c =

@@ -1,6 +1,6 @@
 use Rattle.std.proofs.Common.{◌≡◌, ◌/◌, ◌<◌, ℕ, refl, ◌∙◌, subst, length, arith}
 use Rattle.sample_words.specs.Sizes.{sample_words}
-use Rattle.unit_words.specs.Work.{height, width}
+use Rattle.flight_packing_laws.specs.UnitWords.{height, width}
 use Rattle.done_units.proofs.Ends.{one_more, places_are, row_at, vectors_end}
 use Rattle.done_units.proofs.Passes.{goes_on, nothing_more}
 use Rattle.done_units.proofs.Standing.{may_pack, vectors_have}

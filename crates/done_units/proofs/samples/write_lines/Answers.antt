@@ -1,6 +1,6 @@
 use Rattle.std.proofs.Common.{◌≡◌, ◌<◌, ℕ, refl, ap, ◌∙◌, subst, length, arith}
 use Rattle.sample_words.specs.Contents.{component_side, components_before}
-use Rattle.unit_words.specs.Work.{height, width}
+use Rattle.flight_packing_laws.specs.UnitWords.{height, width}
 use Rattle.done_units.proofs.Ends.{component_is, one_more, row_at, samples_end}
 use Rattle.done_units.proofs.Passes.{goes_on, nothing_more}
 use Rattle.done_units.proofs.Standing.{may_pack, samples_have}

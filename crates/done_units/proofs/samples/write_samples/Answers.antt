@@ -1,5 +1,5 @@
 use Rattle.std.proofs.Common.{arith}
-use Rattle.unit_words.specs.Work.{height, width}
+use Rattle.flight_packing_laws.specs.UnitWords.{height, width}
 use Rattle.done_units.proofs.Ends.{components_are}
 use Rattle.done_units.proofs.Passes.{goes_on}
 use Rattle.done_units.proofs.samples.write_samples.Goals as goal

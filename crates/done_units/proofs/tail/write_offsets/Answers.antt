@@ -1,5 +1,5 @@
 use Rattle.std.proofs.Common.{◌≡◌, length, rules, arith}
-use Rattle.unit_words.specs.Work.{height, width}
+use Rattle.flight_packing_laws.specs.UnitWords.{height, width}
 use Rattle.done_units.proofs.Ends.{offsets_are, offsets_end}
 use Rattle.done_units.proofs.Standing.{offsets_have}
 use Rattle.done_units.proofs.tail.write_offsets.Goals as goal

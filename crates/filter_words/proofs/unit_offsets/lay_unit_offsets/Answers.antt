@@ -7,7 +7,7 @@ use Rattle.spec_picture_filters.specs.Units.{unit_read}
 use Rattle.hv_base.specs.declared.line.Phase.TheVariants.{B}
 use Rattle.sample_words.specs.declared.unit_content.UnitContent.TheVariants.{Modes, Offsets}
 use Rattle.sample_words.specs.declared.modes.PlaceModes.{PlaceModes}
-use Rattle.spec_flights.specs.Words.{expected}
+use Rattle.flight_facts.specs.SpecFlights.{expected}
 use Rattle.line_words.specs.Places.{UnitAt, number_at, word_at}
 use Rattle.line_words.proofs.Words.{knows_as_much, still_of}
 use Rattle.flight_facts.specs.declared.flight_facts.FlightFacts.{FlightFacts}

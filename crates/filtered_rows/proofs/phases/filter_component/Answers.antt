@@ -3,7 +3,7 @@ use Rattle.hv_base.specs.declared.line.Line.{Line}
 use Rattle.hv_base.specs.declared.line.Phase.{Phase}
 use Rattle.row_filters.specs.Lines.{count_of}
 use Rattle.progress_words.specs.Passes.{view}
-use Rattle.spec_flights.specs.Pictures.{folded_at}
+use Rattle.flight_waits.specs.SpecFlights.{folded_at}
 use Rattle.sample_lines.specs.FactsOfFlights.{flight_in}
 use Rattle.filtered_rows.specs.Phases.{AreSamplesSeen, IsAroundKnown, lines_beside}
 use Rattle.filtered_rows.proofs.phases.filter_component.Goals as goal

@@ -4,7 +4,7 @@ use Rattle.spec_loop_filters.specs.declared.format.FilterFormat.{FilterFormat}
 use Rattle.row_filters.specs.Around.{place_in, unit_in}
 use Rattle.row_filters.specs.Known.{AreKept, ArePlaces, AreUnits}
 use Rattle.progress_words.specs.Passes.{view}
-use Rattle.spec_flights.specs.Pictures.{folded_at}
+use Rattle.flight_waits.specs.SpecFlights.{folded_at}
 use Rattle.sample_lines.specs.FactsOfFlights.{flight_in}
 use Rattle.filtered_rows.specs.Phases.{IsAroundKnown}
 use Rattle.filtered_rows.proofs.Seen.{horizontal_rows, offset_rows, vertical_rows}

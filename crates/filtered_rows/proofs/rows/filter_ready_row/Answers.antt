@@ -6,7 +6,7 @@ use Rattle.sample_words.specs.Words.{IsLine}
 use Rattle.progress_words.specs.Passes.{view}
 use Rattle.progress_words.specs.Rule.{IsNext}
 use Rattle.progress_words.specs.Views.{AllSound, counting, seen_of}
-use Rattle.spec_flights.specs.Pictures.{folded_at}
+use Rattle.flight_waits.specs.SpecFlights.{folded_at}
 use Rattle.line_words.specs.Passes.{writing_run}
 use Rattle.line_words.specs.Places.{HasSizes, number_at, words_at}
 use Rattle.sample_lines.specs.FactsOfFlights.{board_flight, flight_meaning}

@@ -1,6 +1,6 @@
 use Rattle.progress_words.specs.Passes.{view}
 use Rattle.board_core.specs.Needs.{filter_needs}
-use Rattle.spec_flights.specs.Rows.{flight_rows}
+use Rattle.flight_waits.specs.SpecFlights.{flight_rows}
 use Rattle.line_words.specs.Places.{number_at}
 use Rattle.sample_lines.specs.FactsOfFlights.{flight_in}
 use Rattle.filtered_rows.proofs.Views.{holds_still, seen_more, waited_both}

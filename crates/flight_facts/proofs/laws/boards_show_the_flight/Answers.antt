@@ -1,4 +1,4 @@
-use Rattle.flight_lines.proofs.Steps.{reached_shows}
+use Rattle.line_words.proofs.FlightLinesLemmas.{reached_shows}
 use Rattle.flight_facts.specs.Boards.{board_flight}
 use Rattle.flight_facts.proofs.Told.{on_board}
 use Rattle.flight_facts.proofs.laws.boards_show_the_flight.Goals as goal

@@ -1,4 +1,4 @@
-use Rattle.flight_lines.proofs.Laid.{laid}
+use Rattle.line_words.proofs.FlightLinesLemmas.{laid}
 use Rattle.flight_facts.specs.Boards.{board_flight}
 use Rattle.flight_facts.proofs.Sized.{flight_sized}
 use Rattle.flight_facts.proofs.Told.{on_board}

@@ -4,9 +4,9 @@ use Rattle.ctu_motion.specs.Held.{held}
 use Rattle.spec_picture_trees.specs.Places.{first_row}
 use Rattle.spec_picture_trees.specs.Shapes.{picture_shape}
 use Rattle.spec_picture_motion.specs.Slices.{slice_motion}
-use Rattle.spec_flights.specs.Pictures.{pictures_before}
-use Rattle.spec_flights.specs.References.{blocks_at, blocks_in, item_blocks, known_blocks, names_before}
-use Rattle.spec_flights.specs.References.{segment_blocks}
+use Rattle.row_borders.specs.SpecFlights.{pictures_before}
+use Rattle.row_borders.specs.SpecFlights.{blocks_at, blocks_in, item_blocks, known_blocks, names_before}
+use Rattle.row_borders.specs.SpecFlights.{segment_blocks}
 use Rattle.flight_packing_laws.proofs.laws.derived_units_tell_their_blocks.Goals as goal
 
 pub returns : goal.returns

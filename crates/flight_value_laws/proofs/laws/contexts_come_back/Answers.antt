@@ -1,6 +1,6 @@
 use Rattle.std.specs.Prelude.{◌+◌, ◌-◌, ◌*◌}
 use Rattle.header_types.specs.SequenceParameterSets.{width_in_ctbs}
-use Rattle.spec_flights.specs.Words.{values_in}
+use Rattle.known_picture_laws.specs.SpecFlights.{values_in}
 use Rattle.flight_value_laws.proofs.Values.{words_are}
 use Rattle.flight_value_laws.proofs.laws.contexts_come_back.Goals as goal
 

@@ -1,5 +1,5 @@
 use Rattle.std.proofs.Common.{refl}
-use Rattle.spec_flights.specs.Words.{values_in}
+use Rattle.known_picture_laws.specs.SpecFlights.{values_in}
 use Rattle.flight_value_laws.proofs.Sides.{side_is, top_is}
 use Rattle.flight_value_laws.proofs.laws.sides_come_back.Goals as goal
 

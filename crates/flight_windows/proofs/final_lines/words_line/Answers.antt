@@ -5,7 +5,7 @@ use mir.Val.{SFits, to_z, of_z}
 use mir.Syntax.{w32}
 use Rattle.inter_pred.specs.Passes.{at}
 use Rattle.sample_words.specs.Sizes.{samples_a_word}
-use Rattle.spec_flights.specs.Pictures.{PlannedFlight}
+use Rattle.sample_lines.specs.SpecFlights.{PlannedFlight}
 use Rattle.spec_inter_prediction.specs.Taps.{clamped}
 use Rattle.sample_lines.specs.FactsOfFlights.{flight_in}
 use Rattle.sample_lines.specs.Lines.{sample_of}

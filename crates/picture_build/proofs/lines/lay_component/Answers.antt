@@ -1,4 +1,4 @@
-use Rattle.ctu_build.specs.Held.{held}
+use Rattle.unit_build.specs.CtuBuild.{held}
 use Rattle.picture_build.proofs.Laid.{laid_component}
 use Rattle.unit_build.proofs.Covering.{covered}
 use Rattle.picture_build.proofs.lines.lay_component.Goals as goal

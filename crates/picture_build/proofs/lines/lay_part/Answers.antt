@@ -1,5 +1,5 @@
 use Rattle.std.proofs.Common.{◌<◌, ◌≤◌, ◌-◌, ◌⊎◌, rules, arith}
-use Rattle.ctu_build.specs.Held.{held}
+use Rattle.unit_build.specs.CtuBuild.{held}
 use Rattle.picture_build.proofs.Planes.{part_height, part_width}
 use Rattle.picture_build.proofs.Rows.{laid_all, laid_more}
 use Rattle.std.proofs.lemmas.Bool.Decides.{nat_tests}

@@ -1,6 +1,6 @@
 use Rattle.std.proofs.Common.{◌≡◌, ℕ, ◌+◌, ◌-◌, ◌*◌, ◌==◌, ◌&&◌, nat_le, nat_lt, if◌then◌else◌}
 use Rattle.std.specs.Option.{unwrap_or}
-use Rattle.ctu_build.specs.Held.{held}
+use Rattle.unit_build.specs.CtuBuild.{held}
 use Rattle.picture_buffer.specs.Planes.{HasSides, plane_height, plane_width, samples_of}
 use Rattle.picture_build.proofs.lines.lay_part.Given as goal
 

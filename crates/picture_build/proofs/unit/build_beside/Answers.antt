@@ -2,7 +2,7 @@ use Rattle.std.proofs.Common.{◌≡◌, rules}
 use Rattle.plan_types.specs.declared.picture_plan.PicturePlan.{PicturePlan}
 use Rattle.plan_types.specs.declared.segment_plan.SegmentPlan.{SegmentPlan}
 use Rattle.spec_picture_motion.specs.Slices.{collocated_entry}
-use Rattle.spec_picture_trees.specs.Shapes.{slice_start}
+use Rattle.picture_trees.specs.SpecPictureTrees.{slice_start}
 use Rattle.picture_build.proofs.Deriving.{all_placed}
 use Rattle.picture_build.proofs.Work.{given_joins, motion_joins, samples_join}
 use Rattle.picture_build.proofs.unit.build_beside.Goals as goal

@@ -1,7 +1,7 @@
 use Rattle.std.proofs.Common.{rules, ◌≡◌, ℕ, ◌<◌, Bool, List, Option, ap, subst, sym, arith, ◌∙◌}
 use Rattle.boundary_strengths.specs.Held.{beside_of}
 use Rattle.picture_buffer.specs.declared.place_motion.PlaceMotion.{PlaceMotion}
-use Rattle.spec_boundary_strengths.specs.Places.{unit_place}
+use Rattle.boundary_strengths.specs.SpecBoundaryStrengths.{unit_place}
 use Rattle.spec_picture_trees.specs.Places.{unit_places}
 use Rattle.spec_picture_trees.specs.Shapes.{picture_shape}
 use Rattle.picture_filters.specs.Filtering.{IsCodedAbove, IsCodedLeft}

@@ -3,8 +3,8 @@ use Rattle.picture_filters.specs.Places.{HasPlaces}
 use Rattle.picture_filters.specs.Units.{HasUnits}
 use Rattle.loop_filters.specs.Scratch.{HasRoom}
 use Rattle.picture_buffer.specs.Planes.{HasSides, samples_of}
-use Rattle.spec_loop_filters.specs.declared.format.FilterFormat.{FilterFormat}
-use Rattle.spec_loop_filters.specs.Filters.{depth_of}
+use Rattle.spec_picture_filters.specs.SpecLoopFilters.{FilterFormat}
+use Rattle.spec_picture_filters.specs.SpecLoopFilters.{depth_of}
 use Rattle.picture_filters.proofs.Formats.{is_planned, of_sides, plane_heights, plane_widths}
 use Rattle.picture_filters.proofs.Whole.{viewed_filtered}
 use Rattle.picture_filters.proofs.planned.filter_planned.Goals as goal

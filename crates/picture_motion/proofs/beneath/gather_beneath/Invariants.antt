@@ -1,7 +1,7 @@
 use Rattle.std.proofs.Common.{◌≡◌, ℕ, ◌*◌, ◌&&◌, cond, nat_le, nat_lt}
 use Rattle.ctu_motion.specs.Held.{held, held_beneath}
 use Rattle.spec_picture_motion.specs.Field.{beneath_unit}
-use Rattle.spec_picture_trees.specs.Places.{unit_places}
+use Rattle.spec_picture_motion.specs.SpecPictureTrees.{unit_places}
 use Rattle.picture_motion.proofs.beneath.gather_beneath.Given as goal
 
 abbrev pub invariant-loop-row : goal.invariant-loop-row

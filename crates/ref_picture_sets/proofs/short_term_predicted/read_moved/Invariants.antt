@@ -1,6 +1,6 @@
 use Rattle.std.proofs.Common.{drop}
-use Rattle.spec_formats.specs.Fields.{read}
-use Rattle.spec_formats.proofs.Lists.{behind}
+use Rattle.header_fields.specs.SpecFormats.{read}
+use Rattle.header_fields.proofs.SpecFormatsLemmas.{behind}
 use Rattle.header_fields.proofs.Loops.{IsAt}
 use Rattle.spec_reference_pictures.specs.ShortTermSets.{moved}
 use Rattle.ref_picture_sets.proofs.short_term_predicted.read_moved.Given as goal

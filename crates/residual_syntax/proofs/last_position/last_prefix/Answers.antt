@@ -1,6 +1,6 @@
 use Rattle.std.proofs.Common.{◌≡◌, ℕ, ◌+◌, rules, true, false, Ok, Err, subst}
 use Rattle.std.proofs.lemmas.Result.{err_from_is_err_and}
-use Rattle.spec_formats.specs.Format.{give}
+use Rattle.spec_cabac.specs.SpecFormats.{give}
 use Rattle.spec_cabac.specs.Bins.{read, decision}
 use Rattle.spec_cabac.proofs.Prefix.{unary_goes_on, unary_stops, unary_ends, unary_over}
 use Rattle.spec_residuals.specs.LastPosition.{prefix_context}

@@ -1,5 +1,5 @@
 use Rattle.std.proofs.Common.{◌≡◌, ◌+◌, ◌-◌}
-use Rattle.spec_formats.specs.Format.{give}
+use Rattle.spec_cabac.specs.SpecFormats.{give}
 use Rattle.spec_cabac.specs.Engine.{IsLive}
 use Rattle.spec_cabac.specs.Bins.{read, unary, decision}
 use Rattle.spec_residuals.specs.LastPosition.{prefix_context, last_prefix}

@@ -1,6 +1,6 @@
 use Rattle.std.proofs.Common.{Ok, ap, arith}
 use Rattle.std.proofs.lemmas.Result.{err_from_is_err_and}
-use Rattle.spec_formats.specs.Format.{bind}
+use Rattle.spec_cabac.specs.SpecFormats.{bind}
 use Rattle.spec_cabac.proofs.Times.{times_goes_on, times_ends, times_done}
 use Rattle.spec_residuals.specs.Levels.{level_at}
 use Rattle.residual_syntax.proofs.remaining.levels_from.Goals as goal

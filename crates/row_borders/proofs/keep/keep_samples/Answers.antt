@@ -1,5 +1,5 @@
 use Rattle.std.proofs.Common.{◌+◌, ◌<◌, ◌==◌, unwrap_or, rules, ◌∙◌, ap}
-use Rattle.ctu_build.specs.Held.{held}
+use Rattle.unit_build.specs.CtuBuild.{held}
 use Rattle.row_borders.specs.Strips.{StripPlaces}
 use Rattle.row_borders.proofs.Kept.{lines_more}
 use Rattle.row_borders.proofs.keep.keep_samples.Goals as goal

@@ -1,5 +1,5 @@
 use Rattle.std.proofs.Common.{◌≡◌, ℕ, ◌+◌, ◌==◌, ◌&&◌, nat_lt, unwrap_or, if◌then◌else◌}
-use Rattle.ctu_build.specs.Held.{held}
+use Rattle.unit_build.specs.CtuBuild.{held}
 use Rattle.row_borders.specs.Strips.{sample_along}
 use Rattle.row_borders.proofs.keep.keep_samples.Given as goal
 

@@ -3,8 +3,8 @@ use Rattle.header_types.specs.SequenceParameterSets.{width_in_ctbs}
 use Rattle.sample_words.specs.declared.unit_content.UnitContent.TheVariants.{Carried}
 use Rattle.sample_words.specs.Sizes.{columns}
 use Rattle.spec_known_units.specs.Known.{units_known}
-use Rattle.spec_flights.specs.Words.{carried_behind}
-use Rattle.unit_words.specs.Above.{AreOfCarry}
+use Rattle.unit_reach.specs.SpecFlights.{carried_behind}
+use Rattle.row_trees.specs.UnitWords.{AreOfCarry}
 use Rattle.row_waits.proofs.RowEnds.{carried_inside, carry_are, last_small, place_is, unit_sizes}
 use Rattle.row_waits.proofs.carried.read_carry.Goals as goal
 

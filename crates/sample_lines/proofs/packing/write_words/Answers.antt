@@ -5,7 +5,7 @@ use Rattle.std.proofs.lemmas.List.Edits.{length-between}
 use Rattle.sample_words.specs.declared.sizes.FlightSizes.{FlightSizes}
 use Rattle.sample_words.specs.Sizes.{line_words}
 use Rattle.sample_words.specs.Values.{sample_bits}
-use Rattle.spec_flights.specs.Words.{expected}
+use Rattle.flight_facts.specs.SpecFlights.{expected}
 use Rattle.progress_words.specs.declared.view.View.{View}
 use Rattle.progress_words.specs.Passes.{Knows, view}
 use Rattle.progress_words.specs.Views.{seen_of}

@@ -4,7 +4,7 @@ use Rattle.sample_words.specs.declared.sizes.FlightSizes.{FlightSizes}
 use Rattle.sample_words.specs.Packing.{lane}
 use Rattle.sample_words.specs.Sizes.{line_words, samples_a_word}
 use Rattle.sample_words.specs.Values.{sample_bits}
-use Rattle.spec_flights.specs.Words.{expected}
+use Rattle.flight_facts.specs.SpecFlights.{expected}
 use Rattle.progress_words.specs.declared.view.View.{View}
 use Rattle.progress_words.specs.Views.{seen_of}
 use Rattle.line_words.specs.Places.{HasSizes, number_at, word_at}

@@ -2,7 +2,7 @@ use Rattle.std.proofs.Common.{ℕ, ◌≡◌, ◌+◌, ◌*◌, ◌/◌, ◌%◌
 use Rattle.sample_words.specs.Packing.{lane}
 use Rattle.sample_words.specs.Sizes.{samples_a_word}
 use Rattle.sample_words.specs.Values.{sample_bits}
-use Rattle.spec_flights.specs.Words.{expected}
+use Rattle.flight_facts.specs.SpecFlights.{expected}
 use Rattle.progress_words.specs.Passes.{Knows, view}
 use Rattle.line_words.specs.Places.{word_at}
 use Rattle.flight_facts.specs.Facts.{flight_in}

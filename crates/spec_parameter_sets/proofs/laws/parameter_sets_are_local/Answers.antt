@@ -1,5 +1,5 @@
 use Rattle.hv_base.specs.declared.field_rules.TheConstants.{PARAMETER_SET_RULES}
-use Rattle.spec_formats.proofs.Locality.{local-read}
+use Rattle.spec_reference_pictures.proofs.SpecFormatsLemmas.{local-read}
 use Rattle.spec_parameter_sets.specs.PictureParameterSet.{picture_parameter_set}
 use Rattle.spec_parameter_sets.specs.Scaling.{scaling_list_data}
 use Rattle.spec_parameter_sets.specs.SequenceParameterSet.{sequence_parameter_set}

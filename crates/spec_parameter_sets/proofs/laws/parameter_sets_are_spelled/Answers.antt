@@ -1,6 +1,6 @@
 use Rattle.hv_base.specs.declared.field_rules.TheConstants.{PARAMETER_SET_RULES}
-use Rattle.spec_formats.specs.Fields.{field_at}
-use Rattle.spec_formats.proofs.Agreement.{agree}
+use Rattle.spec_reference_pictures.specs.SpecFormats.{field_at}
+use Rattle.spec_reference_pictures.proofs.SpecFormatsLemmas.{agree}
 use Rattle.spec_parameter_sets.specs.PictureParameterSet.{picture_parameter_set}
 use Rattle.spec_parameter_sets.specs.Scaling.{scaling_list_data}
 use Rattle.spec_parameter_sets.specs.SequenceParameterSet.{sequence_parameter_set}

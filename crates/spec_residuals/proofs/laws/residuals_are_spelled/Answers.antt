@@ -1,4 +1,4 @@
-use Rattle.spec_formats.proofs.Agreement.{agree, again}
+use Rattle.spec_cabac.proofs.SpecFormatsLemmas.{agree, again}
 use Rattle.spec_cabac.specs.Bins.{bin_at}
 use Rattle.spec_residuals.specs.Residual.{residual_coding}
 use Rattle.spec_residuals.proofs.laws.residuals_are_spelled.Goals as goal

@@ -1,5 +1,5 @@
-use Rattle.spec_cabac.specs.Bins.{bin_at}
-use Rattle.spec_formats.proofs.Agreement.{agree, again}
+use Rattle.spec_residuals.specs.SpecCabac.{bin_at}
+use Rattle.spec_residuals.proofs.SpecFormatsLemmas.{agree, again}
 use Rattle.spec_slice_data.specs.Tree.{unit_and_end}
 use Rattle.spec_slice_data.proofs.laws.coding_tree_unit_is_spelled.Goals as goal
 

@@ -1,6 +1,6 @@
 use Rattle.hv_base.specs.declared.field_rules.TheConstants.{PARAMETER_SET_RULES}
-use Rattle.spec_parameter_sets.specs.PictureParameterSet.{picture_parameter_set}
-use Rattle.spec_parameter_sets.specs.SequenceParameterSet.{sequence_parameter_set}
+use Rattle.spec_slice_headers.specs.SpecParameterSets.{picture_parameter_set}
+use Rattle.spec_slice_headers.specs.SpecParameterSets.{sequence_parameter_set}
 use Rattle.spec_written_headers.proofs.Replay.{read_back}
 use Rattle.spec_written_headers.proofs.laws.parameter_sets_read_back.Goals as goal
 

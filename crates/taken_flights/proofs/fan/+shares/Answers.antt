@@ -1,6 +1,7 @@
 use Rattle.std.proofs.Common.{◌≡◌, ◌-◌, ◌++◌, length, refl, arith}
 use Rattle.taken_flights.proofs.Lists.{whole_of}
-use Rattle.taken_flights.proofs.Parts.{back_parts, few_all, few_behind, front_parts, goes_on, stops_in_front, taken_of}
+use Rattle.taken_flights.proofs.Parts.{back_parts, few_all, few_behind, front_parts, goes_on, stops_in_front}
+use Rattle.taken_flights.proofs.Parts.{taken_of}
 use Rattle.taken_flights.proofs.Passes.{gathered, may_look, may_take_more}
 use Rattle.taken_flights.proofs.fan.+shares.Goals as goal
 

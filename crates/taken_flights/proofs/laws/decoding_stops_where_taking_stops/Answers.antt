@@ -1,4 +1,4 @@
-use Rattle.flight_facts.specs.Facts.{flight_in}
+use Rattle.taken_pictures.specs.FlightFacts.{flight_in}
 use Rattle.taken_flights.proofs.Broken.{stops_inside}
 use Rattle.taken_flights.proofs.laws.decoding_stops_where_taking_stops.Goals as goal
 

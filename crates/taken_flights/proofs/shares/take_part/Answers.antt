@@ -1,5 +1,5 @@
 use Rattle.std.proofs.lemmas.Option.{slice_get_within}
-use Rattle.flight_facts.specs.Facts.{flight_in}
+use Rattle.taken_pictures.specs.FlightFacts.{flight_in}
 use Rattle.progress_words.specs.Passes.{view}
 use Rattle.taken_pictures.proofs.Pictures.{picture_inside}
 use Rattle.taken_flights.proofs.Broken.{broken_of}

@@ -1,4 +1,4 @@
-use Rattle.flight_facts.specs.Facts.{flight_in}
+use Rattle.taken_pictures.specs.FlightFacts.{flight_in}
 use Rattle.taken_flights.specs.Taken.{HasLookedOn}
 use Rattle.taken_flights.proofs.Parts.{AreTakenSoFar}
 use Rattle.taken_flights.proofs.shares.take_share.Given as goal

@@ -1,7 +1,7 @@
 use Rattle.std.proofs.Common.{◌≡◌, ap, ◌∙◌, slice_get}
 use Rattle.sample_words.specs.declared.modes.PlaceModes.{PlaceModes}
 use Rattle.sample_words.specs.Values.{modes_in, motion_in}
-use Rattle.flight_value_laws.specs.Motion.{motion_where}
+use Rattle.row_above_laws.specs.FlightValueLaws.{motion_where}
 use Rattle.taken_pictures.specs.Kept.{motion_in_segment, pointing_in}
 use Rattle.taken_pictures.proofs.Kept.{kept_is}
 use Rattle.taken_pictures.proofs.kept_places.kept_motion.Goals as goal

@@ -1,8 +1,8 @@
 use Rattle.std.proofs.Common.{rules}
 use Rattle.std.proofs.lemmas.Result.{err_from_is_err_and}
-use Rattle.spec_formats.specs.Format.{give}
+use Rattle.residual_syntax.specs.SpecFormats.{give}
 use Rattle.spec_slice_data.specs.Quantization.{delta_bin}
-use Rattle.spec_cabac.proofs.Prefix.{unary_goes_on, unary_stops, unary_ends, unary_over}
+use Rattle.residual_syntax.proofs.SpecCabacLemmas.{unary_goes_on, unary_stops, unary_ends, unary_over}
 use Rattle.transform_tree.proofs.quantization.delta_prefix.Goals as goal
 
 pub returns-in_err-delta_bin-clause-value : goal.returns-in_err-delta_bin-clause-value

@@ -1,9 +1,9 @@
 use Rattle.std.proofs.Common.{◌≡◌, ◌-◌}
-use Rattle.spec_formats.specs.Format.{give}
-use Rattle.spec_cabac.specs.Engine.{IsLive}
-use Rattle.spec_cabac.specs.Bins.{read, unary, truncated}
+use Rattle.residual_syntax.specs.SpecFormats.{give}
+use Rattle.residual_syntax.specs.SpecCabac.{IsLive}
+use Rattle.residual_syntax.specs.SpecCabac.{read, unary, truncated}
 use Rattle.spec_slice_data.specs.Quantization.{delta_bin}
-use Rattle.cabac_contexts.specs.Takes.{state_of}
+use Rattle.residual_syntax.specs.CabacContexts.{state_of}
 use Rattle.transform_tree.proofs.quantization.delta_prefix.Given as goal
 
 abbrev pub invariant-loop-i : goal.invariant-loop-i

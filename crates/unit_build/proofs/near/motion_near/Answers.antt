@@ -1,8 +1,8 @@
 use Rattle.std.proofs.Common.{rules, ◌≡◌, ◌+◌, ◌-◌, true, false, ◌∙◌}
-use Rattle.ctu_motion.specs.Held.{held}
-use Rattle.spec_picture_motion.specs.Field.{Motions, pointing_motion}
-use Rattle.spec_picture_trees.specs.Places.{first_column, first_row, is_there}
-use Rattle.spec_slice_data.specs.Segment.{PictureShape}
+use Rattle.picture_motion.specs.CtuMotion.{held}
+use Rattle.spec_picture_build.specs.SpecPictureMotion.{Motions, pointing_motion}
+use Rattle.picture_filters.specs.SpecPictureTrees.{first_column, first_row, is_there}
+use Rattle.spec_picture_build.specs.SpecSliceData.{PictureShape}
 use Rattle.unit_build.specs.Near.{is_inside}
 use Rattle.unit_build.proofs.Around.{near_beside, near_inside}
 use Rattle.unit_build.proofs.near.motion_near.Goals as goal

@@ -1,5 +1,5 @@
 use Rattle.std.proofs.Common.{ap, ◌∙◌}
-use Rattle.ctu_motion.specs.Held.{Cells, held as motion_held}
+use Rattle.picture_motion.specs.CtuMotion.{Cells, held as motion_held}
 use Rattle.unit_build.proofs.unit.build_unit.Goals as goal
 
 pub returns-clause-motion : goal.returns-clause-motion

@@ -1,5 +1,5 @@
 use Rattle.unit_build.proofs.Joined.{motion_is}
-use Rattle.ctu_motion.specs.Held.{held as motion_held}
+use Rattle.picture_motion.specs.CtuMotion.{held as motion_held}
 use Rattle.unit_build.proofs.unit.derive_unit.Goals as goal
 
 pub returns-clause-motion : goal.returns-clause-motion

@@ -1,5 +1,5 @@
 use Rattle.std.proofs.Common.{sym, subst}
-use Rattle.ctu_motion.specs.Held.{held as motion_held}
+use Rattle.picture_motion.specs.CtuMotion.{held as motion_held}
 use Rattle.picture_filters.specs.declared.given.UnitFilters.{UnitFilters}
 use Rattle.picture_filters.specs.Given.{IsGiven}
 use Rattle.picture_motion.specs.Deriving.{derived_over}

@@ -1,5 +1,5 @@
 use Rattle.std.proofs.Common.{refl}
-use Rattle.ctu_motion.specs.Held.{held as motion_held}
+use Rattle.picture_motion.specs.CtuMotion.{held as motion_held}
 use Rattle.unit_build.specs.Near.{motion_behind}
 use Rattle.unit_build.proofs.unit.give_filters.Goals as goal
 

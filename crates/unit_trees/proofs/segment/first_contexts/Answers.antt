@@ -1,6 +1,6 @@
 use Rattle.std.proofs.Common.{rules, ◌≡◌, ◌∙◌, pos, w32, w64, to_z, of_z}
-use Rattle.spec_cabac.specs.Contexts.{clip3}
-use Rattle.unit_trees.proofs.Contexts.{contexts_same}
+use Rattle.coding_quadtree.specs.SpecCabac.{clip3}
+use Rattle.unit_trees.proofs.SegmentContexts.{contexts_same}
 use Rattle.unit_trees.proofs.segment.first_contexts.Goals as goal
 
 pub returns : goal.returns

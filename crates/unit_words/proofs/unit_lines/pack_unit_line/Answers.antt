@@ -1,7 +1,7 @@
 use Rattle.std.proofs.Common.{◌≡◌, ℕ, ◌+◌, ◌*◌, ◌^◌, ◌∙◌, slice_index, pow_pos}
 use Rattle.std.specs.List.{between}
 use Rattle.std.specs.Option.{unwrap_or}
-use Rattle.ctu_build.specs.Held.{held}
+use Rattle.unit_build.specs.CtuBuild.{held}
 use Rattle.sample_words.specs.Contents.{there}
 use Rattle.sample_words.specs.Sizes.{samples_a_word}
 use Rattle.sample_words.specs.Values.{sample_bits}

@@ -4,8 +4,8 @@ use Rattle.ctu_records.specs.Tree.{Ctu}
 use Rattle.spec_known_units.specs.Known.{ctu_of, units_known}
 use Rattle.spec_picture_trees.specs.Places.{unit_places}
 use Rattle.spec_picture_trees.specs.Shapes.{picture_shape}
-use Rattle.unit_trees.specs.Edges.{bottom_of}
-use Rattle.unit_words.specs.Above.{AreBottom}
+use Rattle.row_above_laws.specs.UnitTrees.{bottom_of}
+use Rattle.row_above_laws.specs.UnitWords.{AreBottom}
 use Rattle.border_words.proofs.Above.{unit_above}
 use Rattle.border_words.proofs.unit_above.UnitAbove.bottom.Goals as goal
 

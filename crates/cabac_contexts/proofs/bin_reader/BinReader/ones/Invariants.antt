@@ -1,5 +1,5 @@
 use Rattle.std.proofs.Common.{◌≡◌, ◌-◌}
-use Rattle.spec_formats.specs.Format.{refuse}
+use Rattle.spec_cabac.specs.SpecFormats.{refuse}
 use Rattle.spec_cabac.specs.Engine.{IsLive}
 use Rattle.spec_cabac.specs.Bins.{read, unary, bypass, ones}
 use Rattle.cabac_contexts.specs.Takes.{state_of}

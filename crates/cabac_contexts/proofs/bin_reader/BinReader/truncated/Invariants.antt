@@ -1,5 +1,5 @@
 use Rattle.std.proofs.Common.{◌≡◌, ◌-◌}
-use Rattle.spec_formats.specs.Format.{give}
+use Rattle.spec_cabac.specs.SpecFormats.{give}
 use Rattle.spec_cabac.specs.Engine.{IsLive}
 use Rattle.spec_cabac.specs.Bins.{read, unary, bypass, truncated}
 use Rattle.cabac_contexts.specs.Takes.{state_of}

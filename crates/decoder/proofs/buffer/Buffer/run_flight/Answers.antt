@@ -2,7 +2,7 @@ use Rattle.std.proofs.Common.{List, sym, subst}
 use Rattle.std.specs.Prelude.{IfOk}
 use Rattle.spec_decoder.specs.Decoder.{pictures_in}
 use Rattle.spec_picture_build.specs.References.{DecodedPicture}
-use Rattle.row_jobs.specs.Decoding.{Decodes}
+use Rattle.row_jobs.specs.FlightResults.{Decodes}
 use Rattle.decoder.specs.Buffers.{HeldBuffer, buffer_of}
 use Rattle.decoder.proofs.Buffers.{pictures-tagged}
 use Rattle.decoder.proofs.buffer.Buffer.run_flight.Goals as goal

@@ -1,7 +1,7 @@
 use Rattle.std.proofs.Common.{rules, ◌≡◌, ◌≤◌, ◌+◌, ℕ, length, get_or, ◌++◌, ◌∷◌, [], arith, sym, subst, ◌∙◌, ap}
 use Rattle.std.specs.Prelude.{if◌then◌else◌}
 use Rattle.flight_plan.specs.declared.row_range.Reference.TheVariants.{Flight}
-use Rattle.spec_decoder.specs.Decoder.{is_among}
+use Rattle.spec_flights.specs.SpecDecoderDecoder.{is_among}
 use Rattle.flight_names.proofs.Staying.{kept_last, kept_next, staying_none}
 use Rattle.flight_names.proofs.buffer_names.BufferNames.behind.Goals as goal
 

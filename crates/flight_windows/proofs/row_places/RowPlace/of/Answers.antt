@@ -2,7 +2,7 @@ use Rattle.std.proofs.Common.{rules, ◌≡◌, ◌+◌, ◌-◌, ◌*◌, ◌/�
 use mir.Val.{SFits}
 use mir.Syntax.{w32}
 use Rattle.spec_inter_prediction.specs.Taps.{clamped}
-use Rattle.locality_laws.specs.Needed.{luma_line}
+use Rattle.sample_lines.specs.LocalityLaws.{luma_line}
 use Rattle.sample_words.specs.declared.sizes.FlightSizes.{FlightSizes}
 use Rattle.sample_words.specs.Contents.{component_side}
 use Rattle.sample_words.specs.Sizes.{height_of}

@@ -2,7 +2,7 @@ use Rattle.std.proofs.Common.{◌≡◌, ℕ, ◌+◌, ◌-◌, ◌<◌, slice_i
 use Rattle.std.proofs.lemmas.List.{get_or-drop, get_or-take}
 use Rattle.picture_buffer.specs.Planes.{samples_of}
 use Rattle.spec_picture_build.specs.Border.{unit_side, width_of}
-use Rattle.spec_picture_trees.specs.Places.{unit_at}
+use Rattle.picture_trees.specs.SpecPictureTrees.{unit_at}
 use Rattle.spec_slice_data.specs.Segment.{PictureShape}
 use Rattle.unit_build.specs.Parts.{IsPart}
 use Rattle.picture_build.specs.Standing.{Standing}

@@ -1,15 +1,15 @@
 use Rattle.std.proofs.Common.{◌≡◌, Some, ap, subst, ◌∙◌, rules}
 use Rattle.std.specs.List.{All}
-use Rattle.ctu_build.specs.Held.{held}
-use Rattle.ctu_motion.specs.Held.{held as motion_held}
+use Rattle.unit_build.specs.CtuBuild.{held}
+use Rattle.unit_build.specs.CtuMotion.{held as motion_held}
 use Rattle.picture_buffer.specs.Motion.{motions_of}
 use Rattle.picture_buffer.specs.Planes.{samples_of}
-use Rattle.picture_filters.specs.Filtering.{data_of}
+use Rattle.unit_build.specs.PictureFilters.{data_of}
 use Rattle.picture_trees.specs.Given.{tree_unit}
 use Rattle.spec_motion.specs.Units.{IsPlacedItem}
-use Rattle.spec_picture_trees.specs.Picture.{TreeUnit}
-use Rattle.spec_picture_trees.specs.Shapes.{picture_shape}
-use Rattle.spec_picture_filters.specs.Filtered.{added_in}
+use Rattle.picture_trees.specs.SpecPictureTrees.{TreeUnit}
+use Rattle.picture_trees.specs.SpecPictureTrees.{picture_shape}
+use Rattle.unit_build.specs.SpecPictureFilters.{added_in}
 use Rattle.spec_picture_motion.specs.Derived.{unit_added as motion_added}
 use Rattle.spec_picture_build.specs.Border.{Samples}
 use Rattle.spec_picture_build.specs.Built.{BuiltPicture, unit_added}

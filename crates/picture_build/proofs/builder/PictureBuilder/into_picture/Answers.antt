@@ -2,10 +2,10 @@ use Rattle.std.proofs.Common.{◌≡◌, ◌≤◌, ◌*◌, ℕ, refl, sym, ap,
 use Rattle.header_types.specs.declared.sps.PictureFormat.{PictureFormat}
 use Rattle.picture_buffer.specs.Motion.{motions_of}
 use Rattle.picture_buffer.specs.Planes.{HasSides, samples_of}
-use Rattle.picture_filters.specs.Filtering.{data_of}
+use Rattle.unit_build.specs.PictureFilters.{data_of}
 use Rattle.spec_picture_build.specs.Border.{Samples}
 use Rattle.spec_slice_data.specs.Segment.{PictureShape}
-use Rattle.spec_decoded_pictures.specs.Decoded.{decoded_by}
+use Rattle.sample_laws.specs.SpecDecodedPictures.{decoded_by}
 use Rattle.spec_picture_build.specs.References.{greatest_sample}
 use Rattle.picture_build.specs.Building.{Building, units_by}
 use Rattle.picture_build.specs.Pictures.{decoded_of}

@@ -1,6 +1,6 @@
 use Rattle.std.proofs.Common.{◌≡◌, ◌<◌, true, sym, subst, ◌∙◌, arith}
 use Rattle.spec_picture_build.specs.Border.{has_sample, unit_side}
-use Rattle.spec_picture_trees.specs.Places.{unit_at}
+use Rattle.picture_trees.specs.SpecPictureTrees.{unit_at}
 use Rattle.spec_slice_data.specs.Segment.{PictureShape}
 use Rattle.picture_build.proofs.fresh.FreshPlanes.finish.Goals as goal
 

@@ -1,5 +1,5 @@
 use Rattle.std.proofs.Common.{◌≡◌, ◌≤◌, ◌+◌, max, sym, subst, ap, ◌∙◌}
-use Rattle.ctu_build.specs.Held.{held}
+use Rattle.unit_build.specs.CtuBuild.{held}
 use Rattle.picture_buffer.specs.Planes.{samples_of}
 use Rattle.spec_picture_build.specs.Built.{unit_laid}
 use Rattle.spec_slice_data.specs.Segment.{PictureShape}

@@ -1,8 +1,8 @@
 use Rattle.std.proofs.Common.{◌≡◌, ◌≤◌, sym, subst, ◌∙◌, arith}
-use Rattle.ctu_build.specs.Held.{held}
+use Rattle.unit_build.specs.CtuBuild.{held}
 use Rattle.picture_buffer.specs.Planes.{samples_of}
 use Rattle.spec_picture_build.specs.Border.{unit_side}
-use Rattle.spec_picture_trees.specs.Places.{unit_at}
+use Rattle.picture_trees.specs.SpecPictureTrees.{unit_at}
 use Rattle.spec_slice_data.specs.Segment.{PictureShape}
 use Rattle.picture_build.proofs.LaidUnits.{zeros_laid}
 use Rattle.picture_build.proofs.fresh.FreshPlanes.lay_zeros.Goals as goal

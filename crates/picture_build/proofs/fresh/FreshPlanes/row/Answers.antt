@@ -1,7 +1,7 @@
 use Rattle.std.proofs.Common.{◌≡◌, ◌<◌, ℕ, length, slice_index_or, sym, subst, ◌∙◌}
 use Rattle.picture_buffer.specs.Planes.{samples_of}
 use Rattle.spec_picture_build.specs.Border.{height_of, unit_side, width_of}
-use Rattle.spec_picture_trees.specs.Places.{unit_at}
+use Rattle.picture_trees.specs.SpecPictureTrees.{unit_at}
 use Rattle.picture_build.specs.Fresh.{Fresh}
 use Rattle.picture_build.proofs.LaidUnits.{laid_there}
 use Rattle.picture_build.proofs.Planes.{heights, widths}

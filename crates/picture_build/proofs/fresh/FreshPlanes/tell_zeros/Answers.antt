@@ -1,7 +1,7 @@
 use Rattle.std.proofs.Common.{◌≡◌, ◌≤◌, ℕ, subst}
 use Rattle.picture_buffer.specs.Planes.{samples_of}
 use Rattle.spec_picture_build.specs.Border.{unit_side}
-use Rattle.spec_picture_trees.specs.Places.{unit_at}
+use Rattle.picture_trees.specs.SpecPictureTrees.{unit_at}
 use Rattle.picture_build.specs.Fresh.{Fresh}
 use Rattle.picture_build.proofs.LaidUnits.{laid_nowhere}
 use Rattle.picture_build.proofs.fresh.FreshPlanes.tell_zeros.Goals as goal

@@ -3,7 +3,7 @@ use Rattle.picture_filters.specs.Places.{HasPlaces}
 use Rattle.picture_filters.specs.Units.{HasUnits}
 use Rattle.header_types.specs.SequenceParameterSets.{height_in_ctbs}
 use Rattle.spec_picture_trees.specs.Shapes.{picture_shape}
-use Rattle.spec_slice_data.specs.Segment.{PictureShape}
+use Rattle.spec_picture_trees.specs.SpecSliceData.{PictureShape}
 use Rattle.picture_filters.proofs.picture.PictureFilters.filter.Goals as goal
 
 pub filter_planned-requires-clause-places : goal.filter_planned-requires-clause-places

@@ -4,7 +4,7 @@ use Rattle.picture_filters.specs.Places.{HasPlaces, places_of}
 use Rattle.picture_filters.specs.Units.{units_of}
 use Rattle.slice_types.specs.declared.slice.SliceDeblocking.{SliceDeblocking}
 use Rattle.spec_picture_filters.specs.Units.{read_added}
-use Rattle.spec_slice_data.specs.Segment.{PictureShape}
+use Rattle.spec_picture_trees.specs.SpecSliceData.{PictureShape}
 use Rattle.picture_filters.specs.Filtering.{Filtering, IsUnit, coded_part, data_of, filter_places_laid, gathered}
 use Rattle.picture_filters.specs.Filtering.{read_place}
 use Rattle.picture_filters.specs.Given.{IsGiven, offsets_laid}

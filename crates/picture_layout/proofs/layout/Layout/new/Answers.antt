@@ -1,6 +1,6 @@
 use Rattle.std.proofs.Common.{◌≡◌, ◌*◌, ◌/◌, ◌-◌, ℕ, ap, sym, subst, ◌∙◌}
-use Rattle.header_types.specs.declared.sps.SpsFields.{SpsFields}
-use Rattle.header_types.specs.SequenceParameterSets.{IsSps, ctb_log2, width_in_ctbs}
+use Rattle.spec_picture_trees.specs.HeaderTypes.{SpsFields}
+use Rattle.spec_picture_trees.specs.HeaderTypes.{IsSps, ctb_log2, width_in_ctbs}
 use Rattle.picture_layout.specs.Shape.{IsShape}
 use Rattle.picture_layout.proofs.Sizes.{shape_is, whole_height, whole_width}
 use Rattle.picture_layout.proofs.layout.Layout.new.Goals as goal

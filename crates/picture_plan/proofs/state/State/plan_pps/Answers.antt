@@ -1,4 +1,4 @@
-use Rattle.spec_parameter_sets.specs.PictureParameterSet.{picture_parameter_set_of}
+use Rattle.spec_picture_plan.specs.SpecParameterSets.{picture_parameter_set_of}
 use Rattle.spec_picture_plan.specs.Steps.{behind_read, put_pps}
 use Rattle.picture_plan.proofs.state.State.plan_pps.Goals as goal
 

@@ -1,4 +1,4 @@
-use Rattle.spec_parameter_sets.specs.SequenceParameterSet.{sequence_parameter_set_of}
+use Rattle.spec_picture_plan.specs.SpecParameterSets.{sequence_parameter_set_of}
 use Rattle.spec_picture_plan.specs.Steps.{behind_read, put_sps}
 use Rattle.picture_plan.proofs.state.State.plan_sps.Goals as goal
 

@@ -1,6 +1,6 @@
 use Rattle.std.proofs.Common.{◌≤◌, Ok, Err, ap, ◌∙◌, arith}
 use Rattle.picture_trees.specs.Reading.{between_of}
-use Rattle.cabac_contexts.specs.Takes.{state_of}
+use Rattle.unit_trees.specs.CabacContexts.{state_of}
 use Rattle.picture_trees.proofs.Keeping.{kept_behind, kept_between, next_unit}
 use Rattle.picture_trees.proofs.units.Reading.read_unit.Goals as goal
 

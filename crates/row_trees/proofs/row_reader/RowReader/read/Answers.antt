@@ -1,9 +1,9 @@
 use Rattle.std.proofs.Common.{◌+◌, ◌^◌, ◌<◌, ◌≤◌, Ok, Err, ap, sym, subst, ◌∙◌}
 use Rattle.plan_types.specs.declared.picture_plan.PicturePlan.{PicturePlan}
 use Rattle.spec_picture_trees.specs.Shapes.{picture_shape}
-use Rattle.unit_trees.specs.declared.edges.Edge.{Edge}
-use Rattle.unit_trees.specs.Edges.{right_of}
-use Rattle.unit_trees.specs.Units.{MayGoOn}
+use Rattle.unit_words.specs.UnitTrees.{Edge}
+use Rattle.unit_words.specs.UnitTrees.{right_of}
+use Rattle.unit_words.specs.UnitTrees.{MayGoOn}
 use Rattle.spec_picture_trees.specs.Picture.{SegmentAt}
 use Rattle.row_trees.specs.Reading.{StandsBefore}
 use Rattle.row_trees.proofs.Standing.{below_end, of_some, reads_current, stands_next}

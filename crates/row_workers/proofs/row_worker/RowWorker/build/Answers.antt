@@ -1,6 +1,6 @@
 use Rattle.std.proofs.Common.{ap, ◌∙◌, arith}
 use Rattle.header_types.specs.declared.sps.SpsFields.{SpsFields}
-use Rattle.picture_build.specs.Pictures.{buffer_of}
+use Rattle.filtered_rows.specs.PictureBuild.{buffer_of}
 use Rattle.spec_picture_build.specs.References.{pictures_of}
 use Rattle.progress_words.specs.Passes.{view}
 use Rattle.row_workers.proofs.Lines.{bases_are}

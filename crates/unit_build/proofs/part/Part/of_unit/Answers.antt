@@ -1,5 +1,5 @@
 use Rattle.std.proofs.Common.{◌*◌, ◌-◌, ◌^◌, ◌<◌, sym, subst}
-use Rattle.spec_slice_data.specs.Segment.{PictureShape}
+use Rattle.spec_picture_build.specs.SpecSliceData.{PictureShape}
 use Rattle.unit_build.proofs.Sizes.{room_is}
 use Rattle.unit_build.proofs.part.Part.of_unit.Goals as goal
 

@@ -1,6 +1,6 @@
 use Rattle.std.proofs.Common.{◌≡◌, [], refl, arith}
 use Rattle.spec_bits.specs.Bits.{bits}
-use Rattle.spec_cabac.specs.Engine.{Engine}
+use Rattle.coding_quadtree.specs.SpecCabac.{Engine}
 use Rattle.spec_picture_trees.specs.Picture.{before_picture}
 use Rattle.unit_trees.proofs.units.UnitReader.new.Goals as goal
 

@@ -1,5 +1,5 @@
 use Rattle.std.proofs.Common.{◌≤◌, Ok, Err, ◌∙◌, subst}
-use Rattle.cabac_contexts.specs.Takes.{state_of}
+use Rattle.coding_quadtree.specs.CabacContexts.{state_of}
 use Rattle.unit_trees.proofs.Beside.{IsAt, follows_over}
 use Rattle.unit_trees.proofs.Following.{follows_more}
 use Rattle.unit_trees.proofs.units.UnitReader.read_unit.Goals as goal

@@ -1,0 +1,2 @@
+pub mod SpecKnownUnits
+pub mod SpecPictureTrees

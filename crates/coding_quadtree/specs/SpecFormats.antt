@@ -1,0 +1,2 @@
+-- Names of spec_formats that crates above take from here.
+pub use Rattle.spec_cabac.specs.SpecFormats.{bind, give, wanted, when◌then◌else◌, ◌>>=◌}

@@ -1,0 +1,2 @@
+-- Names of spec_deblocking that crates above take from here.
+pub use Rattle.spec_loop_filters.specs.SpecDeblocking.{Place}

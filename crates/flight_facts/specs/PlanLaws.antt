@@ -1,0 +1,2 @@
+-- Names of plan_laws that crates above take from here.
+pub use Rattle.flight_unit_laws.specs.PlanLaws.{IsPlan}

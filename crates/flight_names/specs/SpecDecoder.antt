@@ -1,0 +1,2 @@
+-- Names of spec_decoder that crates above take from here.
+pub use Rattle.spec_flights.specs.SpecDecoderDecoder.{pictures_in}

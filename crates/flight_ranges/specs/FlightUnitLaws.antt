@@ -1,0 +1,3 @@
+-- Names of flight_unit_laws that crates above take from here.
+pub use Rattle.flight_facts.specs.FlightUnitLaws.{HaveSegments}
+pub use Rattle.flight_facts.specs.FlightUnitLawsPlanned.{IsPlanned}

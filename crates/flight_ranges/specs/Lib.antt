@@ -1,0 +1,5 @@
+pub mod Buffers
+pub mod Segments
+pub mod FlightUnitLaws
+pub mod FlightFacts
+pub mod PictureBuild

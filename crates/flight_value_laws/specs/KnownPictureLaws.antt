@@ -1,0 +1,3 @@
+-- Names of known_picture_laws that crates above take from here.
+pub use Rattle.known_picture_laws.specs.Decoded.{IsDecodedAsKnown, IsFirstBad}
+pub use Rattle.known_picture_laws.specs.Order.{IsInOrder}

@@ -1,0 +1,3 @@
+-- Names of spec_picture_filters that crates above take from here.
+pub use Rattle.spec_flights.specs.SpecPictureFilters.{FilterData, loop_filters}
+unfoldable pub use Rattle.spec_flights.specs.SpecPictureFilters.{filter_format}

@@ -1,0 +1,4 @@
+-- Names of unit_trees that crates above take from here.
+pub use Rattle.known_unit_laws.specs.UnitTrees.{Edge, bottom_of, place_of, right_of, then_next}
+unfoldable pub use Rattle.known_unit_laws.specs.UnitTrees.{unit_beside}
+unfoldable pub use Rattle.known_unit_laws.specs.UnitTrees.{unit_over}

@@ -1,0 +1,2 @@
+pub mod SpecParameterSets
+pub mod HeaderFields

@@ -1,0 +1,2 @@
+-- Names of picture_layout that crates above take from here.
+pub use Rattle.unit_trees.specs.PictureLayout.{CodingTreeUnit, IsShape}

@@ -1,0 +1,5 @@
+-- Names of cabac_contexts that crates above take from here.
+pub use Rattle.cabac_contexts.specs.Packing.{eight_from}
+unfoldable pub use Rattle.cabac_contexts.specs.Packing.{packed, unpacked}
+pub use Rattle.cabac_contexts.specs.Takes.{Reaches, Takes, state_of}
+pub use Rattle.cabac_contexts.specs.declared.bin_reader.BinReader.{BinReader}

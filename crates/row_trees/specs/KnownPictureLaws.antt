@@ -1,0 +1,2 @@
+-- Names of known_picture_laws that crates above take from here.
+pub use Rattle.flight_value_laws.specs.KnownPictureLaws.{IsDecodedAsKnown, IsFirstBad}

@@ -1,0 +1,2 @@
+-- Names of flight_unit_laws that crates above take from here.
+pub use Rattle.flight_waits.specs.FlightUnitLaws.{HasHalves, IsPlanned}

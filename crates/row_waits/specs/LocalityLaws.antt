@@ -1,0 +1,2 @@
+-- Names of locality_laws that crates above take from here.
+pub use Rattle.row_trees.specs.LocalityLaws.{IsHalved}

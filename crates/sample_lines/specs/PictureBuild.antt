@@ -1,0 +1,4 @@
+-- Names of picture_build that crates above take from here.
+pub use Rattle.flight_facts.specs.PictureBuild.{of_slice}
+pub use Rattle.flight_facts.specs.PictureBuildFormats.{HasDepths, IsCommon}
+pub use Rattle.flight_facts.specs.PictureBuildPictures.{buffer_of, decoded_of}

@@ -1,0 +1,3 @@
+-- Names of header_fields that crates above take from here.
+pub use Rattle.header_fields.specs.Takes.{Takes}
+pub use Rattle.header_fields.specs.declared.field_reader.FieldReader.{FieldReader}

@@ -1,0 +1,6 @@
+-- Names of ctu_records that crates above take from here.
+pub use Rattle.ctu_records.specs.Tree.{Ctu}
+pub use Rattle.ctu_records.specs.declared.item.Item.{Item}
+pub use Rattle.ctu_records.specs.declared.offset.ComponentOffset.{ComponentOffset}
+pub use Rattle.ctu_records.specs.declared.offset.ComponentOffset.TheVariants.{Off}
+pub use Rattle.ctu_records.specs.declared.offset.Sao.{Sao}

@@ -1,0 +1,2 @@
+-- Names of spec_loop_filters that crates above take from here.
+pub use Rattle.spec_picture_filters.proofs.SpecLoopFiltersLemmas.{deblocked_small, final_small}

@@ -1,0 +1,3 @@
+pub mod FilterLocalityLawsLemmas
+pub mod CabacContextsLemmas
+pub mod SpecDecodedPicturesLemmas

@@ -1,0 +1,3 @@
+-- Names of picture_buffer that crates above take from here.
+pub use Rattle.picture_buffer.specs.declared.place_motion.PlaceMotion.{PlaceMotion}
+pub use Rattle.picture_buffer.specs.declared.place_motion.PlaceVector.{PlaceVector}

@@ -1,0 +1,2 @@
+-- Names of spec_parameter_sets that crates above take from here.
+unfoldable pub use Rattle.spec_slice_headers.specs.SpecParameterSets.{picture_scaling_lists}

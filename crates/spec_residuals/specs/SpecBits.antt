@@ -1,0 +1,2 @@
+-- Names of spec_bits that crates above take from here.
+unfoldable pub use Rattle.spec_cabac.specs.SpecBits.{bits}

@@ -1,0 +1,2 @@
+-- Names of block_geometry that crates above take from here.
+pub use Rattle.block_geometry.specs.CodingTreeBlocks.{is_from}

@@ -1,0 +1,3 @@
+-- Names of ctu_records that crates above take from here.
+pub use Rattle.ctu_records.specs.Tree.{Ctu}
+pub use Rattle.ctu_records.specs.declared.prediction.Rectangle.{Rectangle}

@@ -1,0 +1,2 @@
+-- Names of spec_nal_units that crates above take from here.
+pub use Rattle.spec_nal_units.specs.Judged.{NalUnit, Told, told_of}

@@ -1,0 +1,2 @@
+-- Names of spec_reference_pictures that crates above take from here.
+pub use Rattle.spec_parameter_sets.specs.SpecReferencePictures.{is_idr, no_reference}

@@ -1,0 +1,2 @@
+-- Names of block_geometry that crates above take from here.
+pub use Rattle.spec_slice_data.specs.BlockGeometry.{ctb_scan, is_decoded_before}

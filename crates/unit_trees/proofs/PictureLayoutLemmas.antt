@@ -1,0 +1,2 @@
+-- Names of picture_layout that crates above take from here.
+pub use Rattle.picture_layout.proofs.Places.{block_begins, whole}
