@@ -6,3 +6,4 @@ pub mod Places
 pub mod Resumed
 pub mod Standing
 pub mod PictureFiltersLemmas
+pub mod WordBytes

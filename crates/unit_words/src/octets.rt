@@ -4,6 +4,8 @@ ghost use Rattle.std.specs.Prelude.{◌≡◌, ℕ, ◌+◌, ◌-◌, ◌*◌, �
 ghost use Rattle.std.specs.Prelude.{slice_index, if◌then◌else◌};
 ghost use Rattle.sample_words.specs.Packing.{lane, lanes};
 
+use std::simd::prelude::*;
+
 /// The words of a line.
 pub(crate) fn pack_octets(samples: &[u16], words: &mut [u64])
     requires { (i : ℕ) → slice_index samples.now i < 256 }
@@ -22,28 +24,22 @@ pub(crate) fn pack_octets(samples: &[u16], words: &mut [u64])
 
 /// Eight samples from one on.
 #[inline(always)]
-#[tactic(auto, unfolding(sample_words::specs::Packing::lanes))]
 fn eight(samples: &[u16], first: usize) -> u64
     requires depth { (i : ℕ) → slice_index samples.now i < 256 }
     requires enough { first + 8 ≤ length samples.now }
     ensures { result ≡ lanes 8 8 (λ j. slice_index samples.now (first + j)) }
 {
-    four(samples, first) + 4_294_967_296 * four(samples, first + 4)
+    u64::from_le_bytes(bytes_of(u16x8::from_slice(&samples[first..])))
 }
 
-/// Four samples from one on.
+/// Eight samples as bytes.
 #[inline(always)]
-fn four(samples: &[u16], first: usize) -> u64
-    requires depth { (i : ℕ) → slice_index samples.now i < 256 }
-    requires enough { first + 4 ≤ length samples.now }
-    ensures value { result ≡ slice_index samples.now first + 256 * slice_index samples.now (first + 1)
-        + 65536 * slice_index samples.now (first + 2) + 16777216 * slice_index samples.now (first + 3) }
-    ensures small { result < 4294967296 }
+fn bytes_of(samples: u16x8) -> [u8; 8]
+    requires long { length samples ≡ 8 }
+    requires depth { (i : ℕ) → i < 8 → slice_index samples i < 256 }
+    ensures { (i : ℕ) → i < 8 → slice_index result i ≡ slice_index samples i }
 {
-    u64::from(samples[first])
-        + 256 * u64::from(samples[first + 1])
-        + 65_536 * u64::from(samples[first + 2])
-        + 16_777_216 * u64::from(samples[first + 3])
+    samples.cast::<u8>().to_array()
 }
 
 /// Eight samples from one on, zeros behind the last.
@@ -107,9 +103,16 @@ fn lay_eight(word: u64, samples: &mut [u16], first: usize)
     ensures value { (i : ℕ) → slice_index samples.new i
         ≡ (if nat_le first i && nat_lt i (first + 8) then lane 8 word (i - first) else slice_index samples.old i) }
 {
-    for j in 0..8 {
-        samples[first + j] = octet(word, j);
-    }
+    samples_of(word).copy_to_slice(&mut samples[first..]);
+}
+
+/// The eight samples of a word.
+#[inline(always)]
+fn samples_of(word: u64) -> u16x8
+    ensures long { length result ≡ 8 }
+    ensures value { (j : ℕ) → j < 8 → slice_index result j ≡ lane 8 word j }
+{
+    u8x8::from_array(word.to_le_bytes()).cast::<u16>()
 }
 
 /// Sample `j` of a word.
