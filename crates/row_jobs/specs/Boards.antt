@@ -1,5 +1,6 @@
 -- A flight that is worked off on a board.
-use Rattle.std.specs.Prelude.{◌≡◌, ℕ, Bool, true, List, Option, length, Some, slice_get}
+use Rattle.std.specs.Prelude.{◌≡◌, ◌≤◌, ℕ, Bool, true, List, Option, length, Some, slice_get}
+use Rattle.std.specs.List.{list_any}
 use Rattle.hv_base.specs.declared.refusal.Stop.{Stop}
 use Rattle.plan_types.specs.declared.picture_plan.PicturePlan.{PicturePlan}
 use Rattle.picture_buffer.specs.Pictures.{HeldPicture}
@@ -10,8 +11,12 @@ use Rattle.progress_words.specs.Passes.{IsPassOf, view}
 use Rattle.progress_words.specs.Places.{Place}
 use Rattle.progress_words.specs.Views.{HasEnded, opener}
 use Rattle.row_workers.specs.SpecFlights.{PlannedFlight}
+use Rattle.flight_ranges.specs.FlightUnitLaws.{IsPlanned}
+use Rattle.flight_ranges.specs.FlightValueLaws.{IsInRange}
+use Rattle.flight_ranges.specs.PictureBuild.{buffer_of}
 use Rattle.flight_ranges.specs.FlightFacts.{FlightFacts}
 use Rattle.flight_ranges.specs.FlightFacts.{flight_meaning}
+use Rattle.flight_ranges.specs.FlightFacts.{flight_of}
 use Rattle.flight_ranges.specs.FlightFacts.{flight_in}
 use Rattle.flight_ranges.specs.FlightFacts.{IsOfFlight}
 use Rattle.flight_ranges.specs.FlightFacts.{HoldsPictures}
@@ -26,6 +31,15 @@ use Rattle.taken_flights.specs.Taken.{AreDecoded, AreSized, Part}
 -- whether a picture has a substream for each row of coding tree blocks (7.4.3.3.1, entropy_coding_sync_enabled_flag)
 abbrev pub has_row_substreams : PicturePlan → Bool
 has_row_substreams p = p.pps.prediction.entropy_coding_sync_enabled_flag
+
+-- the flight of these pictures behind these bases goes on a board, with so many workers: there are several, rows of
+-- some picture can be read side by side, and the flight is planned and in range, as each flight of a stream is
+pub record GoesOnBoard (plans : List PicturePlan) (bases : List HeldPicture) (workers : ℕ) : Type 0 where
+  pub several : 2 ≤ workers
+  pub rows : list_any has_row_substreams plans ≡ true
+  pub few_bases : length bases ≤ 65536
+  pub planned : IsPlanned (flight_of plans (buffer_of bases))
+  pub ranged : IsInRange (flight_of plans (buffer_of bases))
 
 -- a worker of a flight that may begin, whatever is counted
 abbrev pub MayBegin : FlightViews → RowWorker → Type 0

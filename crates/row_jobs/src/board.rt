@@ -1,6 +1,6 @@
 //! Decodes a flight on a board, by several workers.
 
-ghost use Rattle.std.specs.Prelude.{◌≡◌, ◌+◌, ◌≤◌, All, IfOk, IfSome, length};
+ghost use Rattle.std.specs.Prelude.{◌≡◌, ◌+◌, ◌≤◌, All, IfOk, IfSome, None, length};
 ghost use Rattle.std.specs.List.{list_any};
 ghost use Rattle.flight_ranges.specs.PictureBuild.{buffer_of};
 ghost use Rattle.flight_ranges.specs.FlightFacts.{FlightFacts};
@@ -11,7 +11,8 @@ ghost use Rattle.flight_results.specs.Flights.{DecodesFlight};
 ghost use Rattle.row_workers.specs.FlightViews.{IsLaidFor, StandsFor};
 ghost use Rattle.row_workers.specs.FlightViews.{IsShared, IsViewOf};
 ghost use Rattle.taken_flights.specs.Taken.{AreParts, AreTaken};
-ghost use Rattle.row_jobs.specs.Boards.{IsFaultWord, IsOpener, IsWorkedOff, MayBegin, MayClose, has_row_substreams};
+ghost use Rattle.row_jobs.specs.Boards.{GoesOnBoard, IsFaultWord, IsOpener, IsWorkedOff, MayBegin, MayClose};
+ghost use Rattle.row_jobs.specs.Boards.{has_row_substreams};
 
 use crate::parts::{parts_of, pictures_of};
 use crate::result::FlightResult;
@@ -41,6 +42,7 @@ pub(crate) fn board_layout(plans: &[PicturePlan], bases: &Bases, workers: u32) -
     ensures flight { IfSome result (λ layout. (facts : FlightFacts) → StandsFor facts plans.now bases.now
         → IsOfFlight facts layout) }
     ensures workers { IfSome result (λ layout. 2 ≤ workers) }
+    ensures none { result ≡ None → GoesOnBoard plans.now bases.now workers → ⊥ }
 {
     if workers < 2 || !have_row_substreams(plans) {
         return None;
