@@ -4,6 +4,7 @@
 
 mod asked;
 mod byte_text;
+mod drawn_output;
 mod ends;
 mod made_stream;
 mod outcome_text;

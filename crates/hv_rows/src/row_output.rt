@@ -1,6 +1,7 @@
 //! What a row says of the bytes of the output.
 
 use crate::byte_text::{bytes_of, number_of};
+use crate::drawn_output::drawn_output;
 use crate::ends::is_front;
 use crate::made_stream::made_stream;
 use crate::row_error::RowError;
@@ -18,7 +19,8 @@ pub(crate) enum RowOutput {
 }
 
 impl RowOutput {
-    /// The output of a column: `-` for none, `grey N`, `md5 DIGITS`, `lines A, B`, a stream of a seed, or its bytes.
+    /// The output of a column: `-` for none, `grey N`, `md5 DIGITS`, `lines A, B`, a stream or pictures of a
+    /// seed, or its bytes.
     pub(crate) fn read(alloc: Global, text: &str) -> Result<RowOutput, RowError> {
         match text.split_once(' ') {
             Some((kind, rest)) => output_of_kind(alloc, kind, rest),
@@ -58,6 +60,7 @@ fn output_of_kind(alloc: Global, kind: &str, rest: &str) -> Result<RowOutput, Ro
         "md5" => Ok(RowOutput::Md5(String::from_str(alloc, rest)?)),
         "lines" => Ok(RowOutput::Bytes(bytes_of_lines(alloc, rest)?)),
         "made" => Ok(RowOutput::Bytes(made_stream(alloc, rest)?)),
+        "drawn" => Ok(RowOutput::Bytes(drawn_output(alloc, rest)?)),
         _ => Err(RowError::Unreadable),
     }
 }

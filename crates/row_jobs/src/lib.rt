@@ -9,8 +9,6 @@ mod parts;
 mod picture;
 mod result;
 mod spares;
-#[cfg(test)]
-mod tests;
 
 pub use flight::run_flight;
 pub use result::FlightResult;

@@ -9,6 +9,3 @@ mod stream;
 
 pub use output::{make, make_bent, make_flat};
 pub use spec_made::{Bend, BendKind};
-
-#[cfg(test)]
-mod tests;

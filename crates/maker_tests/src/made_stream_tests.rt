@@ -1,10 +1,10 @@
 //! Made streams, whose hashes are those of another program's, or of streams that another decoder decodes or refuses.
 
-use super::{Bend, BendKind, make, make_bent, make_flat};
 use hv_base::Outcome;
 use hv_io::MemSink;
 use md5::{Digest, Md5};
 use std::alloc::Global;
+use stream_maker::{Bend, BendKind, make, make_bent, make_flat};
 
 /// The hash of the stream of seed 1 with 8 pictures.
 const OF_EIGHT: [u8; 16] = [

@@ -1,0 +1,5 @@
+//! Streams that are made of a seed, by their hashes. The crate has tests alone.
+#![tactic(auto)]
+
+#[cfg(test)]
+mod made_stream_tests;
