@@ -30,9 +30,56 @@ pub fn column_halves<const SIZE: usize, const HALF: usize>(
         (λ k. matrix_in matrix.now.entries.now matrix.now.stride k j *ℤ at values.now (SIZE * k + column)) }
     ensures small { (j : ℕ) → j < SIZE → IsSum (at result j) }
 {
-    let even = half_sums::<SIZE, HALF>(values, matrix, 0, count.div_ceil(2), column);
-    let odd = half_sums::<SIZE, HALF>(values, matrix, 1, count / 2, column);
+    let even = even::<SIZE, HALF>(values, matrix, count.div_ceil(2), column);
+    let odd = odd::<SIZE, HALF>(values, matrix, count / 2, column);
     unfolded::<SIZE, HALF>(&even, &odd)
+}
+
+/// What the even rows of a matrix add to the transform of a column (8.6.4.2), the first `count` of them, along half of
+/// the places. From both ends it is the same.
+#[inline(always)]
+pub fn even<const SIZE: usize, const HALF: usize>(
+    values: &[i32],
+    matrix: &Matrix<'_>,
+    count: usize,
+    column: usize,
+) -> [i32; HALF]
+    requires half { 2 * HALF ≡ SIZE }
+    requires same { matrix.now.size ≡ SIZE }
+    requires matrix { IsMatrix matrix.now.entries.now matrix.now.stride SIZE }
+    requires column { column < SIZE }
+    requires count { count ≤ HALF }
+    requires room { SIZE * SIZE ≤ length values.now }
+    requires values { All Is16 values.now }
+    ensures value { (j : ℕ) → j < HALF → at result j ≡ int_sum_below count
+        (λ k. matrix_in matrix.now.entries.now matrix.now.stride (2 * k) j
+        *ℤ at values.now (SIZE * (2 * k) + column)) }
+    ensures small { (j : ℕ) → j < HALF → IsHalfSum (at result j) }
+{
+    half_sums::<SIZE, HALF>(values, matrix, 0, count, column)
+}
+
+/// What its odd rows add. From both ends it is opposite.
+#[inline(always)]
+pub fn odd<const SIZE: usize, const HALF: usize>(
+    values: &[i32],
+    matrix: &Matrix<'_>,
+    count: usize,
+    column: usize,
+) -> [i32; HALF]
+    requires half { 2 * HALF ≡ SIZE }
+    requires same { matrix.now.size ≡ SIZE }
+    requires matrix { IsMatrix matrix.now.entries.now matrix.now.stride SIZE }
+    requires column { column < SIZE }
+    requires count { count ≤ HALF }
+    requires room { SIZE * SIZE ≤ length values.now }
+    requires values { All Is16 values.now }
+    ensures value { (j : ℕ) → j < HALF → at result j ≡ int_sum_below count
+        (λ k. matrix_in matrix.now.entries.now matrix.now.stride (2 * k + 1) j
+        *ℤ at values.now (SIZE * (2 * k + 1) + column)) }
+    ensures small { (j : ℕ) → j < HALF → IsHalfSum (at result j) }
+{
+    half_sums::<SIZE, HALF>(values, matrix, 1, count, column)
 }
 
 /// The sums of every other row of a matrix from `first` on, `count` rows in all, along the first half of the places.

@@ -9,6 +9,8 @@ mod scaling;
 mod skipping;
 mod stages;
 
+pub use halves::{even, odd};
+pub use matrix::{Matrix, matrix_of};
 pub use scaling::scale;
 pub use skipping::skip;
 pub use stages::inverse;

@@ -1,4 +1,5 @@
 use Rattle.std.proofs.Common.{◌≡◌, ◌+◌, ◌/◌, arith}
+use native.Mathlib.Numerals.{unary_clauses}
 use Rattle.residual_transform.proofs.Bounds.{column_within, is_sum}
 use Rattle.residual_transform.proofs.Parity.{from_both_ends}
 use Rattle.residual_transform.proofs.halves.column_halves.Goals as goal
@@ -6,11 +7,11 @@ use Rattle.residual_transform.proofs.halves.column_halves.Goals as goal
 pub returns-clause-value : goal.returns-clause-value
 returns-clause-value g c j inside =
     let evens : c.div_ceil.result ≡ (c.args.count + 1) / 2 = omega (arith, c.div_ceil.ensures) in
-    from_both_ends c.unfolded.result c.half_sums-even.result c.half_sums-odd.result
+    from_both_ends c.unfolded.result c.even-even.result c.odd-odd.result
     c.args.matrix.now.entries.now c.args.values.now c.args.matrix.now.stride g.row.SIZE g.row.HALF c.args.column
     c.args.count c.div_ceil.result j
     c.requires.matrix c.requires.large c.requires.half c.requires.count evens
-    c.half_sums-even.ensures.value c.half_sums-odd.ensures.value
+    (simp unary_clauses c.even-even.ensures.value) c.odd-odd.ensures.value
     c.unfolded.ensures.front c.unfolded.ensures.back inside
 
 pub returns-clause-small : goal.returns-clause-small
