@@ -493,6 +493,12 @@ module _ {X : Type 0} (bytes : X → Option (List ℕ)) (faults : X → ℕ) whe
         (sym (drop-next pictures i x x lt is))
         (q (decoded_from hash end (drop (i + 1) pictures ++ later))))
 
+    -- want of memory before a picture is decoded
+    pub picture-unwritten : (a : X) (x : PicturePlan) (old : HeldBuffer) (next : List BufferPicture → Decoded)
+        → IsAnswered (owed_from form old.number (with_picture hash x next (buffer_of old))) (by a a) outcome.Memory
+    picture-unwritten a x old = λ next.
+        no_memory a (owed_from form old.number (with_picture hash x next (buffer_of old)))
+
     -- want of memory before any is written
     pub ends-unwritten : (a : X) (pictures : List PicturePlan) (old : HeldBuffer)
         → Ends form hash (by a a) pictures old outcome.Memory

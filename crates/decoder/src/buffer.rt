@@ -20,7 +20,7 @@ use hv_io::{Gate, Sink};
 use picture_buffer::{Bases, Picture, SharedPicture};
 use picture_plan::Flight;
 use plan_types::PicturePlan;
-use row_jobs::{FlightResult, Spares, run_flight};
+use row_jobs::{FlightResult, Spares, run_flight, run_picture};
 use spec_decoder::Form;
 use std::alloc::{AllocError, Global};
 use std::marker::Model;
@@ -88,6 +88,15 @@ impl Buffer {
             gate,
             &mut self.spares,
         )
+    }
+
+    /// Decodes a picture by those that are there.
+    pub(crate) fn run_picture(&mut self, picture: &PicturePlan) -> Result<FlightResult, AllocError>
+        ensures decoded { IfOk result
+            (λ r. Decodes (pictures_in (buffer_of self.old)) (picture.now ∷ []) r.pictures r.fault) }
+        ensures same { self.new ≡ self.old }
+    {
+        run_picture(self.alloc, picture, &self.pictures, &mut self.spares)
     }
 
     /// The next picture of a flight that was decoded stands behind the last. Its planes are compared with their stated

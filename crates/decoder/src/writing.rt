@@ -16,7 +16,7 @@ use hv_base::{Outcome, Stop};
 use hv_io::{Gate, Sink};
 use picture_plan::{Flight, Flights, Planned};
 use plan_types::PicturePlan;
-use row_jobs::FlightResult;
+use row_jobs::{FlightResult, have_row_substreams};
 use spec_decoder::Form;
 use std::sync::Wait;
 use std::thread::Threads;
@@ -94,8 +94,7 @@ pub(crate) fn decode_flights<R: Threads + Wait + Sync, O: Sink, G: Gate + Sync>(
     Ok(())
 }
 
-/// Decodes the pictures of a flight, and then writes what goes out, up to the first in which something is broken or
-/// met.
+/// Decodes the pictures of a flight, and writes what goes out, up to the first in which something is broken or met.
 fn decode_pictures<R: Threads + Wait + Sync, O: Sink, G: Gate + Sync>(
     rt: &R,
     options: Options,
@@ -107,10 +106,47 @@ fn decode_pictures<R: Threads + Wait + Sync, O: Sink, G: Gate + Sync>(
     ensures { WritesFirst options.form options.hash (change_of O.contents O.faults out.old out.new) pictures.now
         buffer.old buffer.new result }
 {
+    let plans = pictures.as_slice();
+    if options.workers < 2 || !have_row_substreams(plans) {
+        return decode_singly(options, plans, buffer, out);
+    }
     let Ok(mut flight) = buffer.run_flight(rt, options.workers, pictures, gate) else {
         return Err(Outcome::Memory);
     };
-    take_pictures(options, pictures.as_slice(), &mut flight, buffer, out)
+    take_pictures(options, plans, &mut flight, buffer, out)
+}
+
+/// Decodes pictures one after the other, where several workers can't share their rows. What goes out with each is
+/// written before the next is decoded, so that no more pictures are held than stand in the buffer.
+fn decode_singly<O: Sink>(
+    options: Options,
+    pictures: &[PicturePlan],
+    buffer: &mut Buffer,
+    out: &mut O,
+) -> Result<(), Outcome>
+    ensures { WritesFirst options.form options.hash (change_of O.contents O.faults out.old out.new) pictures.now
+        buffer.old buffer.new result }
+{
+    for picture in pictures {
+        decode_picture(options, picture, buffer, out)?;
+    }
+    Ok(())
+}
+
+/// Decodes the next picture, and writes what goes out before it and behind it.
+fn decode_picture<O: Sink>(
+    options: Options,
+    picture: &PicturePlan,
+    buffer: &mut Buffer,
+    out: &mut O,
+) -> Result<(), Outcome>
+    ensures { TakesPicture options.form options.hash (change_of O.contents O.faults out.old out.new) picture.now
+        buffer.old buffer.new result }
+{
+    let Ok(mut flight) = buffer.run_picture(picture) else {
+        return Err(Outcome::Memory);
+    };
+    take_picture(options, picture, &mut flight, buffer, out)
 }
 
 /// Takes the pictures of a flight that was decoded, and writes what goes out, up to the first in which something is

@@ -57,7 +57,7 @@ pub(crate) fn board_layout(plans: &[PicturePlan], bases: &Bases, workers: u32) -
 
 /// Whether some picture has a substream for each row of coding tree blocks (9.3.1). Rows of a picture without them are
 /// read one after the other.
-fn have_row_substreams(plans: &[PicturePlan]) -> bool
+pub fn have_row_substreams(plans: &[PicturePlan]) -> bool
     ensures { result ≡ list_any has_row_substreams plans.now }
 {
     plans.iter().any(has_row_substreams)

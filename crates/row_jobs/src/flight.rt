@@ -1,6 +1,6 @@
 //! Decodes a flight.
 
-ghost use Rattle.std.specs.Prelude.{◌≡◌, ℕ, Option, IfOk};
+ghost use Rattle.std.specs.Prelude.{◌≡◌, ◌∷◌, [], ℕ, Option, IfOk};
 ghost use Rattle.board_core.specs.Runs.{IsLeastBad};
 ghost use Rattle.flight_ranges.specs.FlightUnitLaws.{HaveSegments};
 ghost use Rattle.flight_ranges.specs.PictureBuild.{buffer_of};
@@ -53,7 +53,28 @@ pub fn run_flight<R: Threads + Wait + Sync, G: Gate + Sync>(
     decode_flight(rt, alloc, flight, bases, workers, gate, spares)
 }
 
-/// The same on a board, where it may lie on one, else its pictures one after the other.
+/// Decodes a picture by those of the decoded picture buffer before it, as a flight of it alone (`decoded`). It is kept
+/// in spare memory where there is some of its size. `AllocError` is want of memory.
+pub fn run_picture(
+    alloc: Global,
+    picture: &PicturePlan,
+    bases: &Bases,
+    spares: &mut Spares,
+) -> Result<FlightResult, AllocError>
+    ensures decoded { IfOk result (λ r. Decodes (buffer_of bases.now) (picture.now ∷ []) r.pictures r.fault) }
+{
+    let mut pictures = Bases::new(alloc);
+    match decode_picture(alloc, picture, bases, spares) {
+        Ok(decoded) => {
+            pictures.push(decoded)?;
+            let fault = None;
+            Ok(FlightResult { pictures, fault })
+        }
+        Err(error) => stopped(pictures, error),
+    }
+}
+
+/// The pictures of a flight on a board, where it may lie on one, else one after the other.
 fn decode_flight<R: Threads + Wait + Sync, G: Gate + Sync>(
     rt: &R,
     alloc: Global,

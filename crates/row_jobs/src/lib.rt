@@ -10,6 +10,7 @@ mod picture;
 mod result;
 mod spares;
 
-pub use flight::run_flight;
+pub use board::have_row_substreams;
+pub use flight::{run_flight, run_picture};
 pub use result::FlightResult;
 pub use spares::Spares;
