@@ -2,7 +2,11 @@
 use Rattle.std.proofs.Common.{◌≡◌, ℕ, Bool, true, false, ◌+◌, ◌-◌, ◌*◌, ◌%◌, ◌<◌, ◌≤◌, List, length, slice_set, ℤ}
 use Rattle.std.proofs.Common.{pos}
 use Rattle.std.proofs.Common.{slice_index_or, cond, nat_le, nat_lt, ◌&&◌, refl, ap, ◌∙◌, arith}
+use Rattle.std.proofs.Common.{sym, ◌⊎◌, inl, inr}
 use Rattle.std.specs.Prelude.{◌==◌}
+use lib.Lanes.{put_chunk}
+use Rattle.std.proofs.lemmas.Bool.{cases_lt}
+use Rattle.std.proofs.lemmas.Simd.{get_or-put_chunk_below, get_or-put_chunk_at, get_or-put_chunk_above}
 use Rattle.std.proofs.lemmas.Grind.{common_steps}
 use Rattle.std.proofs.lemmas.Bool.Decides.{nat_tests}
 use Rattle.std.proofs.Math.Nat.{mul-le-mul_left}
@@ -18,6 +22,40 @@ pub one_more : (first k v : ℕ) (start before : List ℕ) (s : ℕ → ℕ) →
 one_more first k v start before s room is told q =
     let t = told q in
     grind (arith, common_steps, nat_tests)
+
+-- eight more samples of a run, of which the first may be there already
+pub eight_more : (first k j : ℕ) (now before start : List ℕ) (s : ℕ → ℕ) → j ≤ k → k ≤ j + 8 →
+    ((q : ℕ) → at before q ≡ cond (nat_le first q && nat_lt q (first + k)) (s (q - first)) (at start q)) →
+    ((q : ℕ) → at now q ≡ cond (nat_le (first + j) q && nat_lt q (first + j + 8)) (s (q - first)) (at before q)) →
+    (q : ℕ) → at now q ≡ cond (nat_le first q && nat_lt q (first + (j + 8))) (s (q - first)) (at start q)
+eight_more first k j now before start s low high told wrote q =
+    let t = told q in
+    let w = wrote q in
+    grind (arith, nat_tests)
+
+-- eight numbers laid into a list, from a place on
+laid_there : (from first : ℕ) (xs v : List ℕ) (s : ℕ → ℕ) (q : ℕ) → first ≤ from → from + 8 ≤ length xs → length v ≡ 8
+    → ((i : ℕ) → i < 8 → at v i ≡ s (from + i - first)) → (q < from) ⊎ (from ≤ q) → (q < from + 8) ⊎ (from + 8 ≤ q)
+    → at (put_chunk from xs v) q ≡ cond (nat_le from q && nat_lt q (from + 8)) (s (q - first)) (at xs q)
+laid_there from first xs v s q le room long is (inl low) _ =
+    let e = get_or-put_chunk_below from xs v q 0 low in
+    grind (arith, nat_tests, e, low)
+laid_there from first xs v s q le room long is (inr high) (inl low) =
+    let back : from + (q - from) ≡ q = omega arith in
+    let e : at (put_chunk from xs v) q ≡ s (q - first) = ap (λ (n : ℕ). at (put_chunk from xs v) n) (sym back)
+    ∙ get_or-put_chunk_at from xs v (q - from) 0 (omega (arith, long)) (omega (arith, long))
+    ∙ is (q - from) (omega arith)
+    ∙ ap (λ (n : ℕ). s (n - first)) back in
+    grind (arith, nat_tests, e, high, low)
+laid_there from first xs v s q le room long is (inr high) (inr past) =
+    let e = get_or-put_chunk_above from xs v q 0 (omega (arith, long)) in
+    grind (arith, nat_tests, e, past)
+
+pub eight_laid : (from first : ℕ) (xs v : List ℕ) (s : ℕ → ℕ) → first ≤ from → from + 8 ≤ length xs → length v ≡ 8
+    → ((i : ℕ) → i < 8 → at v i ≡ s (from + i - first)) → (q : ℕ)
+    → at (put_chunk from xs v) q ≡ cond (nat_le from q && nat_lt q (from + 8)) (s (q - first)) (at xs q)
+eight_laid from first xs v s le room long is q =
+    laid_there from first xs v s q le room long is (cases_lt q from) (cases_lt q (from + 8))
 
 pub cond_same : (b c : Bool) (v w o : ℕ) → b ≡ c → (b ≡ true → v ≡ w) → cond b v o ≡ cond c w o
 cond_same true true v w o e h = h refl

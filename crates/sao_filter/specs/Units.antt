@@ -2,7 +2,7 @@
 use Rattle.std.specs.Prelude.{◌≡◌, ◌<◌, ◌≤◌, ℕ, ◌+◌, ◌-◌, ◌*◌, ◌==◌, nat_lt, min, Bool, true, ◌&&◌, List, ℤ, pos}
 use Rattle.std.specs.Prelude.{slice_index_or, if◌then◌else◌}
 use Rattle.spec_sample_adaptive_offset.specs.Plane.{OffsetPlane, may_read, meets}
-use Rattle.spec_sample_adaptive_offset.specs.Offsets.{offset_value, band_index, edge_idx}
+use Rattle.spec_sample_adaptive_offset.specs.Offsets.{offset_value, band_index, edge_idx, moved}
 use Rattle.sao_filter.specs.declared.row.OffsetRow.{OffsetRow}
 use Rattle.sao_filter.specs.declared.block.CodingTreeBlock.{CodingTreeBlock}
 use Rattle.sao_filter.specs.Row.{top, lines_of, plane_of}
@@ -38,6 +38,10 @@ ReadsLine row block across down line =
     → (may_read (plane_of row) i (top row + line) across down
     && may_read (plane_of row) i (top row + line) (2 - across) (2 - down)) ≡ true
 
+-- a sample with what is added to it, which is told on 32768, held to 16 bits and to the greatest sample
+abbrev pub on_base : ℕ → ℕ → ℕ → ℕ
+on_base sample change greatest = min (min (sample + (change - 32768)) 65535 - (32768 - change)) greatest
+
 abbrev pub IsBandTable : ℕ → ℕ → List ℤ → List ℤ → Type 0
 IsBandTable depth position offsets table =
     (k : ℕ) → k < 32 → slice_index_or table k (pos 0) ≡ offset_value depth offsets (band_index position k)
@@ -45,3 +49,9 @@ IsBandTable depth position offsets table =
 abbrev pub IsEdgeTable : ℕ → List ℤ → List ℤ → Type 0
 IsEdgeTable depth offsets table =
     (k : ℕ) → k < 5 → slice_index_or table k (pos 0) ≡ offset_value depth offsets (edge_idx k)
+
+-- a table tells what is added to samples by the signs of their differences, on 32768
+abbrev pub AreMoves : ℕ → List ℤ → List ℕ → ℕ → Type 0
+AreMoves depth offsets table greatest =
+    (s p : ℕ) → s < 65536 → p < 5
+    → on_base s (slice_index_or table p 0) greatest ≡ moved depth s (offset_value depth offsets (edge_idx p))

@@ -1,10 +1,10 @@
 //! What is added to a sample.
 
 ghost use Rattle.std.specs.Prelude.{◌≡◌, ◌≤◌, ◌<◌, ◌+◌, ◌-◌, ◌*◌, ◌/◌, ◌%◌, ◌^◌, ℕ, List, ℤ, pos, negsuc, ◌≤ℤ◌, ◌*ℤ◌};
-ghost use Rattle.std.specs.Prelude.{min, slice_index_or};
+ghost use Rattle.std.specs.Prelude.{min, slice_index_or, ◌+ℤ◌};
 ghost use Rattle.spec_sample_adaptive_offset.specs.Offsets.{band_index, band_moved, compared, edge_idx, edge_moved};
 ghost use Rattle.spec_sample_adaptive_offset.specs.Offsets.{moved, offset_value};
-ghost use Rattle.sao_filter.specs.Units.{IsBandTable, IsEdgeTable};
+ghost use Rattle.sao_filter.specs.Units.{AreMoves, IsBandTable, IsEdgeTable};
 
 /// An offset for so many bits: offsets are coded for up to 10.
 fn scaled(offset: i8, depth: u32) -> i16
@@ -163,4 +163,50 @@ fn chosen(table: &[i16; 5], signs: u16) -> i16
         change = table[0];
     }
     change
+}
+
+/// How samples are moved by the signs of their differences.
+#[derive(Clone, Copy)]
+pub struct EdgeMoves {
+    /// What is added by 2 and the sum of both signs, on 32768.
+    pub table: [u16; 5],
+    /// The greatest sample.
+    pub greatest: u16,
+}
+
+/// The same, by a table of what is added and the bit depth.
+#[inline(always)]
+pub fn edge_moves(table: &[i16; 5], depth: u32) -> EdgeMoves
+    requires depth { (8 ≤ depth) × (depth ≤ 14) }
+    ensures { (offsets : List ℤ) → IsEdgeTable depth offsets table.now
+        → AreMoves depth offsets result.table result.greatest }
+{
+    EdgeMoves {
+        table: [
+            raised(table, 0),
+            raised(table, 1),
+            raised(table, 2),
+            raised(table, 3),
+            raised(table, 4),
+        ],
+        greatest: greatest_lane(depth),
+    }
+}
+
+/// An entry of the table, on 32768.
+#[inline(always)]
+fn raised(table: &[i16; 5], signs: usize) -> u16
+    requires { signs < 5 }
+    ensures { pos result ≡ pos 32768 +ℤ slice_index_or table.now signs (pos 0) }
+{
+    (i32::from(table[signs]) + 32768) as u16
+}
+
+/// The greatest sample, as samples are held.
+#[inline(always)]
+fn greatest_lane(depth: u32) -> u16
+    requires depth { (8 ≤ depth) × (depth ≤ 14) }
+    ensures { result ≡ 2 ^ depth - 1 }
+{
+    greatest_sample(depth) as u16
 }

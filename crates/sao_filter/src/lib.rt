@@ -6,6 +6,7 @@ mod block;
 mod changes;
 mod edge;
 mod filtering;
+mod lanes;
 mod row;
 mod runs;
 mod units;

@@ -3,9 +3,11 @@
 ghost use Rattle.std.specs.Prelude.{◌≡◌, ◌≤◌, ◌<◌, ◌+◌, ◌-◌, ℕ, ℤ, List, length, cond, nat_le, nat_lt, ◌&&◌};
 ghost use Rattle.spec_sample_adaptive_offset.specs.Offsets.{band_moved, edge_moved};
 ghost use Rattle.sao_filter.specs.Row.{at};
-ghost use Rattle.sao_filter.specs.Units.{IsBandTable, IsEdgeTable};
+ghost use Rattle.sao_filter.specs.Units.{AreMoves, IsBandTable, IsEdgeTable};
 
-use crate::changes::{band_moved, edge_moved};
+use crate::changes::{EdgeMoves, band_moved, edge_moved, edge_moves};
+use crate::lanes::eight_moved;
+use std::simd::prelude::*;
 
 /// Where a run of samples is read from and written to.
 #[derive(Clone, Copy)]
@@ -79,14 +81,71 @@ pub fn edge_run(
         (at lines.now (beside.first + (q - run.first))) (at lines.now (beside.second + (q - run.first))))
         (at out.old q) }
 {
-    let table = *table;
+    if run.count >= 8 {
+        long_run(lines, run, beside, &edge_moves(table, depth), out);
+        return;
+    }
     for k in 0..run.count {
         out[run.first + k] = edge_moved(
             lines[run.from + k],
             lines[beside.first + k],
             lines[beside.second + k],
-            &table,
+            table,
             depth,
         );
     }
+}
+
+/// The same of eight samples or more, eight at a time; the last eight may overlap those before.
+#[inline(always)]
+fn long_run(lines: &[u16], run: Run, beside: Neighbours, moves: &EdgeMoves, out: &mut [u16])
+    requires count { 8 ≤ run.count }
+    requires lines { run.from + run.count ≤ length lines.now }
+    requires first { beside.first + run.count ≤ length lines.now }
+    requires second { beside.second + run.count ≤ length lines.now }
+    requires out { run.first + run.count ≤ length out.old }
+    ensures { (depth : ℕ) (offsets : List ℤ) → AreMoves depth offsets moves.now.table moves.now.greatest → (q : ℕ)
+        → at out.new q
+        ≡ cond (nat_le run.first q && nat_lt q (run.first + run.count))
+        (edge_moved depth offsets (at lines.now (run.from + (q - run.first)))
+        (at lines.now (beside.first + (q - run.first))) (at lines.now (beside.second + (q - run.first))))
+        (at out.old q) }
+{
+    for k in 0..(run.count - 1) / 8 {
+        lay_eight(lines, run, beside, 8 * k, moves, out);
+    }
+    lay_eight(lines, run, beside, run.count - 8, moves, out);
+}
+
+/// The same of eight samples from one of the run on.
+#[inline(always)]
+fn lay_eight(
+    lines: &[u16],
+    run: Run,
+    beside: Neighbours,
+    k: usize,
+    moves: &EdgeMoves,
+    out: &mut [u16],
+)
+    requires count { k + 8 ≤ run.count }
+    requires lines { run.from + run.count ≤ length lines.now }
+    requires first { beside.first + run.count ≤ length lines.now }
+    requires second { beside.second + run.count ≤ length lines.now }
+    requires out { run.first + run.count ≤ length out.old }
+    ensures count { length out.new ≡ length out.old }
+    ensures value { (depth : ℕ) (offsets : List ℤ) → AreMoves depth offsets moves.now.table moves.now.greatest
+        → (q : ℕ) → at out.new q
+        ≡ cond (nat_le (run.first + k) q && nat_lt q (run.first + k + 8))
+        (edge_moved depth offsets (at lines.now (run.from + (q - run.first)))
+        (at lines.now (beside.first + (q - run.first))) (at lines.now (beside.second + (q - run.first))))
+        (at out.old q) }
+{
+    eight_moved(
+        u16x8::from_slice(&lines[run.from + k..]),
+        u16x8::from_slice(&lines[beside.first + k..]),
+        u16x8::from_slice(&lines[beside.second + k..]),
+        &moves.table,
+        moves.greatest,
+    )
+    .copy_to_slice(&mut out[run.first + k..]);
 }
