@@ -1,6 +1,7 @@
 -- Edge after edge, and place after place.
 use Rattle.std.proofs.Common.{◌≡◌, ℕ, ◌+◌, ◌-◌, ◌*◌, ◌/◌, ◌%◌, ◌^◌, ◌<◌, ◌≤◌, Bool, true, false, ◌&&◌, ◌||◌, cond}
-use Rattle.std.proofs.Common.{nat_le, nat_lt, refl, ap, sym, subst, ◌∙◌, inl, inr, ◌⊎◌, List, arith, if◌then◌else◌}
+use Rattle.std.proofs.Common.{◌==◌, nat_le, nat_lt, refl, ap, sym, subst, ◌∙◌, inl, inr, ◌⊎◌, List, arith}
+use Rattle.std.proofs.Common.{if◌then◌else◌}
 use Rattle.std.proofs.lemmas.Bool.Decides.{nat_tests}
 use Rattle.spec_deblocking.specs.declared.line.Line.{Line}
 use Rattle.spec_deblocking.specs.declared.place.Place.{Place}
@@ -12,8 +13,10 @@ use Rattle.spec_deblocking.specs.Thresholds.{tc}
 use Rattle.spec_deblocking.specs.Decisions.{edge_filter}
 use Rattle.spec_deblocking.specs.Filters.{filtered}
 use Rattle.spec_deblocking.specs.Planes.{edge_sample, filtered_line, vertical}
-use Rattle.spec_deblocking.proofs.Across.{across_same, five_same, nth_is}
-use Rattle.spec_deblocking.proofs.Unchanged.{sample_off}
+use Rattle.spec_deblocking.specs.declared.line.Filter.TheVariants.{Off}
+use Rattle.spec_deblocking.specs.Places.{place_before}
+use Rattle.spec_deblocking.proofs.Across.{across_same, five_same, if_one, nth_is}
+use Rattle.spec_deblocking.proofs.Unchanged.{filter_off}
 use Rattle.deblock.specs.declared.pass.Pass.{Pass}
 use Rattle.deblock.specs.Passes.{is_beside, is_done, partly, IsPass, IsAlong, IsAcross, IsPartly}
 use Rattle.deblock.specs.Windows.{holds, seen}
@@ -141,25 +144,79 @@ edge_none p places f s e samples across along none old i j h =
     (beside_of p.plane s e i j t) none)
     (done_more p s e i j across.low across.high along.low)
 
-pub weak_of : (q r : Place) → q ≡ r → q.left_strength ≡ 0 → r.left_strength ≡ 0
-weak_of q r e h = subst (λ (p : Place). p.left_strength ≡ 0) e h
+-- an edge that no lines make a filter change
+abbrev pub IsOff : Plane → ℕ → Place → Type 0
+IsOff plane depth q = (p : Place) (first last : Line) → edge_filter plane depth p q first last ≡ Off
+
+pub weak_of : (plane : Plane) (depth : ℕ) (q r : Place) → q ≡ r → q.left_strength ≡ 0 → IsOff plane depth r
+weak_of plane depth q r e h p first last =
+    filter_off plane depth p r first last (subst (λ (x : Place). x.left_strength ≡ 0) e h)
+
+pub weak_place : (plane : Plane) (depth n : ℕ) (q r : Place) → n ≡ side plane → q ≡ r
+    → (n ≡ 4 → (q.left_strength == 0) ≡ true) → (n ≡ 2 → (q.left_strength == 2) ≡ false) → IsOff plane depth r
+unfolding edge_filter
+weak_place Luma depth n q r e same luma chroma p first last =
+    let t : (r.left_strength == 0) ≡ true = subst (λ (x : Place). (x.left_strength == 0) ≡ true) same (luma e) in
+    rw t refl
+weak_place (Chroma offset) depth n q r e same luma chroma p first last =
+    let t : (r.left_strength == 2) ≡ false = subst (λ (x : Place). (x.left_strength == 2) ≡ false) same (chroma e) in
+    rw t refl
+
+line_weak : (plane : Plane) (depth : ℕ) (places : ℕ → ℕ → Place) (samples : ℕ → ℕ → ℕ) (e y : ℕ) →
+    IsOff plane depth (place_behind plane places e y) →
+    filtered_line plane depth places samples e y ≡ across samples (8 * e - 4) y
+unfolding filtered_line filtered
+line_weak plane depth places samples e y off =
+    let first = across samples (8 * e - 4) (side plane * (y / side plane)) in
+    let last = across samples (8 * e - 4) (side plane * (y / side plane) + (side plane - 1)) in
+    rw (off (place_before plane places e y) first last) refl
+
+sample_weak : (plane : Plane) (depth : ℕ) (places : ℕ → ℕ → Place) (samples : ℕ → ℕ → ℕ) (e y k : ℕ) →
+    IsOff plane depth (place_behind plane places e y) →
+    edge_sample plane depth places samples e y k ≡ nth (across samples (8 * e - 4) y) k
+unfolding edge_sample
+sample_weak plane depth places samples e y k off =
+    if_one _ _ _ _ (λ t. refl) (ap (λ (line : Line). nth line k) (line_weak plane depth places samples e y off))
 
 pub edge_weak : (p : Pass) (places : ℕ → ℕ → Place) (f : ℕ → ℕ → ℕ) (s e : ℕ) (samples : List ℕ) →
     IsPass p → IsAcross p e → IsAlong p s → 0 < e → 8 * e < p.side →
-    (places (8 * e / side p.plane) s).left_strength ≡ 0 →
+    IsOff p.plane p.bit_depth (places (8 * e / side p.plane) s) →
     IsPartly p places f s e samples → IsPartly p places f s (e + 1) samples
-edge_weak p places f s e samples is across along some inside none old =
+edge_weak p places f s e samples is across along some inside off old =
     edge_more p places f s e samples samples is across along some inside
     (λ i j h. same_either (is_beside p.plane s e i j) _ _ (λ (t : is_beside p.plane s e i j ≡ true).
     let at = beside_of p.plane s e i j t in
     let here = place_line p.plane s j at.first at.last in
-    let weak : (place_behind p.plane places e j).left_strength ≡ 0 =
-    subst (λ (r : ℕ). (places (8 * e / side p.plane) r).left_strength ≡ 0) (sym here) none in
+    let weak : IsOff p.plane p.bit_depth (place_behind p.plane places e j) =
+    subst (λ (r : ℕ). IsOff p.plane p.bit_depth (places (8 * e / side p.plane) r)) (sym here) off in
     let k : 8 * e - 4 + (i + 4 - 8 * e) ≡ i = omega (arith, at.low) in
-    sym (sample_off p.plane p.bit_depth places (seen p.window samples) e j (i + 4 - 8 * e) weak
+    sym (sample_weak p.plane p.bit_depth places (seen p.window samples) e j (i + 4 - 8 * e) weak
     ∙ nth_is (seen p.window samples) (8 * e - 4) j (i + 4 - 8 * e) (omega (arith, at.high))
     ∙ ap (λ (x : ℕ). seen p.window samples x j) k)))
     old
+
+edge_some : (e width : ℕ) → (nat_lt 0 e && nat_lt (8 * e) width) ≡ true → 0 < e
+edge_some e width t = grind (arith, nat_tests)
+
+edge_within : (e width : ℕ) → (nat_lt 0 e && nat_lt (8 * e) width) ≡ true → 8 * e < width
+edge_within e width t = grind (arith, nat_tests)
+
+weak_or_none : (p : Pass) (places : ℕ → ℕ → Place) (f : ℕ → ℕ → ℕ) (s e : ℕ) (samples : List ℕ) (b : Bool) →
+    (nat_lt 0 e && nat_lt (8 * e) p.side) ≡ b → IsPass p → IsAcross p e → IsAlong p s →
+    IsOff p.plane p.bit_depth (places (8 * e / side p.plane) s) →
+    IsPartly p places f s e samples → IsPartly p places f s (e + 1) samples
+weak_or_none p places f s e samples true t is across along off old =
+    edge_weak p places f s e samples is across along (edge_some e p.side t) (edge_within e p.side t) off old
+weak_or_none p places f s e samples false t is across along off old =
+    edge_none p places f s e samples across along t old
+
+-- an edge that is not filtered, whether there is one or not
+pub edge_still : (p : Pass) (places : ℕ → ℕ → Place) (f : ℕ → ℕ → ℕ) (s e : ℕ) (samples : List ℕ) →
+    IsPass p → IsAcross p e → IsAlong p s →
+    IsOff p.plane p.bit_depth (places (8 * e / side p.plane) s) →
+    IsPartly p places f s e samples → IsPartly p places f s (e + 1) samples
+edge_still p places f s e samples is across along off old =
+    weak_or_none p places f s e samples _ refl is across along off old
 
 -- a row's places
 none_done : (plane : Plane) (first s j : ℕ) (a b c : Bool) → first % 4 ≡ 0 → s ≡ first / side plane →

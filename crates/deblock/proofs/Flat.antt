@@ -1,5 +1,5 @@
 -- Places of samples in memory.
-use Rattle.std.proofs.Common.{◌≡◌, ℕ, ◌+◌, ◌-◌, ◌*◌, ◌<◌, ◌≤◌, Bool, true, false, ◌&&◌, cond}
+use Rattle.std.proofs.Common.{◌≡◌, ℕ, ◌+◌, ◌-◌, ◌*◌, ◌<◌, ◌≤◌, Bool, true, false, ◌&&◌, cond, if◌then◌else◌}
 use Rattle.std.proofs.Common.{List, length, slice_index_or, slice_set, refl, ap, sym, ◌∙◌, arith}
 use Rattle.std.proofs.Math.Nat.{mul-le-mul_left}
 use Rattle.std.proofs.lemmas.Grind.{common_steps}
@@ -97,3 +97,42 @@ put_bounded greatest v p xs h few all k =
     let e = set_seen xs p k v h in
     let old = all k in
     rw e (cond_few (k == p) v _ greatest few old)
+
+-- a sample of a line, so many steps from its first
+pub turned_way : (w : Window) (a b k : ℕ) → w.turned ≡ true → holds w (a + 0) b ≡ true
+    → index w a b + k * w.along_end ≡ index w (a + k) b
+turned_way w a b k e h =
+    let i = inside_of w (a + 0) b h in
+    let m : a + k - w.across_first ≡ a - w.across_first + k = omega (arith, i.across_first) in
+    rw (e, m) (omega arith)
+
+pub level_way : (w : Window) (a b k : ℕ) → w.turned ≡ false → index w a b + k * 1 ≡ index w (a + k) b
+level_way w a b k e = rw e (omega arith)
+
+turned_or_not : (w : Window) (t : Bool) (a b : ℕ) → w.turned ≡ t → holds w a b ≡ true → index w a b < size w
+turned_or_not w true a b e h =
+    let i = inside_of w a b h in
+    rw e (flat_inside w.along_end (w.across_end - w.across_first) (a - w.across_first) b i.along_end
+    (omega (arith, i.across_first, i.across_end)))
+turned_or_not w false a b e h =
+    let i = inside_of w a b h in
+    rw e (flat_inside w.across_end (w.along_end - w.along_first) (b - w.along_first) a i.across_end
+    (omega (arith, i.along_first, i.along_end)))
+
+pub index_inside : (w : Window) (a b : ℕ) → holds w a b ≡ true → index w a b < size w
+index_inside w a b h = turned_or_not w w.turned a b refl h
+
+-- a sample so many lines behind another
+pub later_index : (w : Window) (t : Bool) (a b n along first : ℕ) → w.turned ≡ t → w.along_first ≤ b →
+    along ≡ (if t then 1 else w.across_end) → first ≡ index w a b → first + n * along ≡ index w a (b + n)
+later_index w true a b n along first e low al f = rw (f, al, e) (omega arith)
+later_index w false a b n along first e low al f =
+    let m : b + n - w.along_first ≡ b - w.along_first + n = omega (arith, low) in
+    rw (f, al, e, m) (omega arith)
+
+pub later_way : (w : Window) (a b k n along first step : ℕ) → w.along_first ≤ b →
+    along ≡ (if w.turned then 1 else w.across_end) → first + k * step ≡ index w (a + k) b
+    → first + n * along + k * step ≡ index w (a + k) (b + n)
+later_way w a b k n along first step low al f =
+    let next = later_index w w.turned (a + k) b n along (first + k * step) refl low al f in
+    omega (arith, next)

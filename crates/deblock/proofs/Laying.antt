@@ -1,6 +1,7 @@
 -- One value laid over another.
 use Rattle.std.proofs.Common.{◌≡◌, ℕ, ◌+◌, ◌-◌, ◌≤◌, Bool, true, false, ◌&&◌, ◌||◌, cond, nat_le, nat_lt}
-use Rattle.std.proofs.Common.{refl, ◌∙◌, arith}
+use Rattle.std.proofs.Common.{refl, ap, sym, ◌∙◌, ◌<◌, inl, inr, arith}
+use Rattle.std.proofs.lemmas.Bool.{cases_lt}
 use Rattle.std.specs.Prelude.{◌==◌}
 use Rattle.std.proofs.lemmas.Bool.Decides.{nat_tests}
 use Rattle.spec_deblocking.specs.declared.line.Line.{Line}
@@ -70,3 +71,65 @@ pub lines_none : (first j : ℕ) (r : Bool) (v start : ℕ)
 lines_none first j r v start =
     let none : ((nat_le first j && nat_lt j (first + 0)) && r) ≡ false = grind (arith, nat_tests) in
     rw none refl
+
+-- a line of which a part alone differs from what is there
+test_past : (a first end i : ℕ) → (nat_le (a + first) i && nat_lt i (a + end)) ≡ false → a ≤ i → first ≤ i - a
+    → end ≤ i - a
+test_past a first end i t low le = grind (arith, nat_tests)
+
+test_in : (a b first end i j : ℕ) → j ≡ b → (nat_le (a + first) i && nat_lt i (a + end)) ≡ true
+    → (j == b && (nat_le (a + first) i && nat_lt i (a + end))) ≡ true
+test_in a b first end i j e t = grind (arith, nat_tests)
+
+test_out : (a b first end i j : ℕ) → (nat_le (a + first) i && nat_lt i (a + end)) ≡ false
+    → (j == b && (nat_le (a + first) i && nat_lt i (a + end))) ≡ false
+test_out a b first end i j t = grind (arith, nat_tests)
+
+there : (a b i j : ℕ) (line : Line) (f : ℕ → ℕ → ℕ) → j ≡ b → a ≤ i → nth line (i - a) ≡ f (a + (i - a)) b
+    → f i j ≡ nth line (i - a)
+there a b i j line f e low n =
+    let k : a + (i - a) ≡ i = omega (arith, low) in
+    sym (n ∙ ap (λ (x : ℕ). f x b) k ∙ ap (λ (y : ℕ). f i y) (sym e))
+
+wide_case : (t : Bool) (a b first end i j : ℕ) (line : Line) (f : ℕ → ℕ → ℕ) (new : ℕ) →
+    (nat_le (a + first) i && nat_lt i (a + end)) ≡ t → j ≡ b → a ≤ i → i < a + 8 →
+    ((k : ℕ) → k < first → nth line k ≡ f (a + k) b) →
+    ((k : ℕ) → end + k < 8 → nth line (end + k) ≡ f (a + (end + k)) b) →
+    new ≡ cond (j == b && (nat_le (a + first) i && nat_lt i (a + end))) (nth line (i - a)) (f i j) →
+    new ≡ nth line (i - a)
+wide_case true a b first end i j line f new t e low high before behind n =
+    cond_yes _ _ _ _ n (test_in a b first end i j e t)
+wide_case false a b first end i j line f new t e low high before behind n =
+    cond_no _ _ _ _ n (test_out a b first end i j t)
+    ∙ there a b i j line f e low (elim (cases_lt (i - a) first) [
+      | inl lt ↦ before (i - a) lt
+      | inr le ↦
+          let past = test_past a first end i t low le in
+          let m : end + (i - a - end) ≡ i - a = omega (arith, past) in
+          rw m at (behind (i - a - end) (omega (arith, past, high, low)))
+    ])
+
+same_line : (a b i j : ℕ) → (j == b && (nat_le (a + 0) i && nat_lt i (a + 8))) ≡ true → j ≡ b
+same_line a b i j t = grind (arith, nat_tests)
+
+low_of : (a b i j : ℕ) → (j == b && (nat_le (a + 0) i && nat_lt i (a + 8))) ≡ true → a ≤ i
+low_of a b i j t = grind (arith, nat_tests)
+
+high_of : (a b i j : ℕ) → (j == b && (nat_le (a + 0) i && nat_lt i (a + 8))) ≡ true → i < a + 8
+high_of a b i j t = grind (arith, nat_tests)
+
+narrow : (a b first end i j : ℕ) → end ≤ 8 → (j == b && (nat_le (a + 0) i && nat_lt i (a + 8))) ≡ false
+    → (j == b && (nat_le (a + first) i && nat_lt i (a + end))) ≡ false
+narrow a b first end i j few t = grind (arith, nat_tests)
+
+pub line_wider : (a b first end from to i j : ℕ) (line : Line) (f : ℕ → ℕ → ℕ) (new : ℕ) → end ≤ 8 →
+    from ≡ 0 → to ≡ 8 →
+    ((k : ℕ) → k < first → nth line k ≡ f (a + k) b) →
+    ((k : ℕ) → end + k < 8 → nth line (end + k) ≡ f (a + (end + k)) b) →
+    new ≡ cond (j == b && (nat_le (a + first) i && nat_lt i (a + end))) (nth line (i - a)) (f i j) →
+    new ≡ cond (j == b && (nat_le (a + from) i && nat_lt i (a + to))) (nth line (i - a)) (f i j)
+line_wider a b first end from to i j line f new few z eight before behind n =
+    rw (z, eight) (cond_intro (j == b && (nat_le (a + 0) i && nat_lt i (a + 8))) new _ _
+    (λ t. wide_case _ a b first end i j line f new refl (same_line a b i j t) (low_of a b i j t) (high_of a b i j t)
+    before behind n)
+    (λ t. cond_no _ _ _ _ n (narrow a b first end i j few t)))

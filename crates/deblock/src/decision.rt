@@ -1,12 +1,16 @@
 //! How the lines of a place are filtered across an edge (8.7.2.5.3, 8.7.2.5.6).
 
-ghost use Rattle.std.specs.Prelude.{◌≡◌, ◌<◌, ◌≤◌, ◌+◌, ◌*◌, ◌/◌, ℕ};
+ghost use Rattle.std.specs.Prelude.{◌≡◌, ◌<◌, ◌≤◌, ◌+◌, ◌*◌, ◌/◌, ℕ, ℤ};
 ghost use Rattle.spec_deblocking.specs.Decisions.{bend, d_p, d_q, d_pq, d_sam, side_bound};
 ghost use Rattle.spec_deblocking.specs.Decisions.{luma_filter, edge_filter};
+ghost use Rattle.spec_deblocking.specs.Thresholds.{tc};
+ghost use Rattle.spec_deblocking.specs.declared.line.Line.{Line};
+ghost use Rattle.spec_deblocking.specs.declared.place.Place.{Place};
+ghost use Rattle.spec_deblocking.specs.declared.place.Plane.TheVariants.{Luma, Chroma};
 ghost use Rattle.deblock.specs.Samples.{IsDepth, AreSmall};
 
-use crate::thresholds::{beta, tc};
-use spec_deblocking::{Filter, Line, Place, Plane};
+use crate::thresholds::beta;
+use spec_deblocking::{Filter, Line, Place};
 
 /// How far three samples are from straight.
 #[inline(always)]
@@ -85,35 +89,33 @@ fn luma_filter(beta: u32, tc: u32, first: &Line, last: &Line) -> Filter
     }
 }
 
-/// How the lines of an edge are filtered.
+/// How the lines of an edge of luma are filtered, by the greatest change of a sample.
 #[tactic(auto, unfolding(spec_deblocking::specs::Decisions::edge_filter))]
-pub fn edge_filter(
-    plane: Plane,
-    depth: u32,
-    p: &Place,
-    q: &Place,
-    first: &Line,
-    last: &Line,
-) -> Filter
+pub fn luma_edge(depth: u32, most: u32, p: &Place, q: &Place, first: &Line, last: &Line) -> Filter
     requires depth { IsDepth depth }
+    requires most { most ≡ tc Luma depth p.now q.now }
+    requires few { most ≤ 16320 }
     requires first { AreSmall 16383 first.now }
     requires last { AreSmall 16383 last.now }
-    ensures { result ≡ edge_filter plane depth p.now q.now first.now last.now }
+    ensures { result ≡ edge_filter Luma depth p.now q.now first.now last.now }
 {
-    match plane {
-        Plane::Luma => {
-            if q.left_strength == 0 {
-                Filter::Off
-            } else {
-                luma_filter(beta(depth, p, q), tc(plane, depth, p, q), first, last)
-            }
-        },
-        Plane::Chroma { .. } => {
-            if q.left_strength == 2 {
-                Filter::Nearest
-            } else {
-                Filter::Off
-            }
-        },
+    if q.left_strength == 0 {
+        Filter::Off
+    } else {
+        luma_filter(beta(depth, p, q), most, first, last)
+    }
+}
+
+/// How the lines of an edge of chroma are filtered.
+#[inline(always)]
+#[tactic(auto, unfolding(spec_deblocking::specs::Decisions::edge_filter))]
+pub fn chroma_edge(q: &Place) -> Filter
+    ensures { (offset : ℤ) (depth : ℕ) (p : Place) (first last : Line)
+        → result ≡ edge_filter (Chroma offset) depth p q.now first last }
+{
+    if q.left_strength == 2 {
+        Filter::Nearest
+    } else {
+        Filter::Off
     }
 }

@@ -1,21 +1,25 @@
 //! One edge at the lines of one place.
 
 ghost use Rattle.std.specs.Prelude.{◌≡◌, ◌<◌, ◌≤◌, ◌+◌, ◌-◌, ◌*◌, ◌/◌, ◌^◌, ℕ, true, length, cond};
+ghost use Rattle.std.specs.Prelude.{◌==◌, ◌&&◌, nat_le, nat_lt};
 ghost use Rattle.spec_deblocking.specs.declared.line.Line.{Line};
+ghost use Rattle.spec_deblocking.specs.declared.place.Place.{Place};
 ghost use Rattle.spec_deblocking.specs.Lines.{across, nth};
 ghost use Rattle.spec_deblocking.specs.Places.{side};
+ghost use Rattle.spec_deblocking.specs.Thresholds.{tc};
+ghost use Rattle.spec_deblocking.specs.Decisions.{edge_filter};
 ghost use Rattle.spec_deblocking.specs.Filters.{filtered};
 ghost use Rattle.spec_deblocking.specs.Planes.{edge_sample};
 ghost use Rattle.deblock.specs.Samples.{IsDepth, IsBounded};
-ghost use Rattle.deblock.specs.Windows.{size, seen, holds};
+ghost use Rattle.deblock.specs.Windows.{index, size, seen, holds};
 ghost use Rattle.deblock.specs.Passes.{placed, IsPass, IsAlong, IsAcross, IsPartly, is_beside, is_written};
 
-use crate::decision::edge_filter;
+use crate::decision::{chroma_edge, luma_edge};
 use crate::filters::filtered;
 use crate::pass::Pass;
 use crate::thresholds::tc;
 use crate::view::PlaceView;
-use crate::window::{read_line, write_line};
+use crate::window::{Way, Window, along_of, later, read_line, way_of, write_line};
 use spec_deblocking::{Filter, Place, Plane};
 
 /// How the lines of a place are filtered, and which part of them.
@@ -53,7 +57,7 @@ fn greatest_sample(depth: u32) -> u32
 
 /// A place across and along edges.
 #[inline(always)]
-fn place<V: PlaceView>(view: &V, turned: bool, a: usize, b: usize) -> Place
+pub fn place<V: PlaceView>(view: &V, turned: bool, a: usize, b: usize) -> Place
     ensures { result ≡ placed turned (V.place_at view.now) a b }
 {
     if turned {
@@ -87,6 +91,36 @@ fn end_laid(kept: bool) -> usize
     if kept { 4 } else { 8 }
 }
 
+/// Filters one line across an edge.
+#[inline(always)]
+fn filter_line(out: &mut [u16], w: &Window, way: Way, kernel: Kernel, a: usize, b: usize)
+    requires at { (k : ℕ) → k < 8 → way.first + k * way.step ≡ index w.now (a + k) b }
+    requires bounded { IsBounded kernel.greatest out.old }
+    requires room { length out.old ≡ size w.now }
+    requires inside { (k : ℕ) → k < 8 → holds w.now (a + k) b ≡ true }
+    requires greatest { kernel.greatest ≤ 16383 }
+    requires tc { kernel.tc ≤ 16320 }
+    requires order { kernel.from ≤ kernel.to }
+    requires to { kernel.to ≤ 8 }
+    ensures value { (i j : ℕ) → holds w.now i j ≡ true
+        → seen w.now out.new i j
+        ≡ cond (j == b && (nat_le (a + kernel.from) i && nat_lt i (a + kernel.to)))
+        (nth (filtered kernel.filter kernel.greatest kernel.tc (across (seen w.now out.old) a b)) (i - a))
+        (seen w.now out.old i j) }
+    ensures bounded { IsBounded kernel.greatest out.new }
+{
+    let old = read_line(out, w, way, a, b);
+    let line = filtered(kernel.filter, kernel.greatest, kernel.tc, &old);
+    match kernel.filter {
+        Filter::Normal { .. } => {
+            write_line::<2, 6>(out, w, way, a, b, kernel.from, kernel.to, &line);
+        }
+        Filter::Strong => write_line::<1, 7>(out, w, way, a, b, kernel.from, kernel.to, &line),
+        Filter::Nearest => write_line::<3, 5>(out, w, way, a, b, kernel.from, kernel.to, &line),
+        Filter::Off => write_line::<3, 5>(out, w, way, a, b, kernel.from, kernel.to, &line),
+    }
+}
+
 /// Filters the lines of a place across an edge.
 #[inline(always)]
 fn filter_lines(pass: &Pass, kernel: Kernel, e: usize, s: usize, out: &mut [u16])
@@ -113,18 +147,11 @@ fn filter_lines(pass: &Pass, kernel: Kernel, e: usize, s: usize, out: &mut [u16]
     let a = 8 * e - 4;
     let lines = side(pass.plane);
     let first = lines * s;
+    let start = way_of(&pass.window, a, first);
+    let along = along_of(&pass.window);
     for n in 0..lines {
-        let line = read_line(out, &pass.window, a, first + n);
-        let line = filtered(kernel.filter, kernel.greatest, kernel.tc, &line);
-        write_line(
-            out,
-            &pass.window,
-            a,
-            first + n,
-            kernel.from,
-            kernel.to,
-            &line,
-        );
+        let way = later(out, &pass.window, start, along, n, a, first);
+        filter_line(out, &pass.window, way, kernel, a, first + n);
     }
 }
 
@@ -138,6 +165,76 @@ fn is_off(filter: Filter) -> bool
         Filter::Off => true,
         Filter::Normal { .. } | Filter::Strong | Filter::Nearest => false,
     }
+}
+
+/// How the lines of a place are filtered across an edge, by the greatest change of a sample.
+fn filter_of(
+    pass: &Pass,
+    e: usize,
+    s: usize,
+    most: u32,
+    p: &Place,
+    q: &Place,
+    samples: &[u16],
+) -> Filter
+    requires pass { IsPass pass.now }
+    requires bounded { IsBounded (2 ^ pass.now.bit_depth - 1) samples.now }
+    requires room { length samples.now ≡ size pass.now.window }
+    requires edge { 0 < e }
+    requires within { 8 * e < pass.now.side }
+    requires across { IsAcross pass.now e }
+    requires along { IsAlong pass.now s }
+    requires most { most ≡ tc pass.now.plane pass.now.bit_depth p.now q.now }
+    requires few { most ≤ 16320 }
+    ensures { result ≡ edge_filter pass.now.plane pass.now.bit_depth p.now q.now
+        (across (seen pass.now.window samples.now) (8 * e - 4) (side pass.now.plane * s))
+        (across (seen pass.now.window samples.now) (8 * e - 4)
+        (side pass.now.plane * s + (side pass.now.plane - 1))) }
+{
+    match pass.plane {
+        Plane::Luma => {
+            let a = 8 * e - 4;
+            let top = way_of(&pass.window, a, 4 * s);
+            let head = read_line(samples, &pass.window, top, a, 4 * s);
+            let bottom = way_of(&pass.window, a, 4 * s + 3);
+            let tail = read_line(samples, &pass.window, bottom, a, 4 * s + 3);
+            luma_edge(pass.bit_depth, most, p, q, &head, &tail)
+        }
+        Plane::Chroma { .. } => chroma_edge(q),
+    }
+}
+
+/// Filters an edge between two places at their lines.
+fn filter_between(pass: &Pass, e: usize, s: usize, p: &Place, q: &Place, out: &mut [u16])
+    requires pass { IsPass pass.now }
+    requires bounded { IsBounded (2 ^ pass.now.bit_depth - 1) out.old }
+    requires room { length out.old ≡ size pass.now.window }
+    requires edge { 0 < e }
+    requires within { 8 * e < pass.now.side }
+    requires across { IsAcross pass.now e }
+    requires along { IsAlong pass.now s }
+    ensures value { (places : ℕ → ℕ → Place) → p.now ≡ places ((8 * e - 1) / side pass.now.plane) s
+        → q.now ≡ places (8 * e / side pass.now.plane) s
+        → (i j : ℕ) → holds pass.now.window i j ≡ true
+        → seen pass.now.window out.new i j
+        ≡ cond (is_beside pass.now.plane s e i j)
+        (edge_sample pass.now.plane pass.now.bit_depth places (seen pass.now.window out.old) e j (i + 4 - 8 * e))
+        (seen pass.now.window out.old i j) }
+    ensures bounded { IsBounded (2 ^ pass.now.bit_depth - 1) out.new }
+{
+    let most = tc(pass.plane, pass.bit_depth, p, q);
+    let filter = filter_of(pass, e, s, most, p, q, out);
+    if is_off(filter) {
+        return;
+    }
+    let kernel = Kernel {
+        filter,
+        greatest: greatest_sample(pass.bit_depth),
+        tc: most,
+        from: first_laid(p.kept),
+        to: end_laid(q.kept),
+    };
+    filter_lines(pass, kernel, e, s, out);
 }
 
 /// Filters an edge that has a strength at the lines of a place.
@@ -159,23 +256,8 @@ fn filter_place<V: PlaceView>(view: &V, pass: &Pass, e: usize, s: usize, q: &Pla
         (seen pass.now.window out.old i j) }
     ensures bounded { IsBounded (2 ^ pass.now.bit_depth - 1) out.new }
 {
-    let a = 8 * e - 4;
-    let lines = side(pass.plane);
-    let p = place(view, pass.window.turned, (8 * e - 1) / lines, s);
-    let head = read_line(out, &pass.window, a, lines * s);
-    let tail = read_line(out, &pass.window, a, lines * s + (lines - 1));
-    let filter = edge_filter(pass.plane, pass.bit_depth, &p, q, &head, &tail);
-    if is_off(filter) {
-        return;
-    }
-    let kernel = Kernel {
-        filter,
-        greatest: greatest_sample(pass.bit_depth),
-        tc: tc(pass.plane, pass.bit_depth, &p, q),
-        from: first_laid(p.kept),
-        to: end_laid(q.kept),
-    };
-    filter_lines(pass, kernel, e, s, out);
+    let p = place(view, pass.window.turned, (8 * e - 1) / side(pass.plane), s);
+    filter_between(pass, e, s, &p, q, out);
 }
 
 /// Filters an edge at the lines of a place, where there is one. No other edge reads the samples that it changes.

@@ -15,7 +15,8 @@ returns-else-q-ne0-clause-done g c = λ f old.
     edge_weak c.args.pass.now (placed c.args.pass.now.window.turned (g.V.PlaceView.place_at c.args.view.now)) f
     c.args.s c.args.e c.args.out.now c.requires.pass c.requires.across c.requires.along
     (omega arith) (omega arith)
-    (weak_of _ _ (rw c.side.ensures.value at c.place-q.ensures) c.if-q-ne0.false) old
+    (weak_of c.args.pass.now.plane c.args.pass.now.bit_depth _ _ (rw c.side.ensures.value at c.place-q.ensures)
+    c.if-q-ne0.false) old
 
 pub returns-else-e-gt0-clause-done : goal.returns-else-e-gt0-clause-done
 returns-else-e-gt0-clause-done g c = λ f old.

@@ -8,23 +8,34 @@ use Rattle.deblock.proofs.Laying.{lines_more, lines_none}
 use Rattle.deblock.proofs.Edges.{line_yet, reads_inside}
 use Rattle.deblock.proofs.edge.filter_lines.Goals as goal
 
-pub read_line-line-requires-clause-inside : goal.read_line-line-requires-clause-inside
-read_line-line-requires-clause-inside c = λ k few.
+pub way_of-start-requires-clause-inside : goal.way_of-start-requires-clause-inside
+way_of-start-requires-clause-inside c = λ k few.
+    let lines : c.side-lines.result * c.args.s ≡ side c.args.pass.now.plane * c.args.s =
+    rw c.side-lines.ensures.value refl in
+    reads_inside c.args.pass.now c.args.e c.args.s k _ c.requires.pass c.requires.across c.requires.along
+    c.requires.edge c.requires.within few
+    (omega (arith, lines)) (omega (arith, lines, c.side-lines.ensures.value, c.side-lines.ensures.least))
+
+pub later-way-requires-clause-low : goal.later-way-requires-clause-low
+later-way-requires-clause-low c =
+    let lines : c.side-lines.result * c.args.s ≡ side c.args.pass.now.plane * c.args.s =
+    rw c.side-lines.ensures.value refl in
+    omega (arith, lines, c.requires.pass.along_low, c.requires.along.low)
+
+pub later-way-requires-clause-inside : goal.later-way-requires-clause-inside
+later-way-requires-clause-inside c = λ k few.
     let lines : c.side-lines.result * c.args.s ≡ side c.args.pass.now.plane * c.args.s =
     rw c.side-lines.ensures.value refl in
     reads_inside c.args.pass.now c.args.e c.args.s k _ c.requires.pass c.requires.across c.requires.along
     c.requires.edge c.requires.within few
     (omega (arith, lines)) (omega (arith, lines, c.side-lines.ensures.value, c.loop-n-test.true))
 
-pub filtered-line-requires-clause-line : goal.filtered-line-requires-clause-line
-filtered-line-requires-clause-line c = c.read_line-line.ensures.small c.args.kernel.greatest c.loop-n.invariant.bounded
-
-pub write_line-requires-clause-inside : goal.write_line-requires-clause-inside
-write_line-requires-clause-inside c = λ k low high.
+pub filter_line-requires-clause-inside : goal.filter_line-requires-clause-inside
+filter_line-requires-clause-inside c = λ k few.
     let lines : c.side-lines.result * c.args.s ≡ side c.args.pass.now.plane * c.args.s =
     rw c.side-lines.ensures.value refl in
     reads_inside c.args.pass.now c.args.e c.args.s k _ c.requires.pass c.requires.across c.requires.along
-    c.requires.edge c.requires.within (omega (arith, high, c.requires.to))
+    c.requires.edge c.requires.within few
     (omega (arith, lines)) (omega (arith, lines, c.side-lines.ensures.value, c.loop-n-test.true))
 
 pub loop-n-init : goal.loop-n-init
@@ -55,11 +66,9 @@ loop-n-preserved c =
           (across (seen c.args.pass.now.window c.args.out.now) (8 * c.args.e - 4) y))
           (i - (8 * c.args.e - 4)))
           _ _ _
-          (rw (c.filtered-line.ensures.value, c.read_line-line.ensures.value, yet) at
-          (c.write_line.ensures.value i j h))
+          (rw yet at (c.filter_line.ensures.value i j h))
           (c.loop-n.invariant.value i j h);
-      bounded = c.write_line.ensures.small c.args.kernel.greatest c.filtered-line.ensures.small
-          c.loop-n.invariant.bounded;
+      bounded = c.filter_line.ensures.bounded;
     }
 
 pub returns : goal.returns

@@ -10,15 +10,15 @@ loop-s-init g c = record {
   done = λ i j h. part_none c.args.pass.now
       (placed c.args.pass.now.window.turned (g.V.PlaceView.place_at c.args.view.now))
       (seen c.args.pass.now.window c.args.out.now)
-      (c.args.pass.now.along_first / c.side-lines.result) i j _
-      c.requires.pass.along_first (ap (λ (n : ℕ). c.args.pass.now.along_first / n) c.side-lines.ensures.value) refl;
+      (c.args.pass.now.along_first / g.row.SIDE) i j _
+      c.requires.pass.along_first (ap (λ (n : ℕ). c.args.pass.now.along_first / n) c.requires.same) refl;
   bounded = c.requires.bounded;
 }
 
 pub filter_places-requires-clause-along : goal.filter_places-requires-clause-along
 filter_places-requires-clause-along g c =
     along_of c.args.pass.now c.loop-s.s c.requires.pass
-    (rw c.side-lines.ensures.value at c.loop-s.auto.s) (rw c.side-lines.ensures.value at c.loop-s-test.true)
+    (rw c.requires.same at c.loop-s.auto.s) (rw c.requires.same at c.loop-s-test.true)
 
 pub loop-s-preserved : goal.loop-s-preserved
 loop-s-preserved g c = record {
@@ -28,15 +28,15 @@ loop-s-preserved g c = record {
 
 pub returns : goal.returns
 returns g c =
-    let order : c.args.pass.now.along_first / c.side-lines.result ≤ c.args.pass.now.along_end / c.side-lines.result =
-    rw c.side-lines.ensures.value
+    let order : c.args.pass.now.along_first / g.row.SIDE ≤ c.args.pass.now.along_end / g.row.SIDE =
+    rw c.requires.same
     (ordered_places c.args.pass.now.plane c.args.pass.now.along_first c.args.pass.now.along_end
     c.requires.pass.along_order) in
-    let last : c.loop-s.s ≡ c.args.pass.now.along_end / c.side-lines.result = omega (arith, order) in
+    let last : c.loop-s.s ≡ c.args.pass.now.along_end / g.row.SIDE = omega (arith, order) in
     record {
       value = subst (λ (s : ℕ). IsPartly c.args.pass.now
           (placed c.args.pass.now.window.turned (g.V.PlaceView.place_at c.args.view.now))
           (seen c.args.pass.now.window c.args.out.now) s 0 c.loop-s.out)
-          (rw c.side-lines.ensures.value at last) c.loop-s.invariant.done;
+          (rw c.requires.same at last) c.loop-s.invariant.done;
       bounded = c.loop-s.invariant.bounded;
     }
