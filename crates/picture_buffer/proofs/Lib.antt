@@ -1,4 +1,5 @@
 pub mod Laying
+pub mod Own
 pub mod Places
 pub mod Formats
 pub mod Lent

@@ -4,12 +4,14 @@
 
 mod bases;
 mod motion_field;
+mod own_field;
 mod packed;
 mod picture;
 mod place_motion;
 mod plane;
 mod planes;
 mod shared_picture;
+mod targets;
 
 pub use bases::Bases;
 pub use motion_field::MotionField;

@@ -1,11 +1,15 @@
 //! The motion of a picture.
 
-ghost use Rattle.std.specs.Prelude.{◌≡◌, ℕ, ◌+◌, ◌<◌, ◌≤◌, ◌==◌, ◌&&◌, nat_le, nat_lt};
+ghost use Rattle.std.specs.Prelude.{◌≡◌, ℕ, ◌+◌, ◌<◌, ◌≤◌, ◌==◌, ◌&&◌, ◌||◌, nat_le, nat_lt};
 ghost use Rattle.std.specs.Prelude.{IfOk, None, if◌then◌else◌};
 ghost use Rattle.picture_buffer.specs.Motion.{HasPlaces, motions_of};
+ghost use Rattle.picture_buffer.specs.Packed.{no_own, target_of};
+ghost use Rattle.place_grid.specs.Cells.{HasCells, cell};
 
-use crate::packed::{NO_MOTION, PackedMotion};
+use crate::own_field::OwnField;
+use crate::packed::{NO_MOTION, PackedMotion, mv_of};
 use crate::place_motion::PlaceMotion;
+use crate::targets::{FIRST, NO_TARGET, OF_ITS_OWN, OwnTargets, Target, keep, target_of};
 use place_grid::Grid;
 use std::alloc::{AllocError, Global};
 use std::marker::Model;
@@ -14,14 +18,22 @@ use std::marker::Model;
 #[derive(Drop)]
 pub struct MotionField {
     places: Grid<PackedMotion>,
+    own: OwnField,
+    /// What the vectors of places point to, by index.
+    targets: [Target; 64],
+    /// How many indices are used.
+    count: usize,
 }
 
 impl Model for MotionField {
     ghost use Rattle.picture_buffer.specs.Motion.{FieldPlaces, unpacked_places};
+    ghost use Rattle.picture_buffer.specs.Packed.{AreKept};
 
     ghost Value = { FieldPlaces };
 
-    ghost view = { λ f. unpacked_places f.places };
+    ghost view = { λ f. unpacked_places f.targets f.own f.places };
+
+    ghost invariant = { λ f. AreKept f.places f.own f.count };
 }
 
 impl MotionField {
@@ -33,7 +45,13 @@ impl MotionField {
         ensures places { IfOk result (λ f. (x y : ℕ) → motions_of f x y ≡ None) }
     {
         let places = Grid::new(alloc, across, down, NO_MOTION)?;
-        Ok(MotionField { places })
+        let own = OwnField::new(alloc, across, down)?;
+        Ok(MotionField {
+            places,
+            own,
+            targets: [NO_TARGET; 64],
+            count: FIRST,
+        })
     }
 
     /// No place has motion any more. It takes no memory.
@@ -42,6 +60,7 @@ impl MotionField {
         ensures places { (x y : ℕ) → motions_of self.new x y ≡ None }
     {
         self.places.fill(NO_MOTION);
+        self.count = FIRST;
     }
 
     /// How many places a row has.
@@ -62,7 +81,8 @@ impl MotionField {
     pub fn at(&self, x: usize, y: usize) -> Option<PlaceMotion>
         ensures { result ≡ motions_of self.now x y }
     {
-        self.places.at(x, y, NO_MOTION).motion()
+        let place = self.places.at(x, y, NO_MOTION);
+        place.motion(&self.targets, self.own.at(x, y))
     }
 
     /// The motion of a place.
@@ -73,7 +93,7 @@ impl MotionField {
         ensures places { (i j : ℕ)
             → motions_of self.new i j ≡ (if i == x && j == y then motion else motions_of self.old i j) }
     {
-        self.places.put(x, y, PackedMotion::new(motion));
+        self.put_run(x, y, 1, motion);
     }
 
     /// One motion over so many places of a row.
@@ -84,6 +104,46 @@ impl MotionField {
         ensures places { (i j : ℕ) → motions_of self.new i j
             ≡ (if j == y && (nat_le x i && nat_lt i (x + count)) then motion else motions_of self.old i j) }
     {
-        self.places.put_run(x, y, count, PackedMotion::new(motion));
+        let Some(motion) = motion else {
+            self.places.put_run(x, y, count, NO_MOTION);
+            return;
+        };
+        let (index_0, behind) = keep(&mut self.targets, self.count, motion.list_0);
+        let (index_1, last) = keep(&mut self.targets, behind, motion.list_1);
+        self.count = last;
+        let packed = PackedMotion {
+            mv_0: mv_of(motion.list_0),
+            mv_1: mv_of(motion.list_1),
+            index_0,
+            index_1,
+        };
+        put_own(&mut self.own, x, y, count, packed, motion);
+        self.places.put_run(x, y, count, packed);
+    }
+}
+
+/// What the places of a motion keep of their own, where they keep any.
+fn put_own(
+    own: &mut OwnField,
+    x: usize,
+    y: usize,
+    count: usize,
+    packed: PackedMotion,
+    motion: PlaceMotion,
+)
+    requires columns { x + count ≤ own.old.across }
+    requires row { y < own.old.down }
+    ensures sides { HasCells own.new own.old.across own.old.down }
+    ensures cells { (i j : ℕ) → cell no_own own.new i j
+        ≡ (if (packed.index_0 == 2 || packed.index_1 == 2) && (j == y && (nat_le x i && nat_lt i (x + count)))
+        then record { first = target_of motion.list_0; second = target_of motion.list_1 }
+        else cell no_own own.old i j) }
+{
+    if packed.index_0 == OF_ITS_OWN || packed.index_1 == OF_ITS_OWN {
+        let targets = OwnTargets {
+            first: target_of(motion.list_0),
+            second: target_of(motion.list_1),
+        };
+        own.put_run(x, y, count, targets);
     }
 }

@@ -1,9 +1,22 @@
 use Rattle.std.proofs.Common.{refl}
-use Rattle.picture_buffer.specs.declared.packed.TheConstants.{NO_MOTION}
-use Rattle.picture_buffer.proofs.Places.{put_at}
+use Rattle.picture_buffer.specs.Packed.{no_motion}
+use Rattle.picture_buffer.proofs.Places.{none_put, put_at}
 use Rattle.picture_buffer.proofs.motion_field.MotionField.put_run.Goals as goal
 
+pub returns-in_default-clause-places : goal.returns-in_default-clause-places
+returns-in_default-clause-places c i j =
+    rw (c.in_default.is, ← c.self.view_is) (none_put c.self.inside.targets c.self.inside.count c.self.inside.own
+    c.self.inside.places c.put_run.new.self _ i j c.self.invariant
+    (c.put_run.ensures.sides c.self.inside.places.across c.self.inside.places.down
+    (record { columns = refl; rows = refl })) (c.put_run.ensures.cells no_motion i j))
+
 pub returns-clause-places : goal.returns-clause-places
-returns-clause-places c = λ i j.
-    rw (← c.self.view_is) (put_at c.self.inside.places c.put_run.new.self _ NO_MOTION c.args.motion _ i j refl
-    c.new.ensures (c.put_run.ensures.cells NO_MOTION i j))
+returns-clause-places c i j =
+    rw (c.in-Some.is, ← c.self.view_is) (put_at c.self.inside.targets c.keep-index_0.new.targets
+    c.keep-index_1.new.targets c.self.inside.count c.keep-index_0.result.1 c.self.inside.own c.put_own.new.own
+    c.self.inside.places c.put_run-2.new.self _ c.in-Some.motion _ i j c.self.invariant c.put_own.ensures.sides
+    (c.put_run-2.ensures.sides c.self.inside.places.across c.self.inside.places.down
+    (record { columns = refl; rows = refl })) c.keep-index_0.ensures.more c.keep-index_0.ensures.same
+    c.keep-index_1.ensures.same c.keep-index_0.ensures.some c.keep-index_0.ensures.inside
+    (rw c.mv_of.ensures c.keep-index_0.ensures.value) (rw c.mv_of-2.ensures c.keep-index_1.ensures.value)
+    (c.put_own.ensures.cells i j) (c.put_run-2.ensures.cells no_motion i j))
