@@ -1,7 +1,10 @@
 -- What the loop filters know of a picture, by column and row of places, each a block of 4x4 luma samples (8.7.2).
-use Rattle.std.specs.Prelude.{◌≡◌, ℕ, Bool, false, pos}
+use Rattle.std.specs.Prelude.{◌≡◌, ℕ, Bool, false, pos, List, map, slice_index_or}
 use Rattle.place_grid.specs.Cells.{Cells, HasCells, cell}
+use Rattle.boundary_strengths.specs.SpecBoundaryStrengths.{UnitPlace}
 use Rattle.picture_filters.specs.declared.filter_place.FilterPlace.{FilterPlace}
+use Rattle.picture_filters.specs.declared.filter_place.HeldPlace.{HeldPlace}
+use Rattle.picture_filters.specs.declared.filter_place.SliceOffsets.{SliceOffsets}
 
 -- a picture's places
 abbrev pub FieldPlaces : Type 0
@@ -20,6 +23,36 @@ first_place = record {
   };
   coded = false;
 }
+
+-- what was read of a place of which nothing is known
+abbrev pub first_read : UnitPlace
+first_read = record { left_strength = 0; top_strength = 0; coded = false; qp_y = pos 0; kept = false }
+
+-- and what is kept of it
+abbrev pub first_held : HeldPlace
+first_held = record { read = first_read; offsets = record { beta = pos 0; tc = pos 0 } }
+
+-- what is kept of a place of a row, by what was read of it and the offsets of its slice
+abbrev pub held_row : List UnitPlace → SliceOffsets → ℕ → HeldPlace
+held_row read offsets k = record { read = slice_index_or read k first_read; offsets = offsets }
+
+-- what is known of a place, by what is kept of it
+abbrev pub known_place : HeldPlace → FilterPlace
+known_place held = record {
+  place = record {
+    left_strength = held.read.left_strength;
+    top_strength = held.read.top_strength;
+    qp_y = held.read.qp_y;
+    kept = held.read.kept;
+    slice_beta_offset_div2 = held.offsets.beta;
+    slice_tc_offset_div2 = held.offsets.tc;
+  };
+  coded = held.read.coded;
+}
+
+-- and of all places
+abbrev pub known_places : Cells HeldPlace → FieldPlaces
+known_places held = record { across = held.across; down = held.down; cells = map known_place held.cells }
 
 -- what is known of a place; nothing outside the picture
 unfoldable pub places_of : FieldPlaces → ℕ → ℕ → FilterPlace

@@ -4,14 +4,13 @@ ghost use Rattle.std.specs.Prelude.{◌≡◌, ℕ, ◌+◌, ◌-◌, ◌<◌, �
 ghost use Rattle.picture_filters.specs.Places.{HasPlaces, places_of};
 ghost use Rattle.picture_filters.specs.Filtering.{filter_place, filter_places_laid, read_place};
 ghost use Rattle.picture_layout.specs.Blocks.{IsSmall};
-ghost use Rattle.spec_picture_filters.specs.Units.{held_offset, place_of};
+ghost use Rattle.spec_picture_filters.specs.Units.{held_offset};
 
-use crate::filter_place::FilterPlace;
+use crate::filter_place::SliceOffsets;
 use crate::place_field::PlaceField;
 use boundary_strengths::UnitPlace;
 use picture_layout::{CodingTreeUnit, PlaceBlock};
 use slice_types::SliceDeblocking;
-use spec_picture_filters::Place;
 
 /// The places of a unit, in 16 rows of 16, over those of the picture.
 pub(crate) fn lay_places(
@@ -49,27 +48,21 @@ fn lay_row(
         else places_of field.old i j) }
     ensures sides { (across down : ℕ) → HasPlaces field.old across down → HasPlaces field.new across down }
 {
-    for column in 0..block.columns {
-        let place = filter_place(slice, read[16 * row + column]);
-        field.put(block.x + column, block.y + row, place);
-    }
+    let first = 16 * row;
+    let places = &read[first..first + block.columns];
+    field.put_row(block.x, block.y + row, places, offsets_of(slice));
 }
 
-/// What is kept of a place of a slice.
-#[tactic(auto, unfolding(spec_picture_filters::specs::Units::place_of))]
-fn filter_place(slice: SliceDeblocking, place: UnitPlace) -> FilterPlace
-    ensures { result ≡ filter_place slice place }
+/// The offsets of a slice.
+fn offsets_of(slice: SliceDeblocking) -> SliceOffsets
+    ensures { result ≡ record {
+      beta = held_offset slice.slice_beta_offset_div2;
+      tc = held_offset slice.slice_tc_offset_div2;
+    } }
 {
-    FilterPlace {
-        place: Place {
-            left_strength: place.left_strength,
-            top_strength: place.top_strength,
-            qp_y: place.qp_y,
-            kept: place.kept,
-            slice_beta_offset_div2: held_offset(slice.slice_beta_offset_div2),
-            slice_tc_offset_div2: held_offset(slice.slice_tc_offset_div2),
-        },
-        coded: place.coded,
+    SliceOffsets {
+        beta: held_offset(slice.slice_beta_offset_div2),
+        tc: held_offset(slice.slice_tc_offset_div2),
     }
 }
 
