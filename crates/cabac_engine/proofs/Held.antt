@@ -287,3 +287,57 @@ same_if n held left false is few enough = same_if-not n held left (nat_le n left
 
 pub same_test : (n held left : ℕ) → held ≤ left → (n ≤ left → n ≤ held) → nat_le n held ≡ nat_le n left
 same_test n held left few enough = same_if n held left (nat_le n held) refl few enough
+
+-- a value over a range, at some of its digits
+pub record Divided (value held next n range : ℕ) (bytes : List ℕ) : Type 0 where
+  pub whole : value / 2 ^ held * 2 ^ n + number_of (take n (drop (8 * next - held) (bits bytes)))
+      ≡ value / 2 ^ (held - n) / range * range + value / 2 ^ (held - n) % range
+  pub put : Put (value - value / 2 ^ (held - n) / range * range * 2 ^ (held - n)) (value / 2 ^ (held - n) % range)
+      (held - n) next bytes
+  pub few : value / 2 ^ (held - n) / range < 2 ^ n
+  pub less : value / 2 ^ (held - n) / range * range * 2 ^ (held - n) ≤ value
+  pub small : value < 18446744073709551616
+
+divided_offset : (q range p d : ℕ) → q < range → d < p → q * p + d < p * range
+divided_offset q range p d below digit =
+    let more : q + 1 ≤ range = omega arith in
+    let sum : (q + 1) * p ≡ q * p + p = grind arith in
+    let turned : range * p ≡ p * range = grind arith in
+    omega (arith, mul-le-mul_right p more, sum, turned)
+
+pub divided : (value held next n range : ℕ) (bytes : List ℕ) → IsKept value held next bytes → n ≤ held
+    → value / 2 ^ held < range → range ≤ 510 → Divided value held next n range bytes
+divided value held next n range bytes kept few below high =
+    let bs = bits bytes in
+    let at = 8 * next - held in
+    let r = held - n in
+    let a = number_of (take n (drop at bs)) in
+    let b = number_of (take r (drop (at + n) bs)) in
+    let parts = apart value held next n bytes few kept in
+    let w = value / 2 ^ held * 2 ^ n + a in
+    let w_is : value / 2 ^ r ≡ w = ap (λ v. v / 2 ^ r) parts.whole ∙ div-mul-add w (2 ^ r) b parts.below in
+    let place : at + n ≡ 8 * next - r = omega (arith, kept.behind) in
+    let inside : at + n ≤ length bs = omega (arith, length-bits bytes, kept.inside, kept.behind) in
+    let digit : a < 2 ^ n = spelled_below bs at n inside in
+    let q = value / 2 ^ r / range in
+    let m = value / 2 ^ r % range in
+    let apart_is : q * range + m ≡ value / 2 ^ r = div-add-mod' (value / 2 ^ r) range in
+    let le : q * range ≤ w = omega (arith, apart_is, w_is) in
+    let rest_is : w - q * range ≡ m = omega (arith, apart_is, w_is) in
+    let taken = mul-le-mul_right (2 ^ r) le in
+    let most : 2 ^ held ≤ 2 ^ 55 = pow-le-pow_right (let two : 0 < 2 = lit< tt in two) kept.few in
+    let positive : 0 < range = omega arith in
+    let rest_small : m < range = mod-lt (value / 2 ^ r) positive in
+    record {
+      whole = sym (apart_is ∙ w_is);
+      put =
+          put (value - q * range * 2 ^ r) m r next bytes kept.size kept.inside (omega (arith, kept.few))
+          (omega (arith, kept.behind)) (omega arith)
+          (ap (λ v. v - q * range * 2 ^ r) parts.whole ∙ minus_is w (q * range) (2 ^ r) b le
+          ∙ ap (λ x. x * 2 ^ r + b) rest_is ∙ ap (λ k. m * 2 ^ r + number_of (take r (drop k bs))) place);
+      few =
+          (div-lt_iff_lt-mul positive).1
+          (subst (λ x. x < 2 ^ n * range) (sym w_is) (divided_offset (value / 2 ^ held) range (2 ^ n) a below digit));
+      less = omega (arith, taken, parts.whole);
+      small = omega (arith, kept.small, most);
+    }

@@ -1,5 +1,6 @@
 pub mod Reading
 pub mod Stepping
 pub mod Bypasses
+pub mod ContextRules
 pub mod Held
 pub mod Trailing

@@ -1,14 +1,15 @@
 //! The interval of arithmetic decoding, and the bins and samples that it gives.
 
 ghost use Rattle.std.specs.Prelude.{◌≡◌, ◌+◌, ◌-◌, ◌*◌, ◌^◌, ◌<◌, ◌≤◌, ◌∷◌, [], length, slice_index, IfSome, OnSome};
-ghost use Rattle.std.specs.Prelude.{false};
+ghost use Rattle.std.specs.Prelude.{false, if◌then◌else◌};
 ghost use Rattle.spec_bits.specs.Bits.{bits, Finds, Gives};
 ghost use Rattle.spec_cabac.specs.Engine.{Engine, IsLive, start_at, doublings, renormalized_at, decision_at, bypass_at};
 ghost use Rattle.spec_cabac.specs.Engine.{terminate_at, number_at, pcm_start_at, sample_at, pcm_end_at, is_trailing};
 ghost use Rattle.cabac_engine.specs.Steps.{Steps, state_of, bypasses_after};
 
 use crate::register::Register;
-use spec_cabac::{after_lps, after_mps, lps_range};
+use crate::transitions::context_after;
+use spec_cabac::lps_range;
 use std::marker::Model;
 
 /// ivlCurrRange and ivlOffset, the bytes of a substream, and the place of the bit that is read next.
@@ -60,18 +61,16 @@ impl<'a> Interval<'a> {
         ensures live { OnSome result (IsLive self.new) }
         ensures context { context.new < 126 }
     {
-        let lps = lps_range(u32::from(*context / 2), self.range);
-        let mps = *context % 2 == 1;
+        let before = *context;
+        let lps = lps_range(u32::from(before / 2), self.range);
         let rest = self.range - lps;
-        if self.register.reaches(rest) {
-            self.renormalize(lps, rest)?;
-            *context = after_lps(*context);
-            Some(!mps)
-        } else {
-            self.renormalize(rest, 0)?;
-            *context = after_mps(*context);
-            Some(mps)
-        }
+        let less_probable = self.register.reaches(rest);
+        self.renormalize(
+            either(less_probable, lps, rest),
+            either(less_probable, rest, 0),
+        )?;
+        *context = context_after(before, less_probable);
+        Some(less_probable != (before % 2 == 1))
     }
 
     /// A bin whose two values are as likely (9.3.4.3.4).
@@ -240,4 +239,12 @@ fn doublings(range: u32) -> u32
     ensures few { result ≤ 7 }
 {
     range.leading_zeros() - 23
+}
+
+/// One of two numbers.
+#[inline(always)]
+fn either(first: bool, one: u32, other: u32) -> u32
+    ensures { result ≡ (if first then one else other) }
+{
+    if first { one } else { other }
 }

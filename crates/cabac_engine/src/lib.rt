@@ -4,5 +4,6 @@
 mod interval;
 mod places;
 mod register;
+mod transitions;
 
 pub use interval::Interval;

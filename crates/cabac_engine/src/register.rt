@@ -235,10 +235,10 @@ impl<'a> Register<'a> {
         ensures live { IsLive (engine range self.new) }
         ensures small { result < 2 ^ n }
     {
-        let mut value = 0;
-        for _ in 0..n {
-            value = 2 * value + u32::from(self.halve(range));
-        }
-        value
+        let range = u64::from(range);
+        self.held -= n;
+        let bins = (self.value >> self.held) / range;
+        self.value -= (bins * range) << self.held;
+        bins as u32
     }
 }
