@@ -4,7 +4,7 @@ ghost use Rattle.std.specs.Prelude.{◌≡◌, ◌+◌, ◌^◌, ◌<◌, ◌≤
 ghost use Rattle.spec_cabac.specs.Engine.{IsLive};
 ghost use Rattle.spec_cabac.specs.Bins.{decision, bypass, terminate, pcm_start, sample, pcm_end, fixed, ones};
 ghost use Rattle.spec_cabac.specs.Bins.{exp_golomb, truncated};
-ghost use Rattle.cabac_contexts.specs.Takes.{Reaches, Takes};
+ghost use Rattle.cabac_contexts.specs.Takes.{Finds, Reaches, Takes};
 
 use crate::contexts::Contexts;
 use cabac_engine::Interval;
@@ -24,16 +24,29 @@ pub struct BinReader<'a> {
 impl<'a> BinReader<'a> {
     /// A bin that context `i` decides (9.3.4.3.2).
     #[inline(always)]
-    #[tactic(auto, unfolding(spec_cabac::specs::Bins::bin_at))]
     pub fn decision(&mut self, i: usize) -> Result<bool, Breach>
         requires live { IsLive self.old.interval }
         requires context { i < 154 }
         ensures { Takes (λ x. x) result self.old self.new (decision i) }
     {
+        match self.bin(i) {
+            Some(bin) => Ok(bin),
+            None => Err(DATA_END),
+        }
+    }
+
+    /// A bin that context `i` decides (9.3.4.3.2); `None` where bits lack.
+    #[inline(always)]
+    #[tactic(auto, unfolding(spec_cabac::specs::Bins::bin_at))]
+    pub fn bin(&mut self, i: usize) -> Option<bool>
+        requires live { IsLive self.old.interval }
+        requires context { i < 154 }
+        ensures { Finds result self.old self.new (decision i) }
+    {
         let mut context = self.contexts.get(i);
-        let bin = self.interval.decision(&mut context).ok_or(DATA_END)?;
+        let bin = self.interval.decision(&mut context)?;
         self.contexts.set(i, context);
-        Ok(bin)
+        Some(bin)
     }
 
     /// A bin whose two values are as likely (9.3.4.3.4).

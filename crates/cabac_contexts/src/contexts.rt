@@ -54,7 +54,7 @@ impl Contexts {
         ensures value { result ≡ slice_index self.now i }
         ensures small { result < 126 }
     {
-        self.values[i]
+        self.values[usize::from(i as u8)]
     }
 
     /// Context `i`, or 0 past the last.
@@ -72,7 +72,7 @@ impl Contexts {
         requires small { value < 126 }
         ensures { self.new ≡ slice_set self.old i value }
     {
-        self.values[i] = value;
+        self.values[usize::from(i as u8)] = value;
     }
 }
 
