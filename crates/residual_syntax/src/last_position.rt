@@ -1,15 +1,17 @@
 //! transform_skip_flag, and the place of the last coded level.
 
-ghost use Rattle.std.specs.Prelude.{◌≡◌, ◌+◌, ◌-◌, ◌*◌, ◌/◌, ◌^◌, ◌<◌, ◌≤◌, IfOk};
+ghost use Rattle.std.specs.Prelude.{◌≡◌, ◌+◌, ◌-◌, ◌*◌, ◌/◌, ◌^◌, ◌<◌, ◌≤◌, IfOk, IfSome};
 ghost use Rattle.spec_cabac.specs.Engine.{IsLive};
 ghost use Rattle.spec_residuals.specs.LastPosition.{transform_skip_flag, prefix_context, last_prefix, last_suffix};
 ghost use Rattle.spec_residuals.specs.LastPosition.{last_of, last_position};
-ghost use Rattle.cabac_contexts.specs.Takes.{Takes};
+ghost use Rattle.cabac_contexts.specs.Takes.{Finds, Takes};
 
 use cabac_contexts::BinReader;
-use hv_base::Breach;
+use hv_base::{Breach, FaultKind};
 use spec_cabac::{LAST_SIG_COEFF_X_PREFIX, LAST_SIG_COEFF_Y_PREFIX, TRANSFORM_SKIP_FLAG};
 use spec_residuals::{ResidualBlock, Scan};
+
+const DATA_END: Breach = Breach::Fault(FaultKind::DataEnd);
 
 /// transform_skip_flag, where it is there.
 #[tactic(auto, unfolding(spec_residuals::specs::LastPosition::transform_skip_flag))]
@@ -56,7 +58,7 @@ pub fn last_position<'a>(
 }
 
 /// last_sig_coeff_x_prefix or last_sig_coeff_y_prefix.
-#[tactic(auto, unfolding(spec_residuals::specs::LastPosition::last_prefix))]
+#[inline(always)]
 fn last_prefix<'a>(
     reader: &mut BinReader<'a>,
     base: usize,
@@ -69,13 +71,29 @@ fn last_prefix<'a>(
     ensures value { Takes (λ x. x) result reader.old reader.new (last_prefix base block) }
     ensures small { IfOk result (λ prefix. prefix < 2 * block.log2) }
 {
+    match prefix(reader, base, block) {
+        Some(prefix) => Ok(prefix),
+        None => Err(DATA_END),
+    }
+}
+
+/// The same; `None` where bits lack.
+#[tactic(auto, unfolding(spec_residuals::specs::LastPosition::last_prefix))]
+fn prefix<'a>(reader: &mut BinReader<'a>, base: usize, block: ResidualBlock) -> Option<u32>
+    requires live { IsLive reader.old.interval }
+    requires base { base ≤ 60 }
+    requires least { 2 ≤ block.log2 }
+    requires greatest { block.log2 ≤ 5 }
+    ensures value { Finds result reader.old reader.new (last_prefix base block) }
+    ensures small { IfSome result (λ prefix. prefix < 2 * block.log2) }
+{
     let most = 2 * block.log2 - 1;
     for i in 0..most {
-        if !reader.decision(base + prefix_context(block, i))? {
-            return Ok(i);
+        if !reader.bin(base + prefix_context(block, i))? {
+            return Some(i);
         }
     }
-    Ok(most)
+    Some(most)
 }
 
 /// ctxIdxInc of bin `i` of a prefix.

@@ -1,6 +1,7 @@
 //! The levels of a transform block, off its bins (H.265 7.3.8.11, 9.3.4.2.3 to 9.3.4.2.7).
 #![tactic(auto)]
 
+mod indices;
 mod last_position;
 mod level_list;
 mod reading;

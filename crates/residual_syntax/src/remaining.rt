@@ -16,8 +16,8 @@ ghost use Rattle.spec_residuals.specs.Levels.{levels_from, next_context, sign_hi
 ghost use Rattle.cabac_contexts.specs.Takes.{Leaves, Takes};
 ghost use Rattle.residual_syntax.specs.Judges.{Judges};
 
+use crate::indices::Indices;
 use crate::level_list::Levels;
-use crate::significance::Indices;
 use cabac_contexts::BinReader;
 use hv_base::{Breach, FaultKind};
 use spec_cabac::{COEFF_ABS_LEVEL_GREATER1_FLAG, COEFF_ABS_LEVEL_GREATER2_FLAG};
@@ -159,11 +159,12 @@ fn greater2_context(block: ResidualBlock, set: u32) -> usize
 /// Whether the sign of a sub-block's last level is hidden.
 #[tactic(auto, unfolding(spec_residuals::specs::Levels::sign_hidden))]
 pub fn sign_hidden(block: ResidualBlock, indices: &Indices) -> bool
-    requires { 0 < length indices.now.items }
-    ensures { result ≡ sign_hidden block indices.now.items }
+    requires { 0 < length indices.now }
+    ensures { result ≡ sign_hidden block indices.now }
 {
-    let indices = indices.as_slice();
-    block.sign_hiding && !block.bypass && indices[0].saturating_sub(indices[indices.len() - 1]) > 3
+    block.sign_hiding
+        && !block.bypass
+        && indices.at(0).saturating_sub(indices.at(indices.len() - 1)) > 3
 }
 
 /// The levels at these indices, behind those before.
@@ -172,18 +173,18 @@ pub fn levels_from<'a>(
     block: ResidualBlock,
     sub: SubBlock,
     indices: &Indices,
-    signs: Signs,
+    signs: &Signs,
     levels: &mut Levels,
 ) -> Result<(), Breach>
     requires live { IsLive reader.old.interval }
     requires x { sub.x < 8 }
     requires y { sub.y < 8 }
-    requires few { length indices.now.items ≤ 16 }
-    requires indices { All (λ n. n < 16) indices.now.items }
-    requires room { length levels.old.levels + length indices.now.items ≤ 1024 }
+    requires few { length indices.now ≤ 16 }
+    requires indices { All (λ n. n < 16) indices.now }
+    requires room { length levels.old.levels + length indices.now ≤ 1024 }
     ensures value { Leaves result levels.new reader.old reader.new
-        (levels_from block sub indices.now.items signs levels.old) }
-    ensures count { OnOk result (length levels.new.levels ≤ length levels.old.levels + length indices.now.items) }
+        (levels_from block sub indices.now signs.now levels.old) }
+    ensures count { OnOk result (length levels.new.levels ≤ length levels.old.levels + length indices.now) }
 {
     let mut state = LevelState { rice: 0, sum: 0 };
     let count = indices.len();
@@ -200,7 +201,7 @@ fn level_at<'a>(
     block: ResidualBlock,
     sub: SubBlock,
     indices: &Indices,
-    signs: Signs,
+    signs: &Signs,
     j: usize,
     state: &mut LevelState,
     levels: &mut Levels,
@@ -208,14 +209,14 @@ fn level_at<'a>(
     requires live { IsLive reader.old.interval }
     requires x { sub.x < 8 }
     requires y { sub.y < 8 }
-    requires indices { All (λ n. n < 16) indices.now.items }
-    requires few { length indices.now.items ≤ 16 }
-    requires index { j < length indices.now.items }
+    requires indices { All (λ n. n < 16) indices.now }
+    requires few { length indices.now ≤ 16 }
+    requires index { j < length indices.now }
     requires rice { state.old.rice ≤ 4 }
     requires sum { state.old.sum ≤ 32768 * j }
     requires room { length levels.old.levels < 1024 }
     ensures value { Leaves result (state.new, levels.new) reader.old reader.new
-        (level_at block sub indices.now.items signs j (state.old, levels.old)) }
+        (level_at block sub indices.now signs.now j (state.old, levels.old)) }
     ensures rice { state.new.rice ≤ 4 }
     ensures sum { OnOk result (state.new.sum ≤ 32768 * (j + 1)) }
     ensures count { OnOk result (length levels.new.levels ≡ length levels.old.levels + 1) }
@@ -235,7 +236,7 @@ fn sized_level(
     block: ResidualBlock,
     sub: SubBlock,
     indices: &Indices,
-    signs: Signs,
+    signs: &Signs,
     j: usize,
     size: u64,
     state: &mut LevelState,
@@ -243,15 +244,15 @@ fn sized_level(
 ) -> Result<(), Breach>
     requires x { sub.x < 8 }
     requires y { sub.y < 8 }
-    requires indices { All (λ n. n < 16) indices.now.items }
-    requires few { length indices.now.items ≤ 16 }
-    requires index { j < length indices.now.items }
+    requires indices { All (λ n. n < 16) indices.now }
+    requires few { length indices.now ≤ 16 }
+    requires index { j < length indices.now }
     requires size { size < 2 ^ 41 }
     requires rice { state.old.rice ≤ 4 }
     requires sum { state.old.sum ≤ 32768 * j }
     requires room { length levels.old.levels < 1024 }
     ensures value { Judges result (state.new, levels.new)
-        (sized_level block sub indices.now.items signs j size (state.old, levels.old)) }
+        (sized_level block sub indices.now signs.now j size (state.old, levels.old)) }
     ensures rice { state.new.rice ≤ 4 }
     ensures sum { OnOk result (state.new.sum ≤ 32768 * (j + 1)) }
     ensures count { OnOk result (length levels.new.levels ≡ length levels.old.levels + 1) }
@@ -263,7 +264,7 @@ fn sized_level(
     }
     state.rice = next_rice(state.rice, size);
     state.sum = sum;
-    let index = u32::from(indices.as_slice()[j]);
+    let index = u32::from(indices.at(j));
     levels.push(level_of(block, sub, index, negative, size));
     Ok(())
 }
@@ -295,9 +296,9 @@ fn greatest_size(negative: bool) -> u64
 
 /// baseLevel of level `j`.
 #[inline(always)]
-fn base_level(signs: Signs, j: usize) -> u64
+fn base_level(signs: &Signs, j: usize) -> u64
     requires { j < 16 }
-    ensures value { result ≡ base_level signs j }
+    ensures value { result ≡ base_level signs.now j }
     ensures small { result ≤ 3 }
 {
     1 + u64::from(signs.greater1.flags[j])
@@ -306,8 +307,8 @@ fn base_level(signs: Signs, j: usize) -> u64
 
 /// The greatest baseLevel of level `j`.
 #[inline(always)]
-fn greatest_base(signs: Signs, j: usize) -> u64
-    ensures { result ≡ greatest_base signs j }
+fn greatest_base(signs: &Signs, j: usize) -> u64
+    ensures { result ≡ greatest_base signs.now j }
 {
     if j >= 8 {
         1
@@ -393,10 +394,10 @@ fn next_rice(rice: u32, size: u64) -> u32
 
 /// Whether level `j` of `count` is negative: a hidden sign is that of an odd sum.
 #[inline(always)]
-fn is_negative(signs: Signs, count: usize, j: usize, sum: u64) -> bool
+fn is_negative(signs: &Signs, count: usize, j: usize, sum: u64) -> bool
     requires index { j < count }
     requires few { count ≤ 16 }
-    ensures { result ≡ is_negative signs count j sum }
+    ensures { result ≡ is_negative signs.now count j sum }
 {
     if !signs.hidden {
         return sign_at(signs.signs, (count - 1 - j) as u32);

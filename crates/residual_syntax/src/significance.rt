@@ -1,22 +1,20 @@
 //! Which coefficients of a sub-block are coded.
 
-ghost use Rattle.std.specs.Prelude.{◌≡◌, ◌+◌, ◌*◌, ◌^◌, ◌<◌, ◌≤◌, [], length, OnOk};
+ghost use Rattle.std.specs.Prelude.{◌≡◌, ◌+◌, ◌*◌, ◌^◌, ◌<◌, ◌≤◌, length, IfSome, OnSome};
 ghost use Rattle.std.specs.List.{All};
 ghost use Rattle.spec_residuals.specs.BlockGeometry.{scan_place};
 ghost use Rattle.spec_cabac.specs.Engine.{IsLive};
 ghost use Rattle.spec_residuals.specs.Significance.{sub_block_at, coded_context, coded_sub_block_flag, nearness};
 ghost use Rattle.spec_residuals.specs.Significance.{diagonal_nearness, neighbour_context, size_context, sig_ctx};
 ghost use Rattle.spec_residuals.specs.Significance.{sig_context, sig_coeff_flag, sig_coeff, sig_coeffs, coded_indices};
-ghost use Rattle.cabac_contexts.specs.Takes.{Leaves, Takes};
+ghost use Rattle.cabac_contexts.specs.Takes.{Finds, Takes};
+ghost use Rattle.residual_syntax.specs.Judges.{Gathers};
 
-use arrayvec::ArrayVec;
+use crate::indices::Indices;
 use cabac_contexts::BinReader;
 use hv_base::Breach;
 use spec_cabac::{CODED_SUB_BLOCK_FLAG, SIG_COEFF_FLAG};
 use spec_residuals::{CTX_IDX_MAP, ResidualBlock, Scan, SubBlock, scan};
-
-/// The indices of the places of a sub-block that have a level, backwards.
-pub type Indices = ArrayVec<u8, 16>;
 
 /// coded_sub_block_flag.
 #[tactic(auto, unfolding(spec_residuals::specs::Significance::coded_sub_block_flag))]
@@ -52,7 +50,9 @@ fn coded_context(block: ResidualBlock, sub: SubBlock) -> usize
     }
 }
 
-/// Finds the indices of a sub-block that have a level: of that of the last level, from the last one's on.
+/// The indices of a sub-block that have a level: of that of the last level, from the last one's on. `None` where bits
+/// lack.
+#[inline(never)]
 #[tactic(auto, unfolding(spec_residuals::specs::Significance::coded_indices))]
 pub fn coded_indices<'a>(
     reader: &mut BinReader<'a>,
@@ -60,25 +60,31 @@ pub fn coded_indices<'a>(
     sub: SubBlock,
     last: u32,
     position: u32,
-    indices: &mut Indices,
-) -> Result<(), Breach>
+) -> Option<Indices>
     requires live { IsLive reader.old.interval }
     requires least { 2 ≤ block.log2 }
     requires greatest { block.log2 ≤ 5 }
     requires position { position < 16 }
-    requires none { indices.old.items ≡ [] }
-    ensures value { Leaves result indices.new.items reader.old reader.new (coded_indices block sub last position) }
-    ensures small { OnOk result (All (λ n. n < 16) indices.new.items) }
-    ensures few { OnOk result (length indices.new.items ≤ 16) }
+    ensures value { Finds result reader.old reader.new (coded_indices block sub last position) }
+    ensures small { IfSome result (λ indices. All (λ n. n < 16) indices) }
+    ensures few { IfSome result (λ indices. length indices ≤ 16) }
 {
-    if sub.index == last {
-        indices.push(position as u8);
-        sig_coeffs(reader, block, sub, false, position, indices)
-    } else {
-        sig_coeffs(reader, block, sub, 0 < sub.index, 16, indices)
-    }
+    let mut indices = Indices::new();
+    let ends = sub.index == last;
+    indices.note(position, ends);
+    let from = if ends { position } else { 16 };
+    sig_coeffs(
+        reader,
+        block,
+        sub,
+        !ends && 0 < sub.index,
+        from,
+        &mut indices,
+    )?;
+    Some(indices)
 }
 
+#[inline(always)]
 fn sig_coeffs<'a>(
     reader: &mut BinReader<'a>,
     block: ResidualBlock,
@@ -86,22 +92,22 @@ fn sig_coeffs<'a>(
     flagged: bool,
     from: u32,
     indices: &mut Indices,
-) -> Result<(), Breach>
+) -> Option<()>
     requires live { IsLive reader.old.interval }
     requires least { 2 ≤ block.log2 }
     requires greatest { block.log2 ≤ 5 }
     requires from { from ≤ 16 }
-    requires room { length indices.old.items + from ≤ 16 }
-    requires small { All (λ n. n < 16) indices.old.items }
-    ensures value { Leaves result indices.new.items reader.old reader.new
-        (sig_coeffs block sub flagged from indices.old.items) }
-    ensures small { OnOk result (All (λ n. n < 16) indices.new.items) }
-    ensures few { OnOk result (length indices.new.items ≤ 16) }
+    requires room { length indices.old + from ≤ 16 }
+    requires small { All (λ n. n < 16) indices.old }
+    ensures value { Gathers result indices.new reader.old reader.new
+        (sig_coeffs block sub flagged from indices.old) }
+    ensures small { OnSome result (All (λ n. n < 16) indices.new) }
+    ensures few { OnSome result (length indices.new ≤ 16) }
 {
     for i in 0..from {
         sig_coeff(reader, block, sub, flagged, from - 1 - i, indices)?;
     }
-    Ok(())
+    Some(())
 }
 
 #[inline(always)]
@@ -112,23 +118,22 @@ fn sig_coeff<'a>(
     flagged: bool,
     n: u32,
     indices: &mut Indices,
-) -> Result<(), Breach>
+) -> Option<()>
     requires live { IsLive reader.old.interval }
     requires least { 2 ≤ block.log2 }
     requires greatest { block.log2 ≤ 5 }
     requires index { n < 16 }
-    requires room { length indices.old.items < 16 }
-    requires small { All (λ n. n < 16) indices.old.items }
-    ensures value { Leaves result indices.new.items reader.old reader.new
-        (sig_coeff block sub flagged n indices.old.items) }
-    ensures count { length indices.new.items ≤ length indices.old.items + 1 }
-    ensures small { All (λ n. n < 16) indices.new.items }
+    requires room { length indices.old < 16 }
+    requires small { All (λ n. n < 16) indices.old }
+    ensures value { Gathers result indices.new reader.old reader.new
+        (sig_coeff block sub flagged n indices.old) }
+    ensures count { length indices.new ≤ length indices.old + 1 }
+    ensures small { All (λ n. n < 16) indices.new }
 {
-    let inferred = flagged && n == 0 && indices.is_empty();
-    if inferred || reader.decision(sig_context(block, sub, n))? {
-        indices.push(n as u8);
-    }
-    Ok(())
+    let inferred = flagged && n == 0 && indices.len() == 0;
+    let coded = inferred || reader.bin(sig_context(block, sub, n))?;
+    indices.note(n, coded);
+    Some(())
 }
 
 #[inline(always)]

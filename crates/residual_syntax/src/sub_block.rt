@@ -9,12 +9,15 @@ ghost use Rattle.spec_residuals.specs.Levels.{context_set};
 ghost use Rattle.spec_residuals.specs.Residual.{signs_of, coded_levels, coded_sub_block, sub_block};
 ghost use Rattle.cabac_contexts.specs.Takes.{Leaves, Takes};
 
+use crate::indices::Indices;
 use crate::level_list::Levels;
 use crate::remaining::{coded_signs, greater1_flags, greater2_flag, levels_from, sign_hidden};
-use crate::significance::{Indices, coded_indices, coded_sub_block_flag};
+use crate::significance::{coded_indices, coded_sub_block_flag};
 use cabac_contexts::BinReader;
-use hv_base::Breach;
+use hv_base::{Breach, FaultKind};
 use spec_residuals::{Progress, ResidualBlock, Signs, SubBlock, scan};
+
+const DATA_END: Breach = Breach::Fault(FaultKind::DataEnd);
 
 /// Reads the sub-block at index `i` of the scan, behind those of the indices above it. The last level stands at index
 /// `position` of the sub-block `last`.
@@ -89,9 +92,8 @@ fn coded_sub_block<'a>(
         (coded_sub_block block last position sub (progress.old, levels.old)) }
     ensures count { OnOk result (length levels.new.levels ≤ length levels.old.levels + 16) }
 {
-    let mut indices = Indices::new();
-    coded_indices(reader, block, sub, last, position, &mut indices)?;
-    if indices.is_empty() {
+    let indices = coded_indices(reader, block, sub, last, position).ok_or(DATA_END)?;
+    if indices.len() == 0 {
         return Ok(());
     }
     coded_levels(reader, block, sub, &indices, progress, levels)
@@ -110,17 +112,17 @@ fn coded_levels<'a>(
     requires live { IsLive reader.old.interval }
     requires x { sub.x < 8 }
     requires y { sub.y < 8 }
-    requires some { 0 < length indices.now.items }
-    requires few { length indices.now.items ≤ 16 }
-    requires indices { All (λ n. n < 16) indices.now.items }
-    requires room { length levels.old.levels + length indices.now.items ≤ 1024 }
+    requires some { 0 < length indices.now }
+    requires few { length indices.now ≤ 16 }
+    requires indices { All (λ n. n < 16) indices.now }
+    requires room { length levels.old.levels + length indices.now ≤ 1024 }
     ensures value { Leaves result (progress.new, levels.new) reader.old reader.new
-        (coded_levels block sub indices.now.items (progress.old, levels.old)) }
-    ensures count { OnOk result (length levels.new.levels ≤ length levels.old.levels + length indices.now.items) }
+        (coded_levels block sub indices.now (progress.old, levels.old)) }
+    ensures count { OnOk result (length levels.new.levels ≤ length levels.old.levels + length indices.now) }
 {
     let set = context_set(block, sub, progress.raised);
     let signs = signs_of(reader, block, set, indices)?;
-    levels_from(reader, block, sub, indices, signs, levels)?;
+    levels_from(reader, block, sub, indices, &signs, levels)?;
     progress.raised = signs.greater1.context == 0;
     Ok(())
 }
@@ -143,9 +145,9 @@ fn signs_of<'a>(
 ) -> Result<Signs, Breach>
     requires live { IsLive reader.old.interval }
     requires set { set ≤ by_component block 3 1 }
-    requires some { 0 < length indices.now.items }
-    requires few { length indices.now.items ≤ 16 }
-    ensures { Takes (λ x. x) result reader.old reader.new (signs_of block set indices.now.items) }
+    requires some { 0 < length indices.now }
+    requires few { length indices.now ≤ 16 }
+    ensures { Takes (λ x. x) result reader.old reader.new (signs_of block set indices.now) }
 {
     let count = indices.len() as u32;
     let greater1 = greater1_flags(reader, block, set, count)?;

@@ -7,10 +7,10 @@ use Rattle.residual_syntax.proofs.remaining.levels_from.Given as goal
 
 abbrev pub invariant-loop-j : goal.invariant-loop-j
 invariant-loop-j l = record {
-  told : read (times l.j (l.count - l.j) (level_at l.block l.sub l.indices.items l.signs) (l.state, l.levels))
+  told : read (times l.j (l.count - l.j) (level_at l.block l.sub l.indices l.signs) (l.state, l.levels))
       (state_of l.reader)
       ≡ read
-      (times 0 (length l.indices.items) (level_at l.block l.sub l.indices.items l.signs) (first_state, l.fn.levels))
+      (times 0 (length l.indices) (level_at l.block l.sub l.indices l.signs) (first_state, l.fn.levels))
       (state_of l.fn.reader);
   live : IsLive l.reader.interval;
   rice : l.state.rice ≤ 4;

@@ -1,15 +1,14 @@
 use Rattle.std.proofs.Common.{◌-◌, arith}
-use Rattle.std.proofs.lemmas.Result.{err_from_is_err_and}
+use Rattle.spec_cabac.specs.Bins.{data_end}
 use Rattle.spec_cabac.proofs.Times.{times_goes_on, times_ends, times_done}
 use Rattle.spec_residuals.specs.Significance.{sig_coeff}
 use Rattle.residual_syntax.proofs.significance.sig_coeffs.Goals as goal
 
 pub returns-in_err-sig_coeff-clause-value : goal.returns-in_err-sig_coeff-clause-value
 returns-in_err-sig_coeff-clause-value c =
-    let p = err_from_is_err_and c.from_residual.result c.from_residual.ensures.1 in
-    rw (p.1, p.2) (times_ends (λ i. sig_coeff c.args.block c.args.sub c.args.flagged (c.args.from - 1 - i)) c.loop-i.i
-    c.args.from _ _ c.in_err-sig_coeff.field-0.0 _ c.loop-i-test.true c.in_err-sig_coeff.ensures.value
-    c.loop-i.invariant.told)
+    rw c.from_residual.ensures (times_ends
+    (λ i. sig_coeff c.args.block c.args.sub c.args.flagged (c.args.from - 1 - i)) c.loop-i.i c.args.from _ _ data_end _
+    c.loop-i-test.true c.in_err-sig_coeff.ensures.value c.loop-i.invariant.told)
 
 pub loop-i-preserved : goal.loop-i-preserved
 loop-i-preserved c = record {

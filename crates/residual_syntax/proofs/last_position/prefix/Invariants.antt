@@ -4,7 +4,7 @@ use Rattle.spec_cabac.specs.Engine.{IsLive}
 use Rattle.spec_cabac.specs.Bins.{read, unary, decision}
 use Rattle.spec_residuals.specs.LastPosition.{prefix_context, last_prefix}
 use Rattle.cabac_contexts.specs.Takes.{state_of}
-use Rattle.residual_syntax.proofs.last_position.last_prefix.Given as goal
+use Rattle.residual_syntax.proofs.last_position.prefix.Given as goal
 
 abbrev pub invariant-loop-i : goal.invariant-loop-i
 invariant-loop-i l = record {
