@@ -15,7 +15,7 @@ between a b c p q = omega arith
 less_than_all : (a b c d : ℕ) → a + 1 ≤ b → b ≤ c → c ≡ d → a < d
 less_than_all a b c d p q r = omega arith
 
-few_delays : (phase : Phase) → delay phase ≤ 10
+few_delays : (phase : Phase) → delay phase ≤ 12
 few_delays B = omega arith
 few_delays V = omega arith
 few_delays H = omega arith
@@ -60,8 +60,8 @@ unfolding lines_before
 later rows t u d e h =
     let b = phase_later rows t u d e 0 h in
     let v = phase_later rows t u d e 8 h in
-    let f = phase_later rows t u d e 9 h in
-    let s = phase_later rows t u d e 10 h in
+    let f = phase_later rows t u d e 10 h in
+    let s = phase_later rows t u d e 12 h in
     sums _ _ _ _ _ _ _ _ b v f s
 
 -- a line of a phase is one more of the phase
@@ -86,8 +86,8 @@ one_more : (rows row : ℕ) (phase : Phase) → row < rows
 unfolding lines_before
 one_more rows row B h = more_first _ _ _ _ _ (own_more rows row 0 h)
 one_more rows row V h = more_second _ _ _ _ _ (own_more rows row 8 h)
-one_more rows row H h = more_third _ _ _ _ _ (own_more rows row 9 h)
-one_more rows row S h = more_fourth _ _ _ _ _ (own_more rows row 10 h)
+one_more rows row H h = more_third _ _ _ _ _ (own_more rows row 10 h)
+one_more rows row S h = more_fourth _ _ _ _ _ (own_more rows row 12 h)
 
 -- fewer lines are drawn before a line than before a later one
 pub lines_less : (rows r s : ℕ) (p q : Phase) → r < rows
@@ -103,25 +103,25 @@ lines_less rows r s p q inside h =
     let le = later rows (r + delay p) (s + delay q) (delay p + 1) (delay q) after in
     between _ _ _ more le
 
-all_of : (rows other : ℕ) → other ≤ 10 → min rows (rows + 10 + 0 - other) ≡ rows
+all_of : (rows other : ℕ) → other ≤ 12 → min rows (rows + 12 + 0 - other) ≡ rows
 all_of rows other h = omega arith
 
 four_of : (a b c d r : ℕ) → a ≡ r → b ≡ r → c ≡ r → d ≡ r → a + b + c + d ≡ 4 * r
 four_of a b c d r p q s t = omega arith
 
-pub all_before : (rows : ℕ) → lines_before rows (rows + 10) 0 ≡ 4 * rows
+pub all_before : (rows : ℕ) → lines_before rows (rows + 12) 0 ≡ 4 * rows
 unfolding lines_before
 all_before rows =
-    four_of _ _ _ _ rows (all_of rows 0 (omega arith)) (all_of rows 8 (omega arith)) (all_of rows 9 (omega arith))
-    (all_of rows 10 (omega arith))
+    four_of _ _ _ _ rows (all_of rows 0 (omega arith)) (all_of rows 8 (omega arith)) (all_of rows 10 (omega arith))
+    (all_of rows 12 (omega arith))
 
 -- a line is drawn before all are
 pub lines_few : (rows row : ℕ) (phase : Phase) → row < rows
     → lines_before rows (row + delay phase) (delay phase) < 4 * rows
 lines_few rows row phase h =
     let more = one_more rows row phase h in
-    let turn : row + delay phase < rows + 10 = omega (arith, h, few_delays phase) in
-    let le = later rows (row + delay phase) (rows + 10) (delay phase + 1) 0 (inl turn) in
+    let turn : row + delay phase < rows + 12 = omega (arith, h, few_delays phase) in
+    let le = later rows (row + delay phase) (rows + 12) (delay phase + 1) 0 (inl turn) in
     let all = all_before rows in
     less_than_all _ _ _ _ more le all
 
@@ -136,16 +136,26 @@ unfolding lines_before
 none_before rows = no_sum _ _ _ _ (no_rows rows) (no_rows rows) (no_rows rows) (no_rows rows)
 
 -- a turn ends where the next one begins
-pub next_turn : (rows turn : ℕ) → lines_before rows turn 11 ≡ lines_before rows (turn + 1) 0
+pub next_turn : (rows turn : ℕ) → lines_before rows turn 13 ≡ lines_before rows (turn + 1) 0
 unfolding lines_before
 next_turn rows turn =
     let e : turn + 1 ≡ turn + 1 + 0 = omega arith in
-    ap (λ t. min rows (t - 0) + min rows (t - 8) + min rows (t - 9) + min rows (t - 10)) e
+    ap (λ t. min rows (t - 0) + min rows (t - 8) + min rows (t - 10) + min rows (t - 12)) e
 
 -- no phase comes behind B and before V
 pub next_phase : (rows turn : ℕ) → lines_before rows turn 1 ≡ lines_before rows turn 8
 unfolding lines_before
 next_phase rows turn = refl
+
+-- none behind V and before H
+pub behind_vertical : (rows turn : ℕ) → lines_before rows turn 9 ≡ lines_before rows turn 10
+unfolding lines_before
+behind_vertical rows turn = refl
+
+-- none behind H and before S
+pub behind_horizontal : (rows turn : ℕ) → lines_before rows turn 11 ≡ lines_before rows turn 12
+unfolding lines_before
+behind_horizontal rows turn = refl
 
 -- where one more line of a phase is drawn it has its line in the turn
 own_found : (rows turn d : ℕ) → min rows (turn + 0 - d) < min rows (turn + 1 - d)
@@ -188,10 +198,10 @@ line_found rows turn within V low high =
     let own = own_found rows turn 8 (grew_second _ _ _ _ _ within low high) in
     (own.0, own.1, stands_second _ _ _ _ _ within low high own.2)
 line_found rows turn within H low high =
-    let own = own_found rows turn 9 (grew_third _ _ _ _ _ within low high) in
+    let own = own_found rows turn 10 (grew_third _ _ _ _ _ within low high) in
     (own.0, own.1, stands_third _ _ _ _ _ within low high own.2)
 line_found rows turn within S low high =
-    let own = own_found rows turn 10 (grew_fourth _ _ _ _ _ within low high) in
+    let own = own_found rows turn 12 (grew_fourth _ _ _ _ _ within low high) in
     (own.0, own.1, stands_fourth _ _ _ _ _ within low high own.2)
 
 -- phases differ in their delay

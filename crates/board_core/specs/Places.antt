@@ -41,10 +41,10 @@ lines_of plan = sum_by picture_lines plan.pictures
 abbrev pub delay : Phase → ℕ
 delay B = 0
 delay V = 8
-delay H = 9
-delay S = 10
+delay H = 10
+delay S = 12
 
--- the turn of a line in its picture: turn k has B(k), V(k-8), H(k-9) and S(k-10), those that exist
+-- the turn of a line in its picture: turn k has B(k), V(k-8), H(k-10) and S(k-12), those that exist
 abbrev pub turn_of : Line → ℕ
 turn_of l = l.row + delay l.phase
 
@@ -66,8 +66,8 @@ unfoldable pub lines_before : ℕ → ℕ → ℕ → ℕ
 lines_before rows turn d =
     phase_lines_before rows turn d 0
     + phase_lines_before rows turn d 8
-    + phase_lines_before rows turn d 9
     + phase_lines_before rows turn d 10
+    + phase_lines_before rows turn d 12
 
 -- a line's ticket is the number of lines that are drawn before it
 abbrev pub ticket_of : FlightRows → Line → ℕ

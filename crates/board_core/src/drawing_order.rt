@@ -8,13 +8,13 @@ use hv_base::{Line, Phase};
 /// By how many rows a phase comes behind B.
 pub fn delay_of(phase: Phase) -> u32
     ensures value { result ≡ delay phase }
-    ensures small { result ≤ 10 }
+    ensures small { result ≤ 12 }
 {
     match phase {
         Phase::B => 0,
         Phase::V => 8,
-        Phase::H => 9,
-        Phase::S => 10,
+        Phase::H => 10,
+        Phase::S => 12,
     }
 }
 
@@ -39,8 +39,8 @@ pub fn count_before(rows: u32, turn: u32, behind: u32) -> u32
 {
     phase_lines(rows, turn, behind, 0)
         + phase_lines(rows, turn, behind, 8)
-        + phase_lines(rows, turn, behind, 9)
         + phase_lines(rows, turn, behind, 10)
+        + phase_lines(rows, turn, behind, 12)
 }
 
 /// The line of a picture of so many rows before which `within` of the picture's lines are drawn.
@@ -64,12 +64,12 @@ pub fn line_in(picture: u32, rows: u32, within: u32) -> Line
 fn turn_at(rows: u32, within: u32) -> u32
     requires rows { rows ≤ 512 }
     requires inside { within < 4 * rows }
-    ensures turn { result < rows + 10 }
+    ensures turn { result < rows + 12 }
     ensures from { lines_before rows result 0 ≤ within }
-    ensures below { within < lines_before rows result 11 }
+    ensures below { within < lines_before rows result 13 }
 {
     let mut low = 0;
-    let mut high = rows + 10;
+    let mut high = rows + 12;
     while high - low > 1 {
         let middle = low + (high - low) / 2;
         if count_before(rows, middle, 0) <= within {
@@ -82,20 +82,20 @@ fn turn_at(rows: u32, within: u32) -> u32
 }
 
 /// The phase of that line.
-#[tactic(auto, using(crate::proofs::Drawing::next_phase))]
+#[tactic(auto, using(crate::proofs::Drawing::next_phase, crate::proofs::Drawing::behind_vertical, crate::proofs::Drawing::behind_horizontal))]
 fn phase_at(rows: u32, turn: u32, within: u32) -> Phase
     requires rows { rows ≤ 512 }
-    requires turn { turn < rows + 10 }
+    requires turn { turn < rows + 12 }
     requires from { lines_before rows turn 0 ≤ within }
-    requires below { within < lines_before rows turn 11 }
+    requires below { within < lines_before rows turn 13 }
     ensures from { lines_before rows turn (delay result) ≤ within }
     ensures below { within < lines_before rows turn (delay result + 1) }
 {
     if within < count_before(rows, turn, 8) {
         Phase::B
-    } else if within < count_before(rows, turn, 9) {
-        Phase::V
     } else if within < count_before(rows, turn, 10) {
+        Phase::V
+    } else if within < count_before(rows, turn, 12) {
         Phase::H
     } else {
         Phase::S

@@ -61,8 +61,8 @@ ready_append plan s (x ∷ xs) ys first then_ys = (first.0, ready_append plan (a
 phase_cases : (p : Phase) → (p ≡ B) ⊎ ¬ (p ≡ B)
 phase_cases B = inl refl
 phase_cases V = inr (λ e. let d : 8 ≡ 0 = ap delay e in absurd (omega arith))
-phase_cases H = inr (λ e. let d : 9 ≡ 0 = ap delay e in absurd (omega arith))
-phase_cases S = inr (λ e. let d : 10 ≡ 0 = ap delay e in absurd (omega arith))
+phase_cases H = inr (λ e. let d : 10 ≡ 0 = ap delay e in absurd (omega arith))
+phase_cases S = inr (λ e. let d : 12 ≡ 0 = ap delay e in absurd (omega arith))
 
 -- a flag that is set and taken back
 flag_again : (flags : List Bool) (t u : ℕ) → t < length flags → get_or flags u false ≡ false

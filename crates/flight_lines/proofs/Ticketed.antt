@@ -10,6 +10,7 @@ use Rattle.hv_base.specs.declared.line.Phase.TheVariants.{B, V, H, S}
 use Rattle.flight_plan.specs.Flight.{FlightRows, PictureRows, no_picture, picture_at}
 use Rattle.board_core.specs.Places.{delay, IsLine, line_of, lines_before, lines_of, picture_lines, ticket_of}
 use Rattle.board_core.proofs.Drawing.{all_before, line_found, next_phase, next_turn, none_before}
+use Rattle.board_core.proofs.Drawing.{behind_horizontal, behind_vertical}
 use Rattle.board_core.proofs.Order.{same_ticket, ticket_inside}
 use Rattle.sample_words.specs.declared.sizes.FlightSizes.{FlightSizes}
 use Rattle.sample_words.specs.Sizes.{rows}
@@ -60,15 +61,17 @@ in_turn r turn within phase low high =
       before = ap (λ t. lines_before r t (delay phase)) same ∙ found.2;
     }
 
-of_turn : (r turn within : ℕ) → lines_before r turn 0 ≤ within → within < lines_before r turn 11 → IsWithin r within
+of_turn : (r turn within : ℕ) → lines_before r turn 0 ≤ within → within < lines_before r turn 13 → IsWithin r within
 of_turn r turn within first last =
     elim (cases_lt within (lines_before r turn 8)) [
       | inl built ↦
           in_turn r turn within B first (subst (λ (n : ℕ). within < n) (sym (next_phase r turn)) built)
-      | inr behind_b ↦ elim (cases_lt within (lines_before r turn 9)) [
-        | inl less ↦ in_turn r turn within V behind_b less
-        | inr behind_v ↦ elim (cases_lt within (lines_before r turn 10)) [
-          | inl less ↦ in_turn r turn within H behind_v less
+      | inr behind_b ↦ elim (cases_lt within (lines_before r turn 10)) [
+        | inl less ↦
+            in_turn r turn within V behind_b (subst (λ (n : ℕ). within < n) (sym (behind_vertical r turn)) less)
+        | inr behind_v ↦ elim (cases_lt within (lines_before r turn 12)) [
+          | inl less ↦
+              in_turn r turn within H behind_v (subst (λ (n : ℕ). within < n) (sym (behind_horizontal r turn)) less)
           | inr behind_h ↦ in_turn r turn within S behind_h last
         ]
       ]
@@ -78,9 +81,9 @@ within_picture : (r within : ℕ) → within < 4 * r → IsWithin r within
 within_picture r within less =
     let none = none_before r in
     let all = all_before r in
-    let turn = rises (λ t. lines_before r t 0) (r + 10) within (omega (arith, none)) (omega (arith, all, less)) in
+    let turn = rises (λ t. lines_before r t 0) (r + 12) within (omega (arith, none)) (omega (arith, all, less)) in
     let e : turn.at + 1 ≡ suc turn.at = omega arith in
-    let next : lines_before r turn.at 11 ≡ lines_before r (suc turn.at) 0 =
+    let next : lines_before r turn.at 13 ≡ lines_before r (suc turn.at) 0 =
     next_turn r turn.at ∙ ap (λ t. lines_before r t 0) e in
     let high = turn.high in
     of_turn r turn.at within turn.low (omega (arith, next, high))

@@ -18,6 +18,6 @@ returns-clause-below c =
     let rows = c.args.rows in
     let low = c.loop-high.low in
     let last : c.loop-high.high ≡ low + 1 = omega (arith, c.loop-high.invariant.order, c.loop-high-test.false) in
-    let e : lines_before rows low 11 ≡ lines_before rows c.loop-high.high 0 =
+    let e : lines_before rows low 13 ≡ lines_before rows c.loop-high.high 0 =
     next_turn rows low ∙ ap (λ t. lines_before rows t 0) (sym last) in
     omega (arith, e, c.loop-high.invariant.below)

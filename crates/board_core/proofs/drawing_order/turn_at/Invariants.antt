@@ -6,7 +6,7 @@ abbrev pub invariant-loop-high : goal.invariant-loop-high
 invariant-loop-high l =
     record {
       order : l.low < l.high;
-      last : l.high ≤ l.rows + 10;
+      last : l.high ≤ l.rows + 12;
       from : lines_before l.rows l.low 0 ≤ l.within;
       below : l.within < lines_before l.rows l.high 0;
     }
