@@ -8,4 +8,5 @@ pub mod Products
 pub mod Holding
 pub mod ByteJoining
 pub mod Means
+pub mod Plain
 pub mod Lanes

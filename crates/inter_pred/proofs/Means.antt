@@ -1,5 +1,5 @@
 -- Samples of 8 bits by default weights, over what is held of predictions.
-use Rattle.std.proofs.Common.{◌≡◌, ℕ, ◌+◌, ◌-◌, ◌/◌, ◌%◌, min, ℤ, pos, negsuc, ◌+ℤ◌, ◌-ℤ◌, arith}
+use Rattle.std.proofs.Common.{◌≡◌, ℕ, ◌+◌, ◌-◌, ◌*◌, ◌/◌, ◌%◌, min, ℤ, pos, negsuc, ◌+ℤ◌, ◌-ℤ◌, arith}
 use Rattle.std.proofs.lemmas.Int.{ints, clamps}
 use Rattle.std.specs.Int.{int_shr}
 use Rattle.spec_arithmetic.specs.Clipping.{clip1}
@@ -25,3 +25,7 @@ unfolding default_two rounded_if_shifted
 two_is p q =
     clipped_half (p + q) (p / 2 + q / 2 + (p % 2 + q % 2) / 2)
     (pos p -ℤ pos 16896 +ℤ (pos q -ℤ pos 16896) +ℤ pos 64) (omega (arith, ints)) (omega arith)
+
+pub held_back : (s : ℕ) → min s 255 ≡ default_one 8 (pos (64 * s))
+unfolding default_one rounded_if_shifted
+held_back s = omega (arith, ints, clamps)

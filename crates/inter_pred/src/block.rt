@@ -28,7 +28,7 @@ pub struct PredictionBlock {
 
 /// The fraction of a vector in luma, in quarters of a sample.
 #[tactic(auto, unfolding(spec_inter_prediction::specs::Luma::quarter))]
-fn quarter(v: i16) -> u32
+pub(crate) fn quarter(v: i16) -> u32
     ensures value { result ≡ quarter v }
     ensures small { result < 8 }
 {
@@ -37,7 +37,7 @@ fn quarter(v: i16) -> u32
 
 /// The fraction of a vector in chroma, in eighths of a sample.
 #[tactic(auto, unfolding(spec_inter_prediction::specs::Chroma::eighth))]
-fn eighth(v: i16) -> u32
+pub(crate) fn eighth(v: i16) -> u32
     ensures value { result ≡ eighth v }
     ensures small { result < 8 }
 {
@@ -45,7 +45,7 @@ fn eighth(v: i16) -> u32
 }
 
 /// Where the samples begin that the luma filter meets.
-fn luma_first(place: u32, v: i16) -> i32
+pub(crate) fn luma_first(place: u32, v: i16) -> i32
     requires { place ≤ 65536 }
     ensures value { result ≡ luma_first place v }
     ensures high { result ≤ℤ pos 536870912 }
@@ -54,7 +54,7 @@ fn luma_first(place: u32, v: i16) -> i32
 }
 
 /// Where the samples begin that the chroma filter meets.
-fn chroma_first(place: u32, v: i16) -> i32
+pub(crate) fn chroma_first(place: u32, v: i16) -> i32
     requires { place ≤ 65536 }
     ensures value { result ≡ chroma_first place v }
     ensures high { result ≤ℤ pos 536870912 }

@@ -2,7 +2,8 @@
 
 ghost use Rattle.std.specs.Prelude.{◌≡◌, ◌<◌, ◌≤◌, ◌+◌, ◌*◌, ℕ, ℤ, pos, ◌+ℤ◌, ◌≤ℤ◌, ◌⊎◌};
 ghost use Rattle.spec_inter_prediction.specs.Taps.{filtered};
-ghost use Rattle.inter_pred.specs.Passes.{at_z, filter};
+ghost use Rattle.spec_inter_prediction.specs.Weighting.{default_one};
+ghost use Rattle.inter_pred.specs.Passes.{at, at_z, filter};
 
 use crate::between::Fractions;
 use crate::bytes::filter_bytes;
@@ -10,7 +11,7 @@ use crate::down::columns_at;
 use crate::prediction::Prediction;
 use crate::reference::{RefWindow, Window};
 use crate::scratch::Scratch;
-use crate::whole::copy_bytes;
+use crate::whole::{copy_bytes, lay_bytes};
 use crate::width::in_eights;
 use crate::window::gather_bytes;
 
@@ -68,6 +69,35 @@ fn whole<V: RefWindow, const TAPS: usize>(
     };
     gather_bytes(view, place, &mut scratch.bytes);
     copy_bytes(&scratch.bytes, wide, first.height, &mut out.samples);
+}
+
+/// The samples of a block at whole samples by one list and default weights, which are those of the picture.
+pub fn whole_samples<V: RefWindow, const TAPS: usize>(
+    view: &mut V,
+    first: Window,
+    scratch: &mut Scratch,
+    out: &mut [u16; 4096],
+)
+    requires taps { (TAPS ≡ 8) ⊎ (TAPS ≡ 4) }
+    requires size { (first.width ≤ 64) × (first.height ≤ 64) }
+    requires place { (first.x ≤ℤ pos 536870912) × (first.y ≤ℤ pos 536870912) }
+    requires small { (x y : ℤ) → V.reference_at view.old first.picture first.component x y < 256 }
+    ensures value { (x y : ℕ) → x < first.width → y < first.height
+        → at out.new (64 * y + x) ≡ default_one 8 (filtered (filter TAPS 0) (filter TAPS 0) 8
+        (λ i j. pos (V.reference_at view.old first.picture first.component (first.x +ℤ pos x +ℤ pos i)
+        (first.y +ℤ pos y +ℤ pos j)))) }
+    ensures same { V.reference_at view.new ≡ V.reference_at view.old }
+{
+    let before = (TAPS / 2) as i32 - 1;
+    let wide = in_eights(first.width);
+    let place = Window {
+        x: first.x + before,
+        y: first.y + before,
+        width: wide,
+        ..first
+    };
+    gather_bytes(view, place, &mut scratch.bytes);
+    lay_bytes(&scratch.bytes, wide, first.height, out);
 }
 
 /// A block at whole lines and a fraction of a column.

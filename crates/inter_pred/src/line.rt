@@ -37,7 +37,7 @@ pub fn held_line(line: &[u16], x: i32, greatest: u16, out: &mut [u16])
 
 /// Samples of a line from a place on.
 #[inline(always)]
-fn copy_line(line: &[u16], from: usize, greatest: u16, out: &mut [u16])
+pub(crate) fn copy_line(line: &[u16], from: usize, greatest: u16, out: &mut [u16])
     requires { from + length out.old ≤ length line.now }
     ensures { (k : ℕ) → k < length out.old → at out.new k ≡ min (at line.now (from + k)) greatest }
 {

@@ -14,7 +14,7 @@ use crate::place::depth_of;
 use crate::scratch::InterScratch;
 use ctu_motion::reference_in;
 use inter_pred::{
-    Prediction, PredictionBlock, RefWindow, Scratch, chroma, luma, weigh_one, weigh_two,
+    Prediction, PredictionBlock, RefWindow, Scratch, chroma, chroma_one, luma, luma_one, weigh_two,
 };
 use spec_inter_prediction::Weighting;
 use spec_motion::Vector;
@@ -64,6 +64,7 @@ fn predict_list<V: RefWindow>(
 }
 
 /// The samples of a block by a vector of a list alone.
+#[tactic(auto, unfolding(spec_reconstruction::specs::Inter::predicted_by))]
 pub fn by_one<V: RefWindow>(
     view: &mut V,
     inter: &UnitInter<'_>,
@@ -88,19 +89,19 @@ pub fn by_one<V: RefWindow>(
         list part.c vector (part.block.x + x) (part.block.y + y)) }
     ensures same { V.reference_at view.new ≡ V.reference_at view.old }
 {
-    predict_list(
-        view,
-        inter,
-        format,
-        part,
-        list,
-        vector,
-        &mut scratch.scratch,
-        &mut scratch.first,
-    );
-    let (width, height) = (part.block.width as usize, part.block.height as usize);
+    let picture = reference_in(inter.slice, list, vector.ref_idx).picture;
     let depth = depth_of(format, part.c);
-    weigh_one(&scratch.first, list, weighting, depth, width, height, out);
+    let (block, mv) = (part.block, vector.mv);
+    let (room, first) = (&mut scratch.scratch, &mut scratch.first);
+    if part.c == 0 {
+        luma_one(
+            view, picture, block, mv, list, weighting, depth, room, first, out,
+        );
+    } else {
+        chroma_one(
+            view, picture, part.c, block, mv, list, weighting, depth, room, first, out,
+        );
+    }
 }
 
 /// The samples of a block by vectors of both lists.

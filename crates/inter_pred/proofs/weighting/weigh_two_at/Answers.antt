@@ -1,6 +1,6 @@
 use Rattle.std.proofs.Common.{arith}
 use Rattle.spec_inter_prediction.specs.Weighting.{IsWeights}
-use Rattle.inter_pred.proofs.weighting.weigh_one.Goals as goal
+use Rattle.inter_pred.proofs.weighting.weigh_two_at.Goals as goal
 
 pub lines-requires-in-Explicit-clause-log2_wd : goal.lines-requires-in-Explicit-clause-log2_wd
 lines-requires-in-Explicit-clause-log2_wd c =
