@@ -1,8 +1,9 @@
 -- A list of which a part was written over.
 use Rattle.std.proofs.Common.{◌≡◌, ℕ, ◌+◌, ◌-◌, ◌<◌, ◌≤◌, ◌&&◌, cond, nat_le, nat_lt, List, inl, inr, length, get_or}
-use Rattle.std.proofs.Common.{take, drop, true, ap, ◌∙◌, arith}
+use Rattle.std.proofs.Common.{slice_set, take, drop, true, ap, ◌∙◌, arith}
 use Rattle.std.specs.List.{between}
 use Rattle.std.proofs.lemmas.Bool.{cases_lt}
+use Rattle.std.proofs.lemmas.Grind.{common_steps}
 use Rattle.std.proofs.lemmas.Bool.Decides.{nat_tests}
 use Rattle.std.proofs.lemmas.List.Edits.{get_or-between, length-between}
 use Rattle.std.proofs.lemmas.List.{get_or-take, get_or-drop, get_or-append_right, get_or_append_left, length-take-le}
@@ -61,3 +62,22 @@ block_at a k n from xs ys block q room enough many same =
     → get_or (between from (from + n) block) (q - a) 0 ≡ get_or block (from + (q - a)) 0 =
     λ is. get_or-between block from (from + n) (q - a) 0 (grind (arith, nat_tests)) in
     grind (arith, nat_tests)
+
+-- one more sum of a list
+pub sums_more : (k v : ℕ) (sums : List ℕ) (f : ℕ → ℕ) → k < length sums → v ≡ f k
+    → ((j : ℕ) → j < k → get_or sums j 0 ≡ f j)
+    → (j : ℕ) → j < k + 1 → get_or (slice_set sums k v) j 0 ≡ f j
+sums_more k v sums f room is told j lt = let t = told j in grind (arith, common_steps, nat_tests)
+
+-- sums that stand in a list of their own, laid over the part
+pub sums_at : (first n q new old : ℕ) (sums : List ℕ) (f : ℕ → ℕ → ℕ)
+    → ((j : ℕ) → j < n → get_or sums j 0 ≡ f (first + j) j)
+    → new ≡ cond (nat_le first q && nat_lt q (first + n)) (get_or sums (0 + (q - first)) 0) old
+    → new ≡ cond (nat_le first q && nat_lt q (first + n)) (f q (q - first)) old
+sums_at first n q new old sums f told laid = elim (cases_lt q first) [
+  | inl lt ↦ grind (arith, nat_tests)
+  | inr le ↦ let place : first + (q - first) ≡ q = omega arith in
+      let there : f (first + (q - first)) (q - first) ≡ f q (q - first) = ap (λ (p : ℕ). f p (q - first)) place in
+      let t = told (q - first) in
+      grind (arith, nat_tests)
+]

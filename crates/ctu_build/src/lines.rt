@@ -219,10 +219,12 @@ fn add_line<const N: usize>(
         (slice_index_or values.old q 0))
         (slice_index_or values.old q 0) }
 {
+    let mut sums = [0; N];
     for k in 0..N {
         let place = line.first + k;
-        values[place] = added(values[place], known[place], residuals[line.from + k], depth);
+        sums[k] = added(values[place], known[place], residuals[line.from + k], depth);
     }
+    lay_line::<N>(values, line.first, &sums, 0);
 }
 
 /// A sample and a residual, where the sample is known.
@@ -232,11 +234,8 @@ fn added(sample: u16, known: bool, residual: i32, depth: u32) -> u16
     requires residual { IsResidual residual }
     ensures { result ≡ added depth known residual sample }
 {
-    if known {
-        clipped(i32::from(sample) + residual, depth)
-    } else {
-        sample
-    }
+    let sum = clipped(i32::from(sample) + residual, depth);
+    if known { sum } else { sample }
 }
 
 /// Clip1.
