@@ -125,7 +125,7 @@ fn across(left: &[u16], above: &[u16], direction: Direction, turned: &mut [u16],
     ensures rest { (k : ℕ) → 2 ^ direction.log2 * 2 ^ direction.log2 ≤ k → at out.new k ≡ at out.old k }
 {
     angular(left, above, direction, turned);
-    transpose(turned, columns(direction.log2), out);
+    transpose(turned, direction.log2, out);
 }
 
 /// Writes the samples on the left, from the corner down.
@@ -140,28 +140,48 @@ fn turn(edge: &[u16], n: usize, left: &mut [u16; 65])
 }
 
 /// Writes lines as columns.
-fn transpose(turned: &[u16], n: usize, out: &mut [u16])
-    requires n { n ≤ 32 }
-    requires turned { n * n ≤ length turned.now }
-    requires out { n * n ≤ length out.old }
-    ensures value { (x y : ℕ) → x < n → y < n → at out.new (n * y + x) ≡ at turned.now (n * x + y) }
-    ensures rest { (k : ℕ) → n * n ≤ k → at out.new k ≡ at out.old k }
+fn transpose(turned: &[u16], log2: u32, out: &mut [u16])
+    requires log2 { (2 ≤ log2) × (log2 ≤ 5) }
+    requires turned { 2 ^ log2 * 2 ^ log2 ≤ length turned.now }
+    requires out { 2 ^ log2 * 2 ^ log2 ≤ length out.old }
+    ensures value { (x y : ℕ) → x < 2 ^ log2 → y < 2 ^ log2
+        → at out.new (2 ^ log2 * y + x) ≡ at turned.now (2 ^ log2 * x + y) }
+    ensures rest { (k : ℕ) → 2 ^ log2 * 2 ^ log2 ≤ k → at out.new k ≡ at out.old k }
 {
-    for y in 0..n {
-        transpose_line(turned, n, y, out);
+    match log2 {
+        2 => transpose_lines::<4>(turned, out),
+        3 => transpose_lines::<8>(turned, out),
+        4 => transpose_lines::<16>(turned, out),
+        _ => transpose_lines::<32>(turned, out),
+    }
+}
+
+/// Writes so many lines as columns.
+#[inline(always)]
+fn transpose_lines<const COUNT: usize>(turned: &[u16], out: &mut [u16])
+    requires few { COUNT ≤ 32 }
+    requires turned { COUNT * COUNT ≤ length turned.now }
+    requires out { COUNT * COUNT ≤ length out.old }
+    ensures value { (x y : ℕ) → x < COUNT → y < COUNT → at out.new (COUNT * y + x) ≡ at turned.now (COUNT * x + y) }
+    ensures rest { (k : ℕ) → COUNT * COUNT ≤ k → at out.new k ≡ at out.old k }
+{
+    for y in 0..COUNT {
+        transpose_line::<COUNT>(turned, y, out);
     }
 }
 
 /// Writes a column as a line.
-fn transpose_line(turned: &[u16], n: usize, y: usize, out: &mut [u16])
-    requires n { n ≤ 32 }
-    requires y { y < n }
-    requires turned { n * n ≤ length turned.now }
-    requires out { n * y + n ≤ length out.old }
+#[inline(always)]
+fn transpose_line<const COUNT: usize>(turned: &[u16], y: usize, out: &mut [u16])
+    requires few { COUNT ≤ 32 }
+    requires y { y < COUNT }
+    requires turned { COUNT * COUNT ≤ length turned.now }
+    requires out { COUNT * y + COUNT ≤ length out.old }
     ensures { (q : ℕ) → at out.new q
-        ≡ cond (nat_le (n * y) q && nat_lt q (n * y + n)) (at turned.now (n * (q - n * y) + y)) (at out.old q) }
+        ≡ cond (nat_le (COUNT * y) q && nat_lt q (COUNT * y + COUNT)) (at turned.now (COUNT * (q - COUNT * y) + y))
+        (at out.old q) }
 {
-    for x in 0..n {
-        out[n * y + x] = turned[n * x + y];
+    for x in 0..COUNT {
+        out[COUNT * y + x] = turned[COUNT * x + y];
     }
 }

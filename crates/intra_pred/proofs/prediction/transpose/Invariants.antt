@@ -1,9 +1,0 @@
-use Rattle.std.proofs.Common.{◌≡◌, ◌≤◌, ◌<◌, ℕ, ◌+◌, ◌*◌}
-use Rattle.spec_intra_prediction.specs.Neighbours.{at}
-use Rattle.intra_pred.proofs.prediction.transpose.Given as goal
-
-abbrev pub invariant-loop-y : goal.invariant-loop-y
-invariant-loop-y l = record {
-  told : (i j : ℕ) → i < l.n → j < l.y → at l.out (l.n * j + i) ≡ at l.turned (l.n * i + j);
-  rest : (k : ℕ) → l.n * l.n ≤ k → at l.out k ≡ at l.fn.out k;
-}
