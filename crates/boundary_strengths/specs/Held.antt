@@ -1,11 +1,9 @@
 -- What is known beside a unit, and what the marks of its places say.
-use Rattle.std.specs.Prelude.{◌≡◌, ℕ, ◌-◌, ◌<◌, ◌==◌, pos, ◌-ℤ◌, Bool, false, List, Option, slice_index_or}
+use Rattle.std.specs.Prelude.{◌≡◌, ℕ, ◌-◌, ◌<◌, ◌==◌, Bool, false, List, Option, slice_index_or}
 use Rattle.std.specs.Prelude.{if◌then◌else◌}
 use Rattle.ctu_records.specs.declared.item.Item.{Item}
 use Rattle.ctu_records.specs.Places.{by_place}
-use Rattle.ctu_records.specs.Tree.{qp_at}
 use Rattle.spec_boundary_strengths.specs.PictureBuffer.{PlaceMotion}
-use Rattle.spec_boundary_strengths.specs.declared.place.UnitPlace.{UnitPlace}
 use Rattle.spec_boundary_strengths.specs.Edges.{is_transform_left, is_transform_top, is_prediction_left}
 use Rattle.spec_boundary_strengths.specs.Edges.{is_prediction_top}
 use Rattle.spec_boundary_strengths.specs.Places.{kept_at}
@@ -40,13 +38,3 @@ pub record AreMarked (pcm_disabled : Bool) (items : List Item) (marks : Marks) :
       → by_place false marks.prediction_top i j ≡ is_prediction_top items i j
   pub coded : (i j : ℕ) → i < 16 → j < 16 → by_place false marks.coded i j ≡ coded_at items i j
   pub kept : (i j : ℕ) → i < 16 → j < 16 → by_place false marks.kept i j ≡ kept_at pcm_disabled items i j
-
--- a place whose edges have no strength, by pcm_loop_filter_disabled_flag and QpBdOffsetY
-unfoldable pub inner_place : Bool → ℕ → List Item → ℕ → ℕ → UnitPlace
-inner_place pcm_disabled qp_bd_offset items x y = record {
-  left_strength = 0;
-  top_strength = 0;
-  coded = coded_at items x y;
-  qp_y = pos (qp_at items x y) -ℤ pos qp_bd_offset;
-  kept = kept_at pcm_disabled items x y;
-}

@@ -9,7 +9,7 @@ ghost use Rattle.spec_motion.specs.Units.{IsPlacedItem};
 ghost use Rattle.spec_boundary_strengths.specs.declared.place.UnitPlace.{UnitPlace};
 ghost use Rattle.spec_boundary_strengths.specs.Places.{unit_place};
 ghost use Rattle.spec_boundary_strengths.specs.Strengths.{left_strength, top_strength};
-ghost use Rattle.boundary_strengths.specs.Held.{AreMarked, beside_of, inner_place};
+ghost use Rattle.boundary_strengths.specs.Held.{AreMarked, beside_of};
 
 use crate::edges::{left_strength, top_strength};
 use crate::marks::{Marks, marks_of};
@@ -68,7 +68,7 @@ fn fill_row<V: PlaceMotions>(
     }
 }
 
-/// What is asked of a place. Most places are at no edge.
+/// What is asked of a place.
 fn place<V: PlaceMotions>(
     records: &Records,
     marks: &Marks,
@@ -86,29 +86,43 @@ fn place<V: PlaceMotions>(
         ≡ unit_place (beside_of sides.now (V.motion_at view.now)) sides.now.pcm_loop_filter_disabled
         sides.now.qp_bd_offset records.now.items x y }
 {
-    let inner = inner_place(records, marks, sides.qp_bd_offset, x, y);
-    if is_at_edge(marks, x, y) {
-        with_strengths(inner, marks, sides, view, x, y)
-    } else {
-        inner
+    let strengths = place_strengths(marks, sides, view, x, y);
+    UnitPlace {
+        left_strength: strengths.left,
+        top_strength: strengths.top,
+        coded: marks.coded[16 * y + x],
+        qp_y: qp_y(records.qp(x, y), sides.qp_bd_offset),
+        kept: marks.kept[16 * y + x],
     }
 }
 
-/// What is asked of a place at no edge.
-fn inner_place(records: &Records, marks: &Marks, qp_bd_offset: u8, x: usize, y: usize) -> UnitPlace
+/// The strengths of the edges at the left of a place and at its top.
+#[derive(Clone, Copy)]
+struct Strengths {
+    left: u8,
+    top: u8,
+}
+
+/// Those of a place. Most places are at no edge.
+#[inline(always)]
+fn place_strengths<V: PlaceMotions>(
+    marks: &Marks,
+    sides: &UnitSides,
+    view: &V,
+    x: usize,
+    y: usize,
+) -> Strengths
     requires x { x < 16 }
     requires y { y < 16 }
-    requires offset { qp_bd_offset ≤ 48 }
-    ensures { (pcm_disabled : Bool) → AreMarked pcm_disabled records.now.items marks.now
-        → qp_at records.now.items x y ≤ 127
-        → result ≡ inner_place pcm_disabled qp_bd_offset records.now.items x y }
+    ensures left { (pcm_disabled : Bool) (items : List Item) → AreMarked pcm_disabled items marks.now
+        → result.left ≡ left_strength (beside_of sides.now (V.motion_at view.now)) items x y }
+    ensures top { (pcm_disabled : Bool) (items : List Item) → AreMarked pcm_disabled items marks.now
+        → result.top ≡ top_strength (beside_of sides.now (V.motion_at view.now)) items x y }
 {
-    UnitPlace {
-        left_strength: 0,
-        top_strength: 0,
-        coded: marks.coded[16 * y + x],
-        qp_y: qp_y(records.qp(x, y), qp_bd_offset),
-        kept: marks.kept[16 * y + x],
+    if is_at_edge(marks, x, y) {
+        edge_strengths(marks, sides, view, x, y)
+    } else {
+        Strengths { left: 0, top: 0 }
     }
 }
 
@@ -127,29 +141,26 @@ fn is_at_edge(marks: &Marks, x: usize, y: usize) -> bool
         | marks.prediction_top[k]
 }
 
-/// A place with the strengths of its edges.
+/// Those of a place at an edge.
 #[inline(never)]
-fn with_strengths<V: PlaceMotions>(
-    inner: UnitPlace,
+fn edge_strengths<V: PlaceMotions>(
     marks: &Marks,
     sides: &UnitSides,
     view: &V,
     x: usize,
     y: usize,
-) -> UnitPlace
+) -> Strengths
     requires x { x < 16 }
     requires y { y < 16 }
-    ensures { (pcm_disabled : Bool) (items : List Item) → AreMarked pcm_disabled items marks.now
-        → result ≡ record inner {
-          left_strength = left_strength (beside_of sides.now (V.motion_at view.now)) items x y;
-          top_strength = top_strength (beside_of sides.now (V.motion_at view.now)) items x y;
-        } }
+    ensures left { (pcm_disabled : Bool) (items : List Item) → AreMarked pcm_disabled items marks.now
+        → result.left ≡ left_strength (beside_of sides.now (V.motion_at view.now)) items x y }
+    ensures top { (pcm_disabled : Bool) (items : List Item) → AreMarked pcm_disabled items marks.now
+        → result.top ≡ top_strength (beside_of sides.now (V.motion_at view.now)) items x y }
 {
     let motion = view.motion(x + 1, y + 1);
-    UnitPlace {
-        left_strength: left_strength(marks, sides, view, &motion, x, y),
-        top_strength: top_strength(marks, sides, view, &motion, x, y),
-        ..inner
+    Strengths {
+        left: left_strength(marks, sides, view, &motion, x, y),
+        top: top_strength(marks, sides, view, &motion, x, y),
     }
 }
 
