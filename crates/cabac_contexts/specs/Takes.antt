@@ -1,8 +1,10 @@
 -- What a call does to a reader of bins.
-use Rattle.std.specs.Prelude.{◌≡◌, Option, None, Some, Result, Ok, Err, OnOk}
+use Rattle.std.specs.Prelude.{◌≡◌, ℕ, ◌+◌, ◌-◌, ◌/◌, ◌^◌, ◌<◌, ◌≤◌, Option, None, Some, Result, Ok, Err, OnOk}
 use Rattle.spec_cabac.specs.HvBase.{Breach}
-use Rattle.spec_cabac.specs.Engine.{IsLive}
-use Rattle.spec_cabac.specs.Bins.{State, Tree, data_end, read, Reads}
+use Rattle.spec_cabac.specs.SpecFormats.{◌>>=◌, give}
+use Rattle.spec_cabac.specs.Engine.{Engine, IsLive}
+use Rattle.spec_cabac.specs.Bins.{State, Tree, data_end, fixed, ones, read, Reads}
+use Rattle.cabac_engine.specs.Steps.{spelled}
 use Rattle.cabac_contexts.specs.declared.bin_reader.BinReader.{BinReader}
 
 abbrev pub state_of : BinReader → State
@@ -25,3 +27,16 @@ Leaves (Err e) value old new format = read format (state_of old) ≡ Err e
 abbrev pub Finds : {X : Type 0} → Option X → BinReader → BinReader → Tree X → Type 0
 Finds (Some x) old new format = (read format (state_of old) ≡ Ok (x, state_of new)) × IsLive new.interval
 Finds None old new format = read format (state_of old) ≡ Err data_end
+
+-- the number that the next 16 bypass bins spell, and how many of them are 1 before the first 0
+pub record IsAhead (bins prefix : ℕ) (e : Engine) : Type 0 where
+  pub is : spelled 16 e ≡ Some bins
+  pub few : prefix ≤ 16
+  pub told : prefix < 16 → bins / 2 ^ (15 - prefix) ≡ 2 ^ (prefix + 1) - 2
+
+-- a prefix of bypass bins, and a suffix of as many as that says
+abbrev pub prefixed : Breach → (ℕ → ℕ) → Tree (ℕ × ℕ)
+prefixed too_great size = do
+  prefix ← ones too_great
+  suffix ← fixed (size prefix)
+  give (prefix, suffix)

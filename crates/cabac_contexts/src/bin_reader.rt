@@ -1,10 +1,11 @@
 //! A reader of bins.
 
-ghost use Rattle.std.specs.Prelude.{◌≡◌, ◌+◌, ◌^◌, ◌<◌, ◌≤◌, IfOk, false};
+ghost use Rattle.std.specs.Prelude.{◌≡◌, ℕ, ◌+◌, ◌-◌, ◌*◌, ◌/◌, ◌%◌, ◌^◌, ◌<◌, ◌≤◌, IfOk, IfSome, Ok, false};
+ghost use Rattle.spec_cabac.specs.HvBase.{Breach};
 ghost use Rattle.spec_cabac.specs.Engine.{IsLive};
 ghost use Rattle.spec_cabac.specs.Bins.{decision, bypass, terminate, pcm_start, sample, pcm_end, fixed, ones};
-ghost use Rattle.spec_cabac.specs.Bins.{exp_golomb, truncated};
-ghost use Rattle.cabac_contexts.specs.Takes.{Finds, Reaches, Takes};
+ghost use Rattle.spec_cabac.specs.Bins.{exp_golomb, read, truncated};
+ghost use Rattle.cabac_contexts.specs.Takes.{Finds, IsAhead, Reaches, Takes, prefixed, state_of};
 
 use crate::contexts::Contexts;
 use cabac_engine::Interval;
@@ -135,6 +136,34 @@ impl<'a> BinReader<'a> {
         Err(too_great)
     }
 
+    /// The number that the next 16 bypass bins spell, and how many of them are 1 before the first 0; none is taken.
+    /// `None` where one of them lacks bits.
+    #[inline(always)]
+    pub fn ahead(&mut self) -> Option<(u32, u32)>
+        requires { IsLive self.old.interval }
+        ensures told { IfSome result (λ a. IsAhead a.0 a.1 self.old.interval) }
+        ensures same { self.new ≡ self.old }
+    {
+        let bins = self.interval.bins_ahead(16)?;
+        Some((bins, ones_of(bins)))
+    }
+
+    /// Takes a prefix, which was seen ahead, and a suffix of `size` bypass bins: what the suffix spells.
+    #[inline(always)]
+    pub fn take_prefixed(&mut self, bins: u32, prefix: u32, size: u32) -> u32
+        requires live { IsLive self.old.interval }
+        requires ahead { IsAhead bins prefix self.old.interval }
+        requires few { prefix + size < 16 }
+        ensures value { (too_great : Breach) (f : ℕ → ℕ) → f prefix ≡ size
+            → read (prefixed too_great f) (state_of self.old) ≡ Ok ((prefix, result), state_of self.new) }
+        ensures live { IsLive self.new.interval }
+        ensures small { result < 2 ^ size }
+    {
+        let taken = bins >> (15 - prefix - size);
+        self.interval.take_bins(prefix + 1 + size, taken);
+        low_digits(taken, size)
+    }
+
     /// A number by EGk binarization (9.3.3.3); the breach where its prefix has 32 ones.
     #[tactic(auto, unfolding(spec_cabac::specs::Bins::exp_golomb))]
     pub fn exp_golomb(&mut self, too_great: Breach, k: u32) -> Result<u64, Breach>
@@ -147,6 +176,25 @@ impl<'a> BinReader<'a> {
         let rest = self.fixed(k + n)?;
         Ok(power(k + n) - power(k) + u64::from(rest))
     }
+}
+
+/// How many of the 16 digits of a number are 1 before the first 0.
+#[inline(always)]
+fn ones_of(bins: u32) -> u32
+    requires { bins < 2 ^ 16 }
+    ensures few { result ≤ 16 }
+    ensures told { result < 16 → bins / 2 ^ (15 - result) ≡ 2 ^ (result + 1) - 2 }
+{
+    (2 * (65535 - bins) + 1).leading_zeros() - 15
+}
+
+/// The number that the last digits of one spell.
+#[inline(always)]
+fn low_digits(bins: u32, n: u32) -> u32
+    requires { n < 16 }
+    ensures { result ≡ bins % 2 ^ n }
+{
+    bins % (1 << n)
 }
 
 /// A power of two.

@@ -4,12 +4,13 @@ use Rattle.std.proofs.Common.{None, ◌^◌, ◌/◌, ◌%◌, List, take, drop,
 use Rattle.std.proofs.Common.{refl, sym, ap, ◌∙◌, arith}
 use Rattle.std.specs.Prelude.{nat_le}
 use Rattle.std.proofs.lemmas.Bool.{leb-true, leb-false, le-leb}
+use Rattle.std.proofs.lemmas.Option.{same_Some, none-some}
 use Rattle.std.proofs.Math.Nat.{mul-le-mul_right, mod-eq_of_lt, mod-lt, pow-le-pow_right}
 use Rattle.spec_bits.specs.Bits.{bits, digit, ◌>>=◌, number_of}
 use Rattle.spec_bits.proofs.Places.{length-bits}
 use Rattle.spec_cabac.specs.Engine.{Engine, IsLive, bypass_at}
 use Rattle.cabac_engine.specs.Ahead.{Ahead, IsKept, ahead, lengthened, reduced, engine}
-use Rattle.cabac_engine.specs.Steps.{bypasses_after}
+use Rattle.cabac_engine.specs.Steps.{bypasses_after, spelled}
 use Rattle.cabac_engine.proofs.Held.{divided, spelled_apart, spelled_below}
 use Rattle.cabac_engine.proofs.Stepping.{bypass_none, bypasses_if}
 
@@ -205,6 +206,7 @@ pub record Many (value held next n range wide : ℕ) (bytes : List ℕ) (a : Ahe
   pub live : IsLive (engine range (ahead (less_ranges value (held - n) wide) (held - n) next bytes))
   pub small : value / 2 ^ (held - n) / wide < 2 ^ n
   pub fits : value / 2 ^ (held - n) / wide < 4294967296
+  pub less : value / 2 ^ (held - n) / wide * wide * 2 ^ (held - n) % 18446744073709551616 ≤ value
 
 many_of : (value held next n range : ℕ) (bytes : List ℕ) → IsKept value held next bytes → n ≤ held → n ≤ 32
     → IsLive (engine range (ahead value held next bytes))
@@ -238,6 +240,7 @@ many_of value held next n range bytes kept few most live =
       live = record { low = live.low; high = live.high; below = omega (arith, top, under) };
       small = d.few;
       fits = omega (arith, d.few, power);
+      less = omega (arith, fits, d.less);
     }
 
 pub many : (value held next n range wide : ℕ) (bytes : List ℕ) (a : Ahead) → ahead value held next bytes ≡ a
@@ -249,3 +252,34 @@ many value held next n range wide bytes a view is kept few most live =
     let m = many_of value held next n range bytes kept (omega (arith, held_is, few)) most live2 in
     subst (λ w. Many value held next n range w bytes a) (sym is)
     (subst (λ x. Many value held next n range range bytes x) view m)
+
+-- bins that are read spell their number
+pub spelled_by : (n q : ℕ) (e t : Engine) → bypasses_after n 0 e ≡ Some (q, t) → spelled n e ≡ Some q
+spelled_by n q e t is = ap (λ r. r >>= (λ d. Some d.0)) is
+
+pub spelled_none : (n : ℕ) (e : Engine) → bypasses_after n 0 e ≡ None → None ≡ spelled n e
+spelled_none n e is = sym (ap (λ r. r >>= (λ d. Some d.0)) is)
+
+pub not_spelled : (n bins : ℕ) (e : Engine) → bypasses_after n 0 e ≡ None → spelled n e ≡ Some bins → 1 ≤ 0
+not_spelled n bins e none some = absurd (none-some bins (spelled_none n e none ∙ some))
+
+-- what is left of a value behind so many digits, less a product before those
+abbrev pub less_product : ℕ → ℕ → ℕ → ℕ
+less_product value r product = value - product * 2 ^ r % 18446744073709551616
+
+-- n bins of which the number is known, over a register
+pub record Taken (value held next n range wide number : ℕ) (bytes : List ℕ) (a : Ahead) : Type 0 where
+  pub less : number * wide * 2 ^ (held - n) % 18446744073709551616 ≤ value
+  pub kept : IsKept (less_product value (held - n) (number * wide)) (held - n) next bytes
+  pub told : bypasses_after n 0 (engine range a)
+      ≡ Some (number, engine range (ahead (less_product value (held - n) (number * wide)) (held - n) next bytes))
+  pub live : IsLive (engine range (ahead (less_product value (held - n) (number * wide)) (held - n) next bytes))
+
+pub taken : (value held next n range wide number : ℕ) (bytes : List ℕ) (a : Ahead)
+    → Many value held next n range wide bytes a → spelled n (engine range a) ≡ Some number
+    → Taken value held next n range wide number bytes a
+taken value held next n range wide number bytes a m is =
+    let q = value / 2 ^ (held - n) / wide in
+    let same : q ≡ number = same_Some q number (sym (spelled_by n q _ _ m.told) ∙ is) in
+    subst (λ k. Taken value held next n range wide k bytes a) same
+    (record { less = m.less; kept = m.kept; told = m.told; live = m.live })

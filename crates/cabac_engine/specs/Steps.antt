@@ -18,3 +18,9 @@ bypasses_after zero value e = Some (value, e)
 bypasses_after (suc n) value e = do
   bin ← bypass_at e
   bypasses_after n (2 * value + digit bin.0) bin.1
+
+-- the number that the next n bypass bins spell
+abbrev pub spelled : ℕ → Engine → Option ℕ
+spelled n e = do
+  d ← bypasses_after n 0 e
+  Some d.0

@@ -1,11 +1,12 @@
 //! The interval of arithmetic decoding, and the bins and samples that it gives.
 
 ghost use Rattle.std.specs.Prelude.{◌≡◌, ◌+◌, ◌-◌, ◌*◌, ◌^◌, ◌<◌, ◌≤◌, ◌∷◌, [], length, slice_index, IfSome, OnSome};
+ghost use Rattle.std.specs.Prelude.{Some};
 ghost use Rattle.std.specs.Prelude.{false, if◌then◌else◌};
 ghost use Rattle.spec_bits.specs.Bits.{bits, Finds, Gives};
 ghost use Rattle.spec_cabac.specs.Engine.{Engine, IsLive, start_at, doublings, renormalized_at, decision_at, bypass_at};
 ghost use Rattle.spec_cabac.specs.Engine.{terminate_at, number_at, pcm_start_at, sample_at, pcm_end_at, is_trailing};
-ghost use Rattle.cabac_engine.specs.Steps.{Steps, state_of, bypasses_after};
+ghost use Rattle.cabac_engine.specs.Steps.{Steps, state_of, bypasses_after, spelled};
 
 use crate::register::Register;
 use crate::transitions::context_after;
@@ -100,6 +101,36 @@ impl<'a> Interval<'a> {
             return None;
         }
         Some(self.register.halve_times(self.range, n))
+    }
+
+    /// The number that the next `n` bypass bins spell, the greatest digit first, none of which is taken; `None` where
+    /// one of them lacks bits.
+    #[inline(always)]
+    pub fn bins_ahead(&mut self, n: u32) -> Option<u32>
+        requires live { IsLive self.old }
+        requires few { n ≤ 32 }
+        ensures value { result ≡ spelled n self.old }
+        ensures same { self.new ≡ self.old }
+        ensures small { IfSome result (λ bins. bins < 2 ^ n) }
+    {
+        if !self.register.has(n) {
+            return None;
+        }
+        Some(self.register.bins_ahead(self.range, n))
+    }
+
+    /// Takes `n` bypass bins, which spell this number.
+    #[inline(always)]
+    pub fn take_bins(&mut self, n: u32, bins: u32)
+        requires live { IsLive self.old }
+        requires few { n ≤ 32 }
+        requires spelled { spelled n self.old ≡ Some bins }
+        ensures value { bypasses_after n 0 self.old ≡ Some (bins, self.new) }
+        ensures live { IsLive self.new }
+    {
+        if self.register.has(n) {
+            self.register.take_bins(self.range, n, bins);
+        }
     }
 
     /// A bin before termination (9.3.4.3.5). After a 1 no bin may be asked before the engine starts anew.

@@ -4,7 +4,7 @@ ghost use Rattle.std.specs.Prelude.{◌≡◌, ◌+◌, ◌-◌, ◌*◌, ◌/�
 ghost use Rattle.spec_bits.specs.Bits.{bits, number_of};
 ghost use Rattle.spec_cabac.specs.Engine.{IsLive, is_stop};
 ghost use Rattle.cabac_engine.specs.Ahead.{lengthened, reduced, engine};
-ghost use Rattle.cabac_engine.specs.Steps.{bypasses_after};
+ghost use Rattle.cabac_engine.specs.Steps.{bypasses_after, spelled};
 
 use crate::places::{byte_at, is_stop, number_at};
 use std::marker::Model;
@@ -240,5 +240,35 @@ impl<'a> Register<'a> {
         let bins = (self.value >> self.held) / range;
         self.value -= (bins * range) << self.held;
         bins as u32
+    }
+
+    /// The number that the next `n` bypass bins spell, none of which is taken.
+    #[inline(always)]
+    pub(crate) fn bins_ahead(&self, range: u32, n: u32) -> u32
+        requires few { n ≤ 32 }
+        requires held { n ≤ self.now.held }
+        requires live { IsLive (engine range self.now) }
+        ensures value { spelled n (engine range self.now) ≡ Some result }
+        ensures small { result < 2 ^ n }
+    {
+        let range = u64::from(range);
+        let bins = (self.value >> (self.held - n)) / range;
+        bins as u32
+    }
+
+    /// Takes `n` bypass bins, which spell this number.
+    #[inline(always)]
+    pub(crate) fn take_bins(&mut self, range: u32, n: u32, bins: u32)
+        requires few { n ≤ 32 }
+        requires held { n ≤ self.old.held }
+        requires live { IsLive (engine range self.old) }
+        requires spelled { spelled n (engine range self.old) ≡ Some bins }
+        ensures value { bypasses_after n 0 (engine range self.old) ≡ Some (bins, engine range self.new) }
+        ensures live { IsLive (engine range self.new) }
+    {
+        let bins = u64::from(bins);
+        let range = u64::from(range);
+        self.held -= n;
+        self.value -= (bins * range) << self.held;
     }
 }

@@ -1,3 +1,4 @@
 pub mod Positions
+pub mod ShortRemaining
 pub mod CabacContextsLemmas
 pub mod SpecCabacLemmas

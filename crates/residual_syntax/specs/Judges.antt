@@ -15,3 +15,8 @@ Judges (Err e) value format = (s : State) → read format s ≡ Err e
 abbrev pub Gathers : {Y : Type 0} → Option (Unit {0}) → Y → BinReader → BinReader → Tree Y → Type 0
 Gathers (Some x) value old new format = (read format (state_of old) ≡ Ok (value, state_of new)) × IsLive new.interval
 Gathers None value old new format = read format (state_of old) ≡ Err data_end
+
+-- a call answered what a format reads, and left the state behind it, or answered none, and left the reader
+abbrev pub FindsOrStays : {X : Type 0} → Option X → BinReader → BinReader → Tree X → Type 0
+FindsOrStays (Some x) old new format = (read format (state_of old) ≡ Ok (x, state_of new)) × IsLive new.interval
+FindsOrStays None old new format = new ≡ old

@@ -1,6 +1,7 @@
 //! The levels of a sub-block, once it is known which are coded.
 
 ghost use Rattle.std.specs.Prelude.{◌≡◌, ◌+◌, ◌-◌, ◌*◌, ◌^◌, ◌<◌, ◌≤◌, ◌∷◌, ◌++◌, List, length, slice_index, IfOk};
+ghost use Rattle.std.specs.Prelude.{IfSome};
 ghost use Rattle.std.specs.Prelude.{OnOk};
 ghost use Rattle.std.specs.List.{All};
 ghost use Rattle.spec_bits.specs.Bits.{bit_of, digit};
@@ -14,7 +15,7 @@ ghost use Rattle.spec_residuals.specs.Levels.{coeff_abs_level_remaining, suffix_
 ghost use Rattle.spec_residuals.specs.Levels.{greatest_base, is_negative, signed, level_of, sized_level, level_at};
 ghost use Rattle.spec_residuals.specs.Levels.{levels_from, next_context, sign_hidden};
 ghost use Rattle.cabac_contexts.specs.Takes.{Leaves, Takes};
-ghost use Rattle.residual_syntax.specs.Judges.{Judges};
+ghost use Rattle.residual_syntax.specs.Judges.{FindsOrStays, Judges};
 
 use crate::indices::Indices;
 use crate::level_list::Levels;
@@ -320,8 +321,43 @@ fn greatest_base(signs: &Signs, j: usize) -> u64
 }
 
 /// coeff_abs_level_remaining with cRiceParam `k`.
-#[tactic(auto, unfolding(spec_residuals::specs::Levels::coeff_abs_level_remaining))]
+#[inline(always)]
 fn coeff_abs_level_remaining<'a>(reader: &mut BinReader<'a>, k: u32) -> Result<u64, Breach>
+    requires live { IsLive reader.old.interval }
+    requires rice { k ≤ 4 }
+    ensures value { Takes (λ x. x) result reader.old reader.new (coeff_abs_level_remaining k) }
+    ensures small { IfOk result (λ value. value < 2 ^ 40) }
+{
+    match short_remaining(reader, k) {
+        Some(value) => Ok(value),
+        None => long_remaining(reader, k),
+    }
+}
+
+/// The same where 16 bins are there and it has no more; `None`, and no bin is read, elsewhere.
+#[inline(always)]
+fn short_remaining<'a>(reader: &mut BinReader<'a>, k: u32) -> Option<u64>
+    requires live { IsLive reader.old.interval }
+    requires rice { k ≤ 4 }
+    ensures value { FindsOrStays result reader.old reader.new (coeff_abs_level_remaining k) }
+    ensures small { IfSome result (λ value. value < 2 ^ 40) }
+{
+    let (bins, prefix) = reader.ahead()?;
+    if prefix > 15 {
+        return None;
+    }
+    let size = suffix_size(prefix, k);
+    if prefix + size > 15 {
+        return None;
+    }
+    let suffix = reader.take_prefixed(bins, prefix, size);
+    Some(scaled(front(prefix), k) + u64::from(suffix))
+}
+
+/// The same of a prefix and a suffix that are read one after the other.
+#[inline(never)]
+#[tactic(auto, unfolding(spec_residuals::specs::Levels::coeff_abs_level_remaining))]
+fn long_remaining<'a>(reader: &mut BinReader<'a>, k: u32) -> Result<u64, Breach>
     requires live { IsLive reader.old.interval }
     requires rice { k ≤ 4 }
     ensures value { Takes (λ x. x) result reader.old reader.new (coeff_abs_level_remaining k) }
