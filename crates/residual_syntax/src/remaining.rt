@@ -13,7 +13,7 @@ ghost use Rattle.spec_residuals.specs.LastPosition.{by_component};
 ghost use Rattle.spec_residuals.specs.Levels.{first_behind, greater1_flag, greater1_flags, greater2_flag, is_first};
 ghost use Rattle.spec_residuals.specs.Levels.{coeff_abs_level_remaining, suffix_size, front, next_rice, base_level};
 ghost use Rattle.spec_residuals.specs.Levels.{greatest_base, is_negative, signed, level_of, sized_level, level_at};
-ghost use Rattle.spec_residuals.specs.Levels.{levels_from, next_context, sign_hidden};
+ghost use Rattle.spec_residuals.specs.Levels.{levels_from, next_context, no_flags, sign_hidden};
 ghost use Rattle.cabac_contexts.specs.Takes.{Leaves, Takes};
 ghost use Rattle.residual_syntax.specs.Judges.{FindsOrStays, Judges};
 
@@ -26,28 +26,26 @@ use spec_residuals::{Greater1Flags, Level, LevelState, ResidualBlock, Signs, Sub
 
 const TOO_GREAT: Breach = Breach::Fault(FaultKind::CoeffRange);
 
-/// The coeff_abs_level_greater1_flag elements of a sub-block of `count` levels, by the set of their contexts.
+/// The coeff_abs_level_greater1_flag elements of a sub-block of `count` levels, by the set of their contexts, where
+/// `flags` had none.
 pub fn greater1_flags<'a>(
     reader: &mut BinReader<'a>,
     block: ResidualBlock,
     set: u32,
     count: u32,
-) -> Result<Greater1Flags, Breach>
+    flags: &mut Greater1Flags,
+) -> Result<(), Breach>
     requires live { IsLive reader.old.interval }
     requires set { set ≤ by_component block 3 1 }
     requires count { count ≤ 16 }
-    ensures value { Takes (λ x. x) result reader.old reader.new (greater1_flags block set count) }
+    requires none { flags.old ≡ no_flags }
+    ensures value { Leaves result flags.new reader.old reader.new (greater1_flags block set count) }
 {
-    let mut flags = Greater1Flags {
-        flags: [false; 16],
-        context: 1,
-        first: None,
-    };
     let most = count.min(8);
     for j in 0..most {
-        greater1_flag(reader, block, set, j, &mut flags)?;
+        greater1_flag(reader, block, set, j, flags)?;
     }
-    Ok(flags)
+    Ok(())
 }
 
 #[inline(always)]

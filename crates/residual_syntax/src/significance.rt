@@ -1,13 +1,13 @@
 //! Which coefficients of a sub-block are coded.
 
-ghost use Rattle.std.specs.Prelude.{◌≡◌, ◌+◌, ◌*◌, ◌^◌, ◌<◌, ◌≤◌, length, IfSome, OnSome};
+ghost use Rattle.std.specs.Prelude.{◌≡◌, ◌+◌, ◌*◌, ◌^◌, ◌<◌, ◌≤◌, [], length, OnSome};
 ghost use Rattle.std.specs.List.{All};
 ghost use Rattle.spec_residuals.specs.BlockGeometry.{scan_place};
 ghost use Rattle.spec_cabac.specs.Engine.{IsLive};
 ghost use Rattle.spec_residuals.specs.Significance.{sub_block_at, coded_context, coded_sub_block_flag, nearness};
 ghost use Rattle.spec_residuals.specs.Significance.{diagonal_nearness, neighbour_context, size_context, sig_ctx};
 ghost use Rattle.spec_residuals.specs.Significance.{sig_context, sig_coeff_flag, sig_coeff, sig_coeffs, coded_indices};
-ghost use Rattle.cabac_contexts.specs.Takes.{Finds, Takes};
+ghost use Rattle.cabac_contexts.specs.Takes.{Takes};
 ghost use Rattle.residual_syntax.specs.Judges.{Gathers};
 
 use crate::indices::Indices;
@@ -50,8 +50,8 @@ fn coded_context(block: ResidualBlock, sub: SubBlock) -> usize
     }
 }
 
-/// The indices of a sub-block that have a level: of that of the last level, from the last one's on. `None` where bits
-/// lack.
+/// The indices of a sub-block that have a level, where `indices` had none: of that of the last level, from the last
+/// one's on. `None` where bits lack.
 #[inline(never)]
 #[tactic(auto, unfolding(spec_residuals::specs::Significance::coded_indices))]
 pub fn coded_indices<'a>(
@@ -60,28 +60,21 @@ pub fn coded_indices<'a>(
     sub: SubBlock,
     last: u32,
     position: u32,
-) -> Option<Indices>
+    indices: &mut Indices,
+) -> Option<()>
     requires live { IsLive reader.old.interval }
     requires least { 2 ≤ block.log2 }
     requires greatest { block.log2 ≤ 5 }
     requires position { position < 16 }
-    ensures value { Finds result reader.old reader.new (coded_indices block sub last position) }
-    ensures small { IfSome result (λ indices. All (λ n. n < 16) indices) }
-    ensures few { IfSome result (λ indices. length indices ≤ 16) }
+    requires none { indices.old ≡ [] }
+    ensures value { Gathers result indices.new reader.old reader.new (coded_indices block sub last position) }
+    ensures small { OnSome result (All (λ n. n < 16) indices.new) }
+    ensures few { OnSome result (length indices.new ≤ 16) }
 {
-    let mut indices = Indices::new();
     let ends = sub.index == last;
     indices.note(position, ends);
     let from = if ends { position } else { 16 };
-    sig_coeffs(
-        reader,
-        block,
-        sub,
-        !ends && 0 < sub.index,
-        from,
-        &mut indices,
-    )?;
-    Some(indices)
+    sig_coeffs(reader, block, sub, !ends && 0 < sub.index, from, indices)
 }
 
 #[inline(always)]

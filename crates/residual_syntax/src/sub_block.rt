@@ -5,9 +5,9 @@ ghost use Rattle.std.specs.List.{All};
 ghost use Rattle.spec_cabac.specs.Engine.{IsLive};
 ghost use Rattle.spec_residuals.specs.LastPosition.{by_component};
 ghost use Rattle.spec_residuals.specs.Significance.{sub_block_at};
-ghost use Rattle.spec_residuals.specs.Levels.{context_set};
+ghost use Rattle.spec_residuals.specs.Levels.{context_set, no_flags};
 ghost use Rattle.spec_residuals.specs.Residual.{signs_of, coded_levels, coded_sub_block, sub_block};
-ghost use Rattle.cabac_contexts.specs.Takes.{Leaves, Takes};
+ghost use Rattle.cabac_contexts.specs.Takes.{Leaves};
 
 use crate::indices::Indices;
 use crate::level_list::Levels;
@@ -15,7 +15,7 @@ use crate::remaining::{coded_signs, greater1_flags, greater2_flag, levels_from, 
 use crate::significance::{coded_indices, coded_sub_block_flag};
 use cabac_contexts::BinReader;
 use hv_base::{Breach, FaultKind};
-use spec_residuals::{Progress, ResidualBlock, Signs, SubBlock, scan};
+use spec_residuals::{Greater1Flags, Progress, ResidualBlock, Signs, SubBlock, scan};
 
 const DATA_END: Breach = Breach::Fault(FaultKind::DataEnd);
 
@@ -92,7 +92,8 @@ fn coded_sub_block<'a>(
         (coded_sub_block block last position sub (progress.old, levels.old)) }
     ensures count { OnOk result (length levels.new.levels ≤ length levels.old.levels + 16) }
 {
-    let indices = coded_indices(reader, block, sub, last, position).ok_or(DATA_END)?;
+    let mut indices = Indices::new();
+    coded_indices(reader, block, sub, last, position, &mut indices).ok_or(DATA_END)?;
     if indices.len() == 0 {
         return Ok(());
     }
@@ -121,7 +122,8 @@ fn coded_levels<'a>(
     ensures count { OnOk result (length levels.new.levels ≤ length levels.old.levels + length indices.now) }
 {
     let set = context_set(block, sub, progress.raised);
-    let signs = signs_of(reader, block, set, indices)?;
+    let mut signs = no_signs();
+    signs_of(reader, block, set, indices, &mut signs)?;
     levels_from(reader, block, sub, indices, &signs, levels)?;
     progress.raised = signs.greater1.context == 0;
     Ok(())
@@ -136,28 +138,42 @@ fn context_set(block: ResidualBlock, sub: SubBlock, raised: bool) -> u32
     if raised { inner + 1 } else { inner }
 }
 
-/// The flags and the signs of the levels at these indices.
+/// No flags and no signs.
+#[inline(always)]
+fn no_signs() -> Signs
+    ensures { result.greater1 ≡ no_flags }
+{
+    Signs {
+        greater1: Greater1Flags {
+            flags: [false; 16],
+            context: 1,
+            first: None,
+        },
+        greater2: false,
+        hidden: false,
+        signs: 0,
+    }
+}
+
+/// The flags and the signs of the levels at these indices, where `signs` had no flags.
 fn signs_of<'a>(
     reader: &mut BinReader<'a>,
     block: ResidualBlock,
     set: u32,
     indices: &Indices,
-) -> Result<Signs, Breach>
+    signs: &mut Signs,
+) -> Result<(), Breach>
     requires live { IsLive reader.old.interval }
     requires set { set ≤ by_component block 3 1 }
     requires some { 0 < length indices.now }
     requires few { length indices.now ≤ 16 }
-    ensures { Takes (λ x. x) result reader.old reader.new (signs_of block set indices.now) }
+    requires none { signs.old.greater1 ≡ no_flags }
+    ensures { Leaves result signs.new reader.old reader.new (signs_of block set indices.now) }
 {
     let count = indices.len() as u32;
-    let greater1 = greater1_flags(reader, block, set, count)?;
-    let greater2 = greater2_flag(reader, block, set, greater1.first)?;
-    let hidden = sign_hidden(block, indices);
-    let signs = reader.fixed(coded_signs(count, hidden))?;
-    Ok(Signs {
-        greater1,
-        greater2,
-        hidden,
-        signs,
-    })
+    greater1_flags(reader, block, set, count, &mut signs.greater1)?;
+    signs.greater2 = greater2_flag(reader, block, set, signs.greater1.first)?;
+    signs.hidden = sign_hidden(block, indices);
+    signs.signs = reader.fixed(coded_signs(count, signs.hidden))?;
+    Ok(())
 }

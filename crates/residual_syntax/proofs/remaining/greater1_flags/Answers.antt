@@ -8,11 +8,9 @@ returns-in_err-greater1_flag c =
     let p = err_from_is_err_and c.from_residual.result c.from_residual.ensures.1 in
     record {
       value =
-          rw (p.1, p.2) (
-            times_ends (greater1_flag c.args.block c.args.set) c.loop-j.j _ _ _ c.in_err-greater1_flag.field-0.0
-                _ c.loop-j-test.true c.in_err-greater1_flag.ensures.value c.loop-j.invariant.told,
-            tt,
-          );
+          rw (p.1, p.2) (times_ends (greater1_flag c.args.block c.args.set) c.loop-j.j _ _ _
+          c.in_err-greater1_flag.field-0.0 _ c.loop-j-test.true c.in_err-greater1_flag.ensures.value
+          c.loop-j.invariant.told);
     }
 
 pub loop-j-preserved : goal.loop-j-preserved
