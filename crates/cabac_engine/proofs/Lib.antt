@@ -4,3 +4,4 @@ pub mod Bypasses
 pub mod ContextRules
 pub mod Held
 pub mod Trailing
+pub mod Reciprocals

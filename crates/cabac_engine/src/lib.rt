@@ -3,6 +3,7 @@
 
 mod interval;
 mod places;
+mod quotients;
 mod register;
 mod transitions;
 

@@ -7,6 +7,7 @@ ghost use Rattle.cabac_engine.specs.Ahead.{lengthened, reduced, engine};
 ghost use Rattle.cabac_engine.specs.Steps.{bypasses_after, spelled};
 
 use crate::places::{byte_at, is_stop, number_at};
+use crate::quotients::quotient;
 use std::marker::Model;
 
 /// ivlOffset, and behind it, as further digits, bits that are read ahead.
@@ -235,11 +236,9 @@ impl<'a> Register<'a> {
         ensures live { IsLive (engine range self.new) }
         ensures small { result < 2 ^ n }
     {
-        let range = u64::from(range);
-        self.held -= n;
-        let bins = (self.value >> self.held) / range;
-        self.value -= (bins * range) << self.held;
-        bins as u32
+        let bins = self.bins_ahead(range, n);
+        self.take_bins(range, n, bins);
+        bins
     }
 
     /// The number that the next `n` bypass bins spell, none of which is taken.
@@ -251,9 +250,7 @@ impl<'a> Register<'a> {
         ensures value { spelled n (engine range self.now) ≡ Some result }
         ensures small { result < 2 ^ n }
     {
-        let range = u64::from(range);
-        let bins = (self.value >> (self.held - n)) / range;
-        bins as u32
+        quotient(self.value >> (self.held - n), range) as u32
     }
 
     /// Takes `n` bypass bins, which spell this number.
