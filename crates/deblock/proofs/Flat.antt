@@ -8,7 +8,7 @@ use Rattle.std.specs.Prelude.{◌==◌}
 use Rattle.deblock.specs.declared.window.Window.{Window}
 use Rattle.deblock.specs.Windows.{index, size, seen, holds}
 
-below : (width a b : ℕ) → a < b → width * (a + 1) ≤ width * b
+pub below : (width a b : ℕ) → a < b → width * (a + 1) ≤ width * b
 below width a b lt = mul-le-mul_left width (omega arith)
 
 pub flat_inside : (width n d a : ℕ) → a < width → d < n → width * d + a < width * n

@@ -1,5 +1,8 @@
 pub mod Depths
 pub mod Flat
+pub mod Vectors
+pub mod Beside
+pub mod Passing
 pub mod Ends
 pub mod Laying
 pub mod Lines

@@ -1,4 +1,5 @@
 pub mod Samples
 pub mod Windows
+pub mod Lanes
 pub mod Passes
 pub mod Rows

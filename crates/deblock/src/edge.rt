@@ -4,6 +4,8 @@ ghost use Rattle.std.specs.Prelude.{◌≡◌, ◌<◌, ◌≤◌, ◌+◌, ◌-
 ghost use Rattle.std.specs.Prelude.{◌==◌, ◌&&◌, nat_le, nat_lt};
 ghost use Rattle.spec_deblocking.specs.declared.line.Line.{Line};
 ghost use Rattle.spec_deblocking.specs.declared.place.Place.{Place};
+ghost use Rattle.spec_deblocking.specs.declared.place.Plane.TheVariants.{Luma, Chroma};
+ghost use Rattle.spec_deblocking.specs.declared.line.Filter.TheVariants.{Nearest};
 ghost use Rattle.spec_deblocking.specs.Lines.{across, nth};
 ghost use Rattle.spec_deblocking.specs.Places.{side};
 ghost use Rattle.spec_deblocking.specs.Thresholds.{tc};
@@ -16,6 +18,7 @@ ghost use Rattle.deblock.specs.Passes.{placed, IsPass, IsAlong, IsAcross, IsPart
 
 use crate::decision::{chroma_edge, luma_edge};
 use crate::filters::filtered;
+use crate::four::filter_rows;
 use crate::pass::Pass;
 use crate::thresholds::tc;
 use crate::view::PlaceView;
@@ -121,6 +124,25 @@ fn filter_line(out: &mut [u16], w: &Window, way: Way, kernel: Kernel, a: usize, 
     }
 }
 
+/// Whether four lines across a horizontal edge of luma are laid whole.
+#[inline(always)]
+fn is_wide(plane: Plane, turned: bool, kernel: Kernel) -> bool
+    requires order { kernel.from ≤ kernel.to }
+    requires to { kernel.to ≤ 8 }
+    ensures side { result ≡ true → side plane ≡ 4 }
+    ensures turned { result ≡ true → turned ≡ true }
+    ensures from { result ≡ true → kernel.from ≡ 0 }
+    ensures to { result ≡ true → kernel.to ≡ 8 }
+    ensures luma { result ≡ true → kernel.filter ≡ Nearest → ◌≡◌ {A = ℕ} 0 1 }
+{
+    match kernel.filter {
+        Filter::Normal { .. } | Filter::Strong => {
+            turned && side(plane) == 4 && kernel.to - kernel.from == 8
+        }
+        Filter::Nearest | Filter::Off => false,
+    }
+}
+
 /// Filters the lines of a place across an edge.
 #[inline(always)]
 fn filter_lines(pass: &Pass, kernel: Kernel, e: usize, s: usize, out: &mut [u16])
@@ -148,6 +170,16 @@ fn filter_lines(pass: &Pass, kernel: Kernel, e: usize, s: usize, out: &mut [u16]
     let lines = side(pass.plane);
     let first = lines * s;
     let start = way_of(&pass.window, a, first);
+    if is_wide(pass.plane, pass.window.turned, kernel) {
+        let Kernel {
+            filter,
+            greatest,
+            tc,
+            ..
+        } = kernel;
+        filter_rows(filter, greatest, tc, out, &pass.window, start, a, first);
+        return;
+    }
     let along = along_of(&pass.window);
     for n in 0..lines {
         let way = later(out, &pass.window, start, along, n, a, first);
@@ -204,8 +236,9 @@ fn filter_of(
     }
 }
 
-/// Filters an edge between two places at their lines.
-fn filter_between(pass: &Pass, e: usize, s: usize, p: &Place, q: &Place, out: &mut [u16])
+/// Filters an edge between two places at their lines, by code for what is known of the pass.
+#[inline(always)]
+fn filter_known(pass: &Pass, e: usize, s: usize, p: &Place, q: &Place, out: &mut [u16])
     requires pass { IsPass pass.now }
     requires bounded { IsBounded (2 ^ pass.now.bit_depth - 1) out.old }
     requires room { length out.old ≡ size pass.now.window }
@@ -235,6 +268,122 @@ fn filter_between(pass: &Pass, e: usize, s: usize, p: &Place, q: &Place, out: &m
         to: end_laid(q.kept),
     };
     filter_lines(pass, kernel, e, s, out);
+}
+
+/// Filters an edge of luma between two places at their lines.
+fn filter_luma<const TURNED: bool>(
+    pass: &Pass,
+    e: usize,
+    s: usize,
+    p: &Place,
+    q: &Place,
+    out: &mut [u16],
+)
+    requires turned { pass.now.window.turned ≡ TURNED }
+    requires plane { pass.now.plane ≡ Luma }
+    requires pass { IsPass pass.now }
+    requires bounded { IsBounded (2 ^ pass.now.bit_depth - 1) out.old }
+    requires room { length out.old ≡ size pass.now.window }
+    requires edge { 0 < e }
+    requires within { 8 * e < pass.now.side }
+    requires across { IsAcross pass.now e }
+    requires along { IsAlong pass.now s }
+    ensures value { (places : ℕ → ℕ → Place) → p.now ≡ places ((8 * e - 1) / side pass.now.plane) s
+        → q.now ≡ places (8 * e / side pass.now.plane) s
+        → (i j : ℕ) → holds pass.now.window i j ≡ true
+        → seen pass.now.window out.new i j
+        ≡ cond (is_beside pass.now.plane s e i j)
+        (edge_sample pass.now.plane pass.now.bit_depth places (seen pass.now.window out.old) e j (i + 4 - 8 * e))
+        (seen pass.now.window out.old i j) }
+    ensures bounded { IsBounded (2 ^ pass.now.bit_depth - 1) out.new }
+{
+    let window = Window {
+        turned: TURNED,
+        ..pass.window
+    };
+    let pass = Pass {
+        plane: Plane::Luma,
+        window,
+        ..*pass
+    };
+    filter_known(&pass, e, s, p, q, out);
+}
+
+/// Filters an edge of chroma between two places at their lines.
+fn filter_chroma<const TURNED: bool>(
+    pass: &Pass,
+    qp_pic_offset: i8,
+    e: usize,
+    s: usize,
+    p: &Place,
+    q: &Place,
+    out: &mut [u16],
+)
+    requires turned { pass.now.window.turned ≡ TURNED }
+    requires plane { pass.now.plane ≡ Chroma qp_pic_offset }
+    requires pass { IsPass pass.now }
+    requires bounded { IsBounded (2 ^ pass.now.bit_depth - 1) out.old }
+    requires room { length out.old ≡ size pass.now.window }
+    requires edge { 0 < e }
+    requires within { 8 * e < pass.now.side }
+    requires across { IsAcross pass.now e }
+    requires along { IsAlong pass.now s }
+    ensures value { (places : ℕ → ℕ → Place) → p.now ≡ places ((8 * e - 1) / side pass.now.plane) s
+        → q.now ≡ places (8 * e / side pass.now.plane) s
+        → (i j : ℕ) → holds pass.now.window i j ≡ true
+        → seen pass.now.window out.new i j
+        ≡ cond (is_beside pass.now.plane s e i j)
+        (edge_sample pass.now.plane pass.now.bit_depth places (seen pass.now.window out.old) e j (i + 4 - 8 * e))
+        (seen pass.now.window out.old i j) }
+    ensures bounded { IsBounded (2 ^ pass.now.bit_depth - 1) out.new }
+{
+    let window = Window {
+        turned: TURNED,
+        ..pass.window
+    };
+    let pass = Pass {
+        plane: Plane::Chroma { qp_pic_offset },
+        window,
+        ..*pass
+    };
+    filter_known(&pass, e, s, p, q, out);
+}
+
+/// Filters an edge between two places at their lines.
+#[inline(always)]
+fn filter_between(pass: &Pass, e: usize, s: usize, p: &Place, q: &Place, out: &mut [u16])
+    requires pass { IsPass pass.now }
+    requires bounded { IsBounded (2 ^ pass.now.bit_depth - 1) out.old }
+    requires room { length out.old ≡ size pass.now.window }
+    requires edge { 0 < e }
+    requires within { 8 * e < pass.now.side }
+    requires across { IsAcross pass.now e }
+    requires along { IsAlong pass.now s }
+    ensures value { (places : ℕ → ℕ → Place) → p.now ≡ places ((8 * e - 1) / side pass.now.plane) s
+        → q.now ≡ places (8 * e / side pass.now.plane) s
+        → (i j : ℕ) → holds pass.now.window i j ≡ true
+        → seen pass.now.window out.new i j
+        ≡ cond (is_beside pass.now.plane s e i j)
+        (edge_sample pass.now.plane pass.now.bit_depth places (seen pass.now.window out.old) e j (i + 4 - 8 * e))
+        (seen pass.now.window out.old i j) }
+    ensures bounded { IsBounded (2 ^ pass.now.bit_depth - 1) out.new }
+{
+    match pass.plane {
+        Plane::Luma => {
+            if pass.window.turned {
+                filter_luma::<true>(pass, e, s, p, q, out);
+            } else {
+                filter_luma::<false>(pass, e, s, p, q, out);
+            }
+        }
+        Plane::Chroma { qp_pic_offset } => {
+            if pass.window.turned {
+                filter_chroma::<true>(pass, qp_pic_offset, e, s, p, q, out);
+            } else {
+                filter_chroma::<false>(pass, qp_pic_offset, e, s, p, q, out);
+            }
+        }
+    }
 }
 
 /// Filters an edge that has a strength at the lines of a place.

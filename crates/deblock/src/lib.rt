@@ -5,6 +5,8 @@
 mod decision;
 mod edge;
 mod filters;
+mod four;
+mod lanes;
 mod pass;
 mod row;
 mod thresholds;

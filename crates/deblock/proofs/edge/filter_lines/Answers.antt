@@ -4,7 +4,8 @@ use Rattle.spec_deblocking.specs.Places.{side}
 use Rattle.spec_deblocking.specs.Filters.{filtered}
 use Rattle.spec_deblocking.proofs.Across.{across_same}
 use Rattle.deblock.specs.Windows.{seen}
-use Rattle.deblock.proofs.Laying.{lines_more, lines_none}
+use Rattle.deblock.proofs.Beside.{wide_test}
+use Rattle.deblock.proofs.Laying.{cond_by, lines_more, lines_none}
 use Rattle.deblock.proofs.Edges.{line_yet, reads_inside}
 use Rattle.deblock.proofs.edge.filter_lines.Goals as goal
 
@@ -78,3 +79,21 @@ returns c =
       value = λ i j h. rw (same, c.side-lines.ensures.value) at (c.loop-n.invariant.value i j h);
       bounded = c.loop-n.invariant.bounded;
     }
+
+pub filter_rows-requires-clause-inside : goal.filter_rows-requires-clause-inside
+filter_rows-requires-clause-inside c = λ k n few lt.
+    let lines : c.side-lines.result * c.args.s ≡ side c.args.pass.now.plane * c.args.s =
+    rw c.side-lines.ensures.value refl in
+    let four = c.is_wide.ensures.side c.if-is_wide.true in
+    reads_inside c.args.pass.now c.args.e c.args.s k _ c.requires.pass c.requires.across c.requires.along
+    c.requires.edge c.requires.within few
+    (omega (arith, lines)) (omega (arith, lines, four, lt))
+
+pub returns-then-is_wide-clause-value : goal.returns-then-is_wide-clause-value
+returns-then-is_wide-clause-value c = λ i j h.
+    let yes = c.if-is_wide.true in
+    let lines : c.side-lines.result * c.args.s ≡ side c.args.pass.now.plane * c.args.s =
+    rw c.side-lines.ensures.value refl in
+    cond_by _ _ _ _ _ (c.filter_rows.ensures.value i j h)
+    (wide_test (side c.args.pass.now.plane) c.args.s (8 * c.args.e - 4) c.args.kernel.from c.args.kernel.to i j _
+    (c.is_wide.ensures.side yes) (c.is_wide.ensures.from yes) (c.is_wide.ensures.to yes) lines)

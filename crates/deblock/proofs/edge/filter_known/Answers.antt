@@ -1,6 +1,6 @@
 use Rattle.deblock.specs.Windows.{seen}
 use Rattle.deblock.proofs.Lines.{off_laid, place_laid}
-use Rattle.deblock.proofs.edge.filter_between.Goals as goal
+use Rattle.deblock.proofs.edge.filter_known.Goals as goal
 
 pub filter_lines-requires-clause-bounded : goal.filter_lines-requires-clause-bounded
 filter_lines-requires-clause-bounded c = rw c.greatest_sample.ensures.value c.requires.bounded

@@ -1,0 +1,36 @@
+-- Four lines across an edge at once: lane k of each vector is a sample of line k.
+use Rattle.std.specs.Prelude.{ℕ, ℤ, pos, ◌+◌, ◌-ℤ◌, ◌≤◌, ◌<◌, List, slice_index_or}
+use Rattle.spec_deblocking.specs.declared.line.Line.{Line}
+use Rattle.deblock.specs.declared.lanes.Lines.{Lines}
+use Rattle.deblock.specs.Samples.{AreSmall}
+
+abbrev pub lane : List ℕ → ℕ → ℕ
+lane v k = slice_index_or v k 0
+
+-- a change that stands on a base
+abbrev pub on_base : ℕ → List ℕ → ℕ → ℤ
+on_base base v k = pos (lane v k) -ℤ pos base
+
+abbrev pub line_of : Lines → ℕ → Line
+line_of l k = record {
+  p3 = lane l.p3 k;
+  p2 = lane l.p2 k;
+  p1 = lane l.p1 k;
+  p0 = lane l.p0 k;
+  q0 = lane l.q0 k;
+  q1 = lane l.q1 k;
+  q2 = lane l.q2 k;
+  q3 = lane l.q3 k;
+}
+
+-- every lane is a sample
+abbrev pub AreLow : List ℕ → Type 0
+AreLow v = (k : ℕ) → k < 4 → lane v k ≤ 16383
+
+-- every lane of four lines is at most so great
+abbrev pub AreLines : ℕ → Lines → Type 0
+AreLines greatest l = (k : ℕ) → k < 4 → AreSmall greatest (line_of l k)
+
+-- every lane is within a sample's reach of a base
+abbrev pub IsNear : ℕ → List ℕ → Type 0
+IsNear base v = (k : ℕ) → k < 4 → (base ≤ lane v k + 16320) × (lane v k ≤ base + 16320)
