@@ -54,10 +54,10 @@ row_place width d a e b t =
     let same : e ≡ d = grind (arith, nat_tests) in
     rw same (omega arith)
 
-from_first : (a b c : ℕ) → c ≤ a → c ≤ b → (a - c == b - c) ≡ (a == b)
+pub from_first : (a b c : ℕ) → c ≤ a → c ≤ b → (a - c == b - c) ≡ (a == b)
 from_first a b c h l = grind (arith, nat_tests)
 
-either_same : (b c : Bool) (v w o : ℕ) → b ≡ c → (c ≡ true → v ≡ w) → cond b v o ≡ cond c w o
+pub either_same : (b c : Bool) (v w o : ℕ) → b ≡ c → (c ≡ true → v ≡ w) → cond b v o ≡ cond c w o
 either_same true true v w o e h = h refl
 either_same false false v w o e h = refl
 either_same true false v w o e h = cc
@@ -96,7 +96,7 @@ row_laid w xs new v a b p e is inside wrote i j h =
     let same : index w i j - p ≡ j - b = rw (q, r) place in
     ap (λ (n : ℕ). lane v n) same)
 
-either_few : (b : Bool) (v o greatest new : ℕ) → new ≡ cond b v o → (b ≡ true → v ≤ greatest) → o ≤ greatest
+pub either_few : (b : Bool) (v o greatest new : ℕ) → new ≡ cond b v o → (b ≡ true → v ≤ greatest) → o ≤ greatest
     → new ≤ greatest
 either_few true v o greatest new e p q = rw e (p refl)
 either_few false v o greatest new e p q = rw e q

@@ -2,6 +2,7 @@ pub mod Depths
 pub mod Flat
 pub mod Vectors
 pub mod Beside
+pub mod Abreast
 pub mod Passing
 pub mod Ends
 pub mod Laying

@@ -34,3 +34,42 @@ AreLines greatest l = (k : ℕ) → k < 4 → AreSmall greatest (line_of l k)
 -- every lane is within a sample's reach of a base
 abbrev pub IsNear : ℕ → List ℕ → Type 0
 IsNear base v = (k : ℕ) → k < 4 → (base ≤ lane v k + 16320) × (lane v k ≤ base + 16320)
+
+-- eight samples as a line
+abbrev pub row_of : List ℕ → Line
+row_of v = record {
+  p3 = lane v 0;
+  p2 = lane v 1;
+  p1 = lane v 2;
+  p0 = lane v 3;
+  q0 = lane v 4;
+  q1 = lane v 5;
+  q2 = lane v 6;
+  q3 = lane v 7;
+}
+
+-- four samples of one vector from a place on, and four of another
+abbrev pub half_and_half : List ℕ → List ℕ → ℕ → Line
+half_and_half v u k = record {
+  p3 = lane v k;
+  p2 = lane v (k + 1);
+  p1 = lane v (k + 2);
+  p0 = lane v (k + 3);
+  q0 = lane u k;
+  q1 = lane u (k + 1);
+  q2 = lane u (k + 2);
+  q3 = lane u (k + 3);
+}
+
+-- of two vectors of samples at two places each, the four samples of one line and of the next
+abbrev pub two_of : List ℕ → List ℕ → ℕ → Line
+two_of v u n = record {
+  p3 = lane v n;
+  p2 = lane v (4 + n);
+  p1 = lane u n;
+  p0 = lane u (4 + n);
+  q0 = lane v (n + 1);
+  q1 = lane v (4 + (n + 1));
+  q2 = lane u (n + 1);
+  q3 = lane u (4 + (n + 1));
+}

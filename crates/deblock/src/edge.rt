@@ -1,7 +1,7 @@
 //! One edge at the lines of one place.
 
 ghost use Rattle.std.specs.Prelude.{◌≡◌, ◌<◌, ◌≤◌, ◌+◌, ◌-◌, ◌*◌, ◌/◌, ◌^◌, ℕ, true, length, cond};
-ghost use Rattle.std.specs.Prelude.{◌==◌, ◌&&◌, nat_le, nat_lt};
+ghost use Rattle.std.specs.Prelude.{◌==◌, ◌&&◌, nat_le, nat_lt, if◌then◌else◌};
 ghost use Rattle.spec_deblocking.specs.declared.line.Line.{Line};
 ghost use Rattle.spec_deblocking.specs.declared.place.Place.{Place};
 ghost use Rattle.spec_deblocking.specs.declared.place.Plane.TheVariants.{Luma, Chroma};
@@ -16,6 +16,7 @@ ghost use Rattle.deblock.specs.Samples.{IsDepth, IsBounded};
 ghost use Rattle.deblock.specs.Windows.{index, size, seen, holds};
 ghost use Rattle.deblock.specs.Passes.{placed, IsPass, IsAlong, IsAcross, IsPartly, is_beside, is_written};
 
+use crate::columns::filter_columns;
 use crate::decision::{chroma_edge, luma_edge};
 use crate::filters::filtered;
 use crate::four::filter_rows;
@@ -124,21 +125,58 @@ fn filter_line(out: &mut [u16], w: &Window, way: Way, kernel: Kernel, a: usize, 
     }
 }
 
-/// Whether four lines across a horizontal edge of luma are laid whole.
+/// Filters four lines across an edge of luma, which are laid whole.
 #[inline(always)]
-fn is_wide(plane: Plane, turned: bool, kernel: Kernel) -> bool
+fn filter_four(
+    kernel: Kernel,
+    out: &mut [u16],
+    w: &Window,
+    way: Way,
+    along: usize,
+    a: usize,
+    b: usize,
+)
+    requires luma { kernel.filter ≡ Nearest → ◌≡◌ {A = ℕ} 0 1 }
+    requires greatest { kernel.greatest ≤ 16383 }
+    requires tc { kernel.tc ≤ 16320 }
+    requires bounded { IsBounded kernel.greatest out.old }
+    requires room { length out.old ≡ size w.now }
+    requires along { along ≡ (if w.now.turned then 1 else w.now.across_end) }
+    requires at { (k : ℕ) → k < 8 → way.first + k * way.step ≡ index w.now (a + k) b }
+    requires low { w.now.along_first ≤ b }
+    requires inside { (k n : ℕ) → k < 8 → n < 4 → holds w.now (a + k) (b + n) ≡ true }
+    ensures value { (i j : ℕ) → holds w.now i j ≡ true
+        → seen w.now out.new i j
+        ≡ cond ((nat_le b j && nat_lt j (b + 4)) && (nat_le a i && nat_lt i (a + 8)))
+        (nth (filtered kernel.filter kernel.greatest kernel.tc (across (seen w.now out.old) a j)) (i - a))
+        (seen w.now out.old i j) }
+    ensures bounded { IsBounded kernel.greatest out.new }
+{
+    let Kernel {
+        filter,
+        greatest,
+        tc,
+        ..
+    } = kernel;
+    if w.turned {
+        filter_rows(filter, greatest, tc, out, w, way, a, b);
+    } else {
+        filter_columns(filter, greatest, tc, out, w, way, along, a, b);
+    }
+}
+
+/// Whether four lines across an edge of luma are laid whole.
+#[inline(always)]
+fn is_wide(plane: Plane, kernel: Kernel) -> bool
     requires order { kernel.from ≤ kernel.to }
     requires to { kernel.to ≤ 8 }
     ensures side { result ≡ true → side plane ≡ 4 }
-    ensures turned { result ≡ true → turned ≡ true }
     ensures from { result ≡ true → kernel.from ≡ 0 }
     ensures to { result ≡ true → kernel.to ≡ 8 }
     ensures luma { result ≡ true → kernel.filter ≡ Nearest → ◌≡◌ {A = ℕ} 0 1 }
 {
     match kernel.filter {
-        Filter::Normal { .. } | Filter::Strong => {
-            turned && side(plane) == 4 && kernel.to - kernel.from == 8
-        }
+        Filter::Normal { .. } | Filter::Strong => side(plane) == 4 && kernel.to - kernel.from == 8,
         Filter::Nearest | Filter::Off => false,
     }
 }
@@ -170,17 +208,11 @@ fn filter_lines(pass: &Pass, kernel: Kernel, e: usize, s: usize, out: &mut [u16]
     let lines = side(pass.plane);
     let first = lines * s;
     let start = way_of(&pass.window, a, first);
-    if is_wide(pass.plane, pass.window.turned, kernel) {
-        let Kernel {
-            filter,
-            greatest,
-            tc,
-            ..
-        } = kernel;
-        filter_rows(filter, greatest, tc, out, &pass.window, start, a, first);
+    let along = along_of(&pass.window);
+    if is_wide(pass.plane, kernel) {
+        filter_four(kernel, out, &pass.window, start, along, a, first);
         return;
     }
-    let along = along_of(&pass.window);
     for n in 0..lines {
         let way = later(out, &pass.window, start, along, n, a, first);
         filter_line(out, &pass.window, way, kernel, a, first + n);

@@ -142,6 +142,7 @@ fn write_rows(l: &Lines, out: &mut [u16], w: &Window, way: Way, a: usize, b: usi
 }
 
 /// Filters four lines across an edge of luma, where no side is kept.
+#[inline(always)]
 pub fn filter_rows(
     filter: Filter,
     greatest: u32,

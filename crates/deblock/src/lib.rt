@@ -2,6 +2,7 @@
 //! over decoded samples, then horizontal edges over what that gives.
 #![tactic(auto)]
 
+mod columns;
 mod decision;
 mod edge;
 mod filters;

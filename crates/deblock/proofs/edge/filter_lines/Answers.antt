@@ -80,8 +80,8 @@ returns c =
       bounded = c.loop-n.invariant.bounded;
     }
 
-pub filter_rows-requires-clause-inside : goal.filter_rows-requires-clause-inside
-filter_rows-requires-clause-inside c = λ k n few lt.
+pub filter_four-requires-clause-inside : goal.filter_four-requires-clause-inside
+filter_four-requires-clause-inside c = λ k n few lt.
     let lines : c.side-lines.result * c.args.s ≡ side c.args.pass.now.plane * c.args.s =
     rw c.side-lines.ensures.value refl in
     let four = c.is_wide.ensures.side c.if-is_wide.true in
@@ -94,6 +94,12 @@ returns-then-is_wide-clause-value c = λ i j h.
     let yes = c.if-is_wide.true in
     let lines : c.side-lines.result * c.args.s ≡ side c.args.pass.now.plane * c.args.s =
     rw c.side-lines.ensures.value refl in
-    cond_by _ _ _ _ _ (c.filter_rows.ensures.value i j h)
+    cond_by _ _ _ _ _ (c.filter_four.ensures.value i j h)
     (wide_test (side c.args.pass.now.plane) c.args.s (8 * c.args.e - 4) c.args.kernel.from c.args.kernel.to i j _
     (c.is_wide.ensures.side yes) (c.is_wide.ensures.from yes) (c.is_wide.ensures.to yes) lines)
+
+pub filter_four-requires-clause-low : goal.filter_four-requires-clause-low
+filter_four-requires-clause-low c =
+    let lines : c.side-lines.result * c.args.s ≡ side c.args.pass.now.plane * c.args.s =
+    rw c.side-lines.ensures.value refl in
+    omega (arith, lines, c.requires.pass.along_low, c.requires.along.low)
