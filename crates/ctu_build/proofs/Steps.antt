@@ -37,6 +37,17 @@ built_more format inter all items k d item building next end lt is e told =
     (drop_more items k d lt ∙ ap (λ (first : Item). first ∷ drop (k + 1) items) is))
     ∙ told
 
+-- behind an item that tells nothing
+pub passed_over : (format : UnitFormat) (inter : InterUnit) (all items : List Item) (k : ℕ) (d : Item)
+    (building : Building)
+    → k < length items
+    → item_built format inter all building (get_or items k d) (drop (k + 1) items) ≡ building
+    → items_built format inter all (drop (k + 1) items) building ≡ items_built format inter all (drop k items) building
+unfolding items_built
+passed_over format inter all items k d building lt same =
+    sym (ap (items_built format inter all (drop (k + 1) items)) same)
+    ∙ sym (ap (λ (rest : List Item). items_built format inter all rest building) (drop_more items k d lt))
+
 -- behind the last item
 pub built_all : (format : UnitFormat) (inter : InterUnit) (all items : List Item) (k : ℕ) (building end : Building)
     → length items ≤ k

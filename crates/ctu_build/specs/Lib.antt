@@ -3,3 +3,4 @@ pub mod Building
 pub mod Offsets
 pub mod Inter
 pub mod InterSamples
+pub mod Scaled

@@ -102,18 +102,15 @@ fn add_residuals(
     let area = place.area();
     let depth = depth_of(format, block.component);
     let qp = parameter_of(format, block.component, coded.qp);
-    let levels = &mut scratch.levels[..];
     let scaled = &mut scratch.scaled[..];
     let residuals = &mut scratch.residuals[..];
-    let levels = &mut levels[..area];
     let scaled = &mut scaled[..area];
     let residuals = &mut residuals[..area];
-    read_levels(items, levels);
     let quantized = Quantized {
         block,
         mode: coded.mode,
         qp,
     };
-    residuals_of(format, quantized, levels, scaled, residuals);
+    residuals_of(format, quantized, items, scaled, residuals);
     samples.add(place, residuals, depth);
 }

@@ -1,6 +1,9 @@
 //! The samples of a coding tree unit.
 
-ghost use Rattle.std.specs.Prelude.{◌≡◌, ◌≤◌};
+ghost use Rattle.ctu_records.specs.declared.item.Item.{Item};
+ghost use Rattle.std.specs.Prelude.{◌≡◌, ◌≤◌, List, true, drop, length};
+ghost use Rattle.spec_reconstruction.specs.declared.format.UnitFormat.{UnitFormat};
+ghost use Rattle.spec_reconstruction.specs.Inter.{InterUnit};
 ghost use Rattle.std.specs.List.{All};
 ghost use Rattle.ctu_build.specs.Building.{building};
 ghost use Rattle.ctu_build.specs.Held.{held};
@@ -9,7 +12,7 @@ ghost use Rattle.ctu_motion.specs.Held.{held as motion_held};
 ghost use Rattle.inter_samples.specs.Inter.{AreSmall, inter_unit};
 ghost use Rattle.spec_reconstruction.specs.SpecInterPrediction.{IsSliceWeighting};
 ghost use Rattle.spec_reconstruction.specs.Sound.{ArePulses, AreSound, BeginsPulses, IsFormat, IsSound};
-ghost use Rattle.spec_reconstruction.specs.Unit.{before_unit, item_built, items_built, unit_built};
+ghost use Rattle.spec_reconstruction.specs.Unit.{Building, before_unit, item_built, items_built, unit_built};
 
 use crate::coding::{Coding, before_unit, mode_of};
 use crate::items::{build_block, build_prediction, build_pulses, build_transform};
@@ -75,12 +78,44 @@ fn build_items<V: RefWindow>(
     ensures same { V.reference_at view.new ≡ V.reference_at view.old }
 {
     let mut coding = before_unit();
-    for k in 0..items.len() {
+    let mut k = 0;
+    while k < items.len() {
         let next = Next {
             item: items[k],
             behind: &items[k + 1..],
         };
         coding = build_item(source, view, coding, &next, scratch, samples);
+        k = behind_levels(items, k + 1);
+    }
+}
+
+/// Which item from one on is the first that isn't a level, or how many items there are.
+fn behind_levels(items: &[Item], from: usize) -> usize
+    requires { from ≤ length items.now }
+    ensures from { from ≤ result }
+    ensures inside { result ≤ length items.now }
+    ensures value { (format : UnitFormat) (inter : InterUnit) (all : List Item) (building : Building)
+        → items_built format inter all (drop result items.now) building
+        ≡ items_built format inter all (drop from items.now) building }
+{
+    for k in from..items.len() {
+        if !is_level(&items[k]) {
+            return k;
+        }
+    }
+    items.len()
+}
+
+/// Whether an item is a level, which tells nothing where its block was built.
+#[inline(always)]
+fn is_level(item: &Item) -> bool
+    ensures { result ≡ true
+        → (format : UnitFormat) (inter : InterUnit) (all : List Item) (building : Building) (behind : List Item)
+        → item_built format inter all building item.now behind ≡ building }
+{
+    match item {
+        Item::Level(_, _) => true,
+        _ => false,
     }
 }
 

@@ -85,3 +85,13 @@ one_row_fewer size k d inside below here i low = ⊎_elim
     rw (f, g) at (here (i - size * (size - (k + 1))) (omega (arith, b, m, low))))
     (λ behind. below i behind)
     (cases_lt i (size * (size - k)))
+
+-- both stages, by all rows and columns
+pub all_rows : (matrix : Matrix) (size : ℕ) (d g : List ℤ) (x y : ℕ) → y < size
+    → ((x y : ℕ) → x < size → y < size
+    → block_in size g y x ≡ clip16 (rounded 7 (int_sum_below size (λ k. matrix k y *ℤ at d (size * k + x)))))
+    → int_sum_below size (λ k. matrix k x *ℤ block_in size g y k)
+    ≡ second_stage matrix size (first_stage matrix size (block_in size d)) x y
+unfolding first_stage second_stage
+all_rows matrix size d g x y below stored =
+    sum_same size _ _ (λ k h. ap (λ (z : ℤ). matrix k x *ℤ z) (stored k y h below))

@@ -27,20 +27,52 @@ pub fn scale(levels: &[i32], log2: u32, qp: u32, factors: &[u8], depth: u32, out
         → at out.new i ≡ scaled depth log2 qp (slice_index factors.now i) (at levels.now i) }
     ensures small { All Is16 out.new }
 {
-    let scaling = Scaling {
-        quantizer: quantizer(qp),
-        shift: depth + log2 - 5,
-    };
+    let scaling = scaling_of(log2, qp, depth);
     for k in 0..levels.len() / 8 {
         scale_eight(levels, factors, scaling, 8 * k, out);
     }
 }
 
-/// What a level is multiplied by besides its scaling factor, and how many bits of the product are shifted out.
+/// What the levels of a block are scaled by besides their scaling factors.
 #[derive(Clone, Copy)]
-struct Scaling {
-    quantizer: u32,
-    shift: u32,
+pub struct Scaling {
+    /// levelScale[qP % 6] << (qP / 6).
+    pub quantizer: u32,
+    /// bdShift: how many bits of a product are shifted out.
+    pub shift: u32,
+}
+
+/// What the levels of a block of 2^`log2` columns and rows are scaled by; `qp` and `depth` are those of `scale`.
+#[inline(always)]
+pub fn scaling_of(log2: u32, qp: u32, depth: u32) -> Scaling
+    requires depth { IsDepth depth }
+    requires log2 { IsSize log2 }
+    requires qp { IsParameter depth qp }
+    ensures quantizer { result.quantizer ≡ quantizer qp }
+    ensures small { result.quantizer ≤ 1179648 }
+    ensures shift { result.shift ≡ depth + log2 - 5 }
+    ensures some_shift { 1 ≤ result.shift }
+    ensures few { result.shift ≤ 14 }
+{
+    Scaling {
+        quantizer: quantizer(qp),
+        shift: depth + log2 - 5,
+    }
+}
+
+/// The scaled coefficient of a level under a scaling factor, as `scale` stores it.
+#[inline(always)]
+#[tactic(auto, unfolding(spec_transforms::specs::Scaling::scaled))]
+pub fn scale_level(level: i32, factor: u8, scaling: Scaling) -> i32
+    requires level { Is16 level }
+    requires quantizer { scaling.quantizer ≤ 1179648 }
+    requires some_shift { 1 ≤ scaling.shift }
+    requires shift { scaling.shift ≤ 14 }
+    ensures value { (depth log2 qp : ℕ) → scaling.quantizer ≡ quantizer qp → scaling.shift ≡ depth + log2 - 5
+        → result ≡ scaled depth log2 qp factor level }
+    ensures small { Is16 result }
+{
+    scaled(level, factor, scaling.quantizer, scaling.shift)
 }
 
 /// Scales eight levels from `start` on, which mostly are all 0.

@@ -32,7 +32,7 @@ pub fn inverse(d: &[i32], log2: u32, dst: bool, depth: u32, out: &mut [i32])
 {
     let matrix = matrix_of(dst, log2);
     match log2 {
-        2 => transform::<4, 2, 16>(d, &matrix, depth, out),
+        2 => transform_whole::<4, 2, 16>(d, &matrix, depth, out),
         3 => transform::<8, 4, 64>(d, &matrix, depth, out),
         4 => transform::<16, 8, 256>(d, &matrix, depth, out),
         _ => transform::<32, 16, 1024>(d, &matrix, depth, out),
@@ -65,6 +65,40 @@ fn transform<const SIZE: usize, const HALF: usize, const AREA: usize>(
     let mut between = [0; AREA];
     transform_columns::<SIZE, HALF, AREA>(d, matrix, Filled { rows, columns }, &mut between);
     transform_rows::<SIZE, HALF, AREA>(&between, matrix, columns, depth, out);
+}
+
+/// Both stages, over all rows and columns.
+///
+/// How many columns there are is the matrix's to say: by a bound that isn't constant what is between the stages stays
+/// in
+/// memory, line by line, from which the compiler makes vectors.
+#[inline(never)]
+fn transform_whole<const SIZE: usize, const HALF: usize, const AREA: usize>(
+    d: &[i32],
+    matrix: &Matrix<'_>,
+    depth: u32,
+    out: &mut [i32],
+)
+    requires same { matrix.now.size ≡ SIZE }
+    requires half { 2 * HALF ≡ SIZE }
+    requires area { SIZE * SIZE ≡ AREA }
+    requires depth { IsDepth depth }
+    requires matrix { IsMatrix matrix.now.entries.now matrix.now.stride SIZE }
+    requires coefficients { All Is16 d.now }
+    requires count { length d.now ≡ SIZE * SIZE }
+    requires room { length out.old ≡ length d.now }
+    ensures value { (x y : ℕ) → x < SIZE → y < SIZE → block_in SIZE out.new x y
+        ≡ residual_of depth (second_stage (matrix_in matrix.now.entries.now matrix.now.stride) SIZE
+        (first_stage (matrix_in matrix.now.entries.now matrix.now.stride) SIZE (block_in SIZE d.now)) x y) }
+    ensures small { All IsResidual out.new }
+{
+    let all = Filled {
+        rows: SIZE,
+        columns: matrix.size,
+    };
+    let mut between = [0; AREA];
+    transform_columns::<SIZE, HALF, AREA>(d, matrix, all, &mut between);
+    transform_rows::<SIZE, HALF, AREA>(&between, matrix, SIZE, depth, out);
 }
 
 /// How many rows and columns have coefficients.

@@ -1,4 +1,4 @@
-use Rattle.std.proofs.Common.{rules}
+use Rattle.std.proofs.Common.{rules, refl}
 use Rattle.ctu_build.proofs.Squares.{scaled_constructed}
 use Rattle.ctu_build.proofs.blocks.add_residuals.Goals as goal
 
@@ -7,4 +7,4 @@ returns c =
     let a = c.args in
     scaled_constructed a.format.now a.coded.mode a.coded.block a.coded.qp _ a.items.now _ _ _ _ _ _ _
     c.add.ensures c.place_of-place.ensures.value c.depth_of-depth.ensures.value c.requires.bypass
-    c.read_levels.ensures.value (search rules) c.parameter_of-qp.ensures.value c.residuals_of.ensures.value
+    refl (search rules) c.parameter_of-qp.ensures.value c.residuals_of.ensures.value

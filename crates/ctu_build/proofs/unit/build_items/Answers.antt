@@ -9,7 +9,10 @@ pub loop-k-preserved : goal.loop-k-preserved
 loop-k-preserved g c = record {
   mode = c.build_item-coding.ensures.mode;
   told = λ all each pulses.
-      built_more _ (inter_of c.args.source.now.inter (g.V.RefWindow.reference_at c.args.view.now)) _
+      c.behind_levels-k.ensures.value _
+      (inter_of c.args.source.now.inter (g.V.RefWindow.reference_at c.args.view.now)) _
+      (building c.build_item-coding.result (held c.build_item-coding.new.samples))
+      ∙ built_more _ (inter_of c.args.source.now.inter (g.V.RefWindow.reference_at c.args.view.now)) _
       c.args.items.now c.loop-k.k _ _ (building c.loop-k.coding (held c.loop-k.samples))
       _ _ c.loop-k-test.true refl
       (rw c.loop-k.invariant.same at

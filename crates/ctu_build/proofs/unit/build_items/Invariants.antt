@@ -1,4 +1,4 @@
-use Rattle.std.proofs.Common.{◌≡◌, ◌≤◌, drop}
+use Rattle.std.proofs.Common.{◌≡◌, ◌≤◌, ◌-◌, drop, length}
 use Rattle.ctu_build.specs.Building.{building}
 use Rattle.ctu_build.specs.Held.{held}
 use Rattle.ctu_build.specs.Inter.{inter_of}
@@ -18,3 +18,6 @@ invariant-loop-k g l = record {
       l.source.records.now.items l.items (before_unit (held l.fn.samples));
   same : g.V.RefWindow.reference_at l.view ≡ g.V.RefWindow.reference_at l.fn.view;
 }
+
+abbrev pub decreases-loop-k : goal.decreases-loop-k
+decreases-loop-k g l = length l.items - l.k

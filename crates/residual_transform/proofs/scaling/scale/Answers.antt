@@ -12,7 +12,8 @@ loop-k-preserved c = record {
       (λ i. at c.scale_eight.new.out i
       ≡ scaled c.args.depth c.args.log2 c.args.qp (slice_index c.args.factors.now i) (at c.args.levels.now i))
       (λ i h. rw (c.scale_eight.ensures.before i h) (c.loop-k.invariant.told i h))
-      (λ j h. rw c.quantizer.ensures.value at (c.scale_eight.ensures.here j h));
+      (λ j h. rw (c.scaling_of-scaling.ensures.quantizer, c.scaling_of-scaling.ensures.shift) at
+      (c.scale_eight.ensures.here j h));
   small = eight_more c.loop-k.k
       (λ i. Is16 (at c.scale_eight.new.out i))
       (λ i h. rw (c.scale_eight.ensures.before i h) (c.loop-k.invariant.small i h))
