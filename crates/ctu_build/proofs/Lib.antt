@@ -12,4 +12,5 @@ pub mod Offered
 pub mod Rectangles
 pub mod Parts
 pub mod Edges
+pub mod Runs
 pub mod Writing

@@ -1,5 +1,5 @@
 -- How many samples blocks have on a side.
-use Rattle.std.proofs.Common.{◌≡◌, ℕ, ◌+◌, ◌*◌, ◌^◌, ◌≤◌, arith}
+use Rattle.std.proofs.Common.{◌≡◌, ℕ, ◌+◌, ◌-◌, ◌*◌, ◌^◌, ◌≤◌, sym, ap, ◌∙◌, arith}
 use Rattle.std.proofs.lemmas.Nat.{pow-add}
 use Rattle.std.proofs.Math.Nat.{pow-le-pow_right}
 
@@ -15,3 +15,9 @@ luma_side n = omega (arith, pow-add 2 n 2)
 
 pub chroma_side : (n : ℕ) → 2 ^ (n + 1) ≡ 2 * 2 ^ n
 chroma_side n = omega (arith, pow-add 2 n 1)
+
+-- a side of at least four samples is made of groups of four
+pub fours : (log2 : ℕ) → 2 ≤ log2 → 2 ^ log2 ≡ 4 * 2 ^ (log2 - 2)
+fours log2 h =
+    let e : log2 - 2 + 2 ≡ log2 = omega arith in
+    ap (λ (k : ℕ). 2 ^ k) (sym e) ∙ luma_side (log2 - 2)

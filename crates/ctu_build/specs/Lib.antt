@@ -4,3 +4,4 @@ pub mod Offsets
 pub mod Inter
 pub mod InterSamples
 pub mod Scaled
+pub mod Beside

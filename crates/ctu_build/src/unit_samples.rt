@@ -251,3 +251,23 @@ impl Border for UnitSamples {
         }
     }
 }
+
+impl UnitSamples {
+    /// The cells of all components, line after line.
+    #[inline(always)]
+    pub(crate) fn values(&self) -> &[u16]
+        ensures value { result.now ≡ self.now.values }
+        ensures count { length result.now ≡ 25155 }
+    {
+        &self.values
+    }
+
+    /// In which of them a sample is known.
+    #[inline(always)]
+    pub(crate) fn known(&self) -> &[bool]
+        ensures value { result.now ≡ self.now.known }
+        ensures count { length result.now ≡ 25155 }
+    {
+        &self.known
+    }
+}
