@@ -1,14 +1,14 @@
 //! Prediction along a direction (8.4.4.2.6).
 
 ghost use Rattle.std.specs.Prelude.{◌≡◌, ◌≤◌, ◌<◌, ◌+◌, ◌-◌, ◌*◌, ◌^◌, ◌/◌, ◌%◌, ℕ, pos, negsuc, ◌+ℤ◌, ◌-ℤ◌, ◌≤ℤ◌};
-ghost use Rattle.std.specs.Prelude.{length, cond, nat_le, nat_lt, ◌&&◌, ◌||◌, ◌==◌};
+ghost use Rattle.std.specs.Prelude.{length, true, cond, nat_le, nat_lt, ◌&&◌, ◌||◌, ◌==◌};
 ghost use Rattle.std.specs.Int.{int_shr};
 ghost use Rattle.intra_pred.specs.Reference.{IsReference};
 ghost use Rattle.spec_intra_prediction.specs.Neighbours.{at};
 ghost use Rattle.spec_intra_prediction.specs.Angular.{angle, angular, inverse_angle, met, met_sample, between};
 ghost use Rattle.spec_intra_prediction.specs.Angular.{reference, stepped};
 
-use crate::rows::columns;
+use crate::rows::{columns, greatest};
 use spec_intra_prediction::{inverse_angle, pred_angle};
 
 /// A direction, at a block of 2^`log2` columns.
@@ -42,8 +42,15 @@ pub fn angular(main: &[u16], side: &[u16], direction: Direction, out: &mut [u16]
     let mut reference = [0; 98];
     fill(main, side, direction.mode, n, &mut reference);
     let sides = Sides { main, side };
+    let small = greatest(&reference) < 512;
     for y in 0..n {
-        line(&sides, direction, &reference, LinePlace { n, y }, out);
+        line(
+            &sides,
+            direction,
+            &reference,
+            LinePlace { n, y, small },
+            out,
+        );
     }
 }
 
@@ -54,11 +61,12 @@ struct Sides<'a> {
     side: &'a [u16],
 }
 
-/// A line of a block of `n` columns.
+/// A line of a block of `n` columns, and whether all reference samples are below 512.
 #[derive(Clone, Copy)]
 struct LinePlace {
     n: usize,
     y: usize,
+    small: bool,
 }
 
 /// Writes the reference samples of a direction, `n` places behind.
@@ -137,6 +145,7 @@ fn line(
     requires main { length sides.now.main.now ≡ 2 * line.n + 1 }
     requires side { length sides.now.side.now ≡ 2 * line.n + 1 }
     requires reference { IsReference line.n direction.mode sides.now.main.now sides.now.side.now reference.now }
+    requires small { line.small ≡ true → (k : ℕ) → k < 98 → at reference.now k < 512 }
     requires out { line.n * line.y + line.n ≤ length out.old }
     ensures { (q : ℕ) → at out.new q
         ≡ cond (nat_le (line.n * line.y) q && nat_lt q (line.n * line.y + line.n))
@@ -146,7 +155,7 @@ fn line(
 {
     let first = line.n * line.y;
     let place = met(line.n, pred_angle(direction.mode), line.y);
-    met_line(reference, place, direction.log2, first, out);
+    met_line(reference, place, direction.log2, line.small, first, out);
     if has_edge(direction) {
         let main = sides.main;
         out[first] = stepped(direction.depth, main[1], sides.side[line.y + 1], main[0]);
@@ -178,8 +187,34 @@ fn met(n: usize, angle: i32, y: usize) -> usize
     }
 }
 
-/// A line of 2^`log2` samples between those that it meets.
-fn met_line(reference: &[u16; 98], place: usize, log2: u32, first: usize, out: &mut [u16])
+/// A line of 2^`log2` samples between those that it meets; `small` says that all are below 512.
+fn met_line(
+    reference: &[u16; 98],
+    place: usize,
+    log2: u32,
+    small: bool,
+    first: usize,
+    out: &mut [u16],
+)
+    requires log2 { (2 ≤ log2) × (log2 ≤ 5) }
+    requires place { place ≤ 64 * 2 ^ log2 }
+    requires small { small ≡ true → (k : ℕ) → k < 98 → at reference.now k < 512 }
+    requires out { first + 2 ^ log2 ≤ length out.old }
+    ensures { (q : ℕ) → at out.new q
+        ≡ cond (nat_le first q && nat_lt q (first + 2 ^ log2))
+        (between (place % 32) (at reference.now (place / 32 + (q - first) + 1))
+        (at reference.now (place / 32 + (q - first) + 2)))
+        (at out.old q) }
+{
+    if small {
+        small_line(reference, place, log2, first, out);
+    } else {
+        wide_line(reference, place, log2, first, out);
+    }
+}
+
+/// A line of 2^`log2` samples between those that it meets, whatever they are.
+fn wide_line(reference: &[u16; 98], place: usize, log2: u32, first: usize, out: &mut [u16])
     requires log2 { (2 ≤ log2) × (log2 ≤ 5) }
     requires place { place ≤ 64 * 2 ^ log2 }
     requires out { first + 2 ^ log2 ≤ length out.old }
@@ -228,6 +263,62 @@ fn between(part: u32, first: u16, second: u16) -> u16
     ensures { result ≡ between part first second }
 {
     (((32 - part) * u32::from(first) + part * u32::from(second) + 16) / 32) as u16
+}
+
+/// A line of 2^`log2` samples between those that it meets, which are below 512.
+fn small_line(reference: &[u16; 98], place: usize, log2: u32, first: usize, out: &mut [u16])
+    requires log2 { (2 ≤ log2) × (log2 ≤ 5) }
+    requires place { place ≤ 64 * 2 ^ log2 }
+    requires small { (k : ℕ) → k < 98 → at reference.now k < 512 }
+    requires out { first + 2 ^ log2 ≤ length out.old }
+    ensures { (q : ℕ) → at out.new q
+        ≡ cond (nat_le first q && nat_lt q (first + 2 ^ log2))
+        (between (place % 32) (at reference.now (place / 32 + (q - first) + 1))
+        (at reference.now (place / 32 + (q - first) + 2)))
+        (at out.old q) }
+{
+    match log2 {
+        2 => small_samples::<4>(reference, place, first, out),
+        3 => small_samples::<8>(reference, place, first, out),
+        4 => small_samples::<16>(reference, place, first, out),
+        _ => small_samples::<32>(reference, place, first, out),
+    }
+}
+
+/// So many samples of a line, between those that they meet, which are below 512.
+#[inline(always)]
+fn small_samples<const COUNT: usize>(
+    reference: &[u16; 98],
+    place: usize,
+    first: usize,
+    out: &mut [u16],
+)
+    requires few { COUNT ≤ 32 }
+    requires place { place ≤ 64 * COUNT }
+    requires small { (k : ℕ) → k < 98 → at reference.now k < 512 }
+    requires out { first + COUNT ≤ length out.old }
+    ensures { (q : ℕ) → at out.new q
+        ≡ cond (nat_le first q && nat_lt q (first + COUNT))
+        (between (place % 32) (at reference.now (place / 32 + (q - first) + 1))
+        (at reference.now (place / 32 + (q - first) + 2)))
+        (at out.old q) }
+{
+    let whole = place / 32;
+    let part = (place % 32) as u16;
+    for x in 0..COUNT {
+        out[first + x] = small_between(part, reference[whole + x + 1], reference[whole + x + 2]);
+    }
+}
+
+/// Two samples below 512, by 1/32 of the way between them.
+#[inline(always)]
+fn small_between(part: u16, first: u16, second: u16) -> u16
+    requires part { part < 32 }
+    requires first { first < 512 }
+    requires second { second < 512 }
+    ensures { result ≡ between part first second }
+{
+    ((32 - part) * first + part * second + 16) / 32
 }
 
 /// A sample moved by half of what the side changes, clipped to the range of samples.

@@ -105,6 +105,8 @@ fn directed(edge: &[u16], direction: Direction, out: &mut [u16])
         angular(above, left, direction, out);
     } else if n <= 8 {
         across(left, above, direction, &mut [0; 64], out);
+    } else if n <= 16 {
+        across(left, above, direction, &mut [0; 256], out);
     } else {
         across(left, above, direction, &mut [0; 1024], out);
     }

@@ -25,3 +25,15 @@ pub fn lay(out: &mut [u16], first: usize, count: usize, value: u16)
         out[first + k] = value;
     }
 }
+
+/// The greatest of some samples.
+#[inline(always)]
+pub fn greatest(samples: &[u16]) -> u16
+    ensures { (k : ℕ) → k < length samples.now → at samples.now k ≤ result }
+{
+    let mut greatest = 0;
+    for k in 0..samples.len() {
+        greatest = samples[k].max(greatest);
+    }
+    greatest
+}
