@@ -1,6 +1,6 @@
 -- The motion of a place.
 use Rattle.std.proofs.Common.{◌≡◌, ℕ, Bool, true, false, ◌+◌, ◌*◌, ◌<◌, ◌≤◌, ◌==◌, ◌&&◌, ◌||◌, cond, List}
-use Rattle.std.proofs.Common.{length, Some, None, get_or, map, inl, inr, refl, sym, ap, subst, ◌∙◌, arith}
+use Rattle.std.proofs.Common.{length, Option, Some, None, get_or, map, inl, inr, refl, sym, ap, subst, ◌∙◌, arith}
 use Rattle.std.specs.List.{range_with_len}
 use Rattle.std.proofs.lemmas.Bool.{cases_lt}
 use Rattle.std.proofs.lemmas.Bool.Decides.{nat_tests}
@@ -12,7 +12,7 @@ use Rattle.picture_buffer.specs.declared.place_motion.PlaceMotion.{PlaceMotion}
 use Rattle.picture_buffer.specs.declared.targets.OwnTargets.{OwnTargets}
 use Rattle.picture_buffer.specs.declared.targets.Target.{Target}
 use Rattle.picture_buffer.specs.Motion.{motions_of, unpacked_place, unpacked_places}
-use Rattle.picture_buffer.specs.Packed.{AreKept, IsWithin, no_motion, no_own, no_target, target_of, to_target}
+use Rattle.picture_buffer.specs.Packed.{AreKept, AreStill, IsWithin, no_motion, no_own, no_target, target_of, to_target}
 use Rattle.picture_buffer.specs.Packed.{unpacked, unpacked_vector}
 
 -- a place's motion by its number
@@ -59,6 +59,16 @@ pub none_at : (targets : List Target) (own : Cells OwnTargets) (grid : Cells Pac
     → (x y : ℕ) → motions_of (unpacked_places targets own grid) x y ≡ None
 none_at targets own grid columns rows all x y =
     motion_at targets own grid columns rows x y ∙ ap (unpacked targets (cell no_own own x y)) (all x y)
+
+pub still_at : (targets : List Target) (count : ℕ) (moving : Bool) (own : Cells OwnTargets) (grid : Cells PackedMotion)
+    → AreKept grid own count → AreStill moving grid → moving ≡ false
+    → (x y : ℕ) → motions_of (unpacked_places targets own grid) x y ≡ None
+still_at targets count moving own grid kept still e x y =
+    none_at targets own grid kept.columns kept.rows (still e) x y
+
+pub unmoved : (here : Bool) (motion : Option PlaceMotion) → motion ≡ None → motion ≡ cond here None motion
+unmoved true motion e = e
+unmoved false motion e = refl
 
 -- a place whose indices are used has the same motion where there are more targets
 stays : (old new : List Target) (count : ℕ) (own : OwnTargets) (p : PackedMotion) → IsWithin count p

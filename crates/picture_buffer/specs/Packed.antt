@@ -1,5 +1,5 @@
 -- A place's motion, packed.
-use Rattle.std.specs.Prelude.{◌≡◌, ℕ, pos, ◌<◌, ◌≤◌, ◌==◌, false, List, slice_index_or, Option, Some, None}
+use Rattle.std.specs.Prelude.{◌≡◌, ℕ, pos, ◌<◌, ◌≤◌, ◌==◌, Bool, false, List, slice_index_or, Option, Some, None}
 use Rattle.std.specs.Prelude.{if◌then◌else◌}
 use Rattle.place_grid.specs.Cells.{Cells, cell}
 use Rattle.spec_motion.specs.CtuRecords.{Mv}
@@ -78,3 +78,7 @@ pub record AreKept (places : Cells PackedMotion) (own : Cells OwnTargets) (count
   pub from : 3 ≤ count
   pub to : count ≤ 64
   pub indices : (x y : ℕ) → IsWithin count (cell no_motion places x y)
+
+-- where no place may have motion, none is packed
+abbrev pub AreStill : Bool → Cells PackedMotion → Type 0
+AreStill moving places = moving ≡ false → (x y : ℕ) → cell no_motion places x y ≡ no_motion

@@ -1,7 +1,7 @@
 //! The motion of a picture.
 
 ghost use Rattle.std.specs.Prelude.{◌≡◌, ℕ, ◌+◌, ◌<◌, ◌≤◌, ◌==◌, ◌&&◌, ◌||◌, nat_le, nat_lt};
-ghost use Rattle.std.specs.Prelude.{IfOk, None, if◌then◌else◌};
+ghost use Rattle.std.specs.Prelude.{IfOk, None, Some, if◌then◌else◌};
 ghost use Rattle.picture_buffer.specs.Motion.{HasPlaces, motions_of};
 ghost use Rattle.picture_buffer.specs.Packed.{no_own, target_of};
 ghost use Rattle.place_grid.specs.Cells.{HasCells, cell};
@@ -23,17 +23,19 @@ pub struct MotionField {
     targets: [Target; 64],
     /// How many indices are used.
     count: usize,
+    /// Whether a place may have motion.
+    moving: bool,
 }
 
 impl Model for MotionField {
     ghost use Rattle.picture_buffer.specs.Motion.{FieldPlaces, unpacked_places};
-    ghost use Rattle.picture_buffer.specs.Packed.{AreKept};
+    ghost use Rattle.picture_buffer.specs.Packed.{AreKept, AreStill};
 
     ghost Value = { FieldPlaces };
 
     ghost view = { λ f. unpacked_places f.targets f.own f.places };
 
-    ghost invariant = { λ f. AreKept f.places f.own f.count };
+    ghost invariant = { λ f. AreKept f.places f.own f.count × AreStill f.moving f.places };
 }
 
 impl MotionField {
@@ -51,6 +53,7 @@ impl MotionField {
             own,
             targets: [NO_TARGET; 64],
             count: FIRST,
+            moving: false,
         })
     }
 
@@ -59,8 +62,11 @@ impl MotionField {
         ensures sides { (across down : ℕ) → HasPlaces self.old across down → HasPlaces self.new across down }
         ensures places { (x y : ℕ) → motions_of self.new x y ≡ None }
     {
-        self.places.fill(NO_MOTION);
-        self.count = FIRST;
+        if self.moving {
+            self.places.fill(NO_MOTION);
+            self.count = FIRST;
+            self.moving = false;
+        }
     }
 
     /// How many places a row has.
@@ -81,8 +87,12 @@ impl MotionField {
     pub fn at(&self, x: usize, y: usize) -> Option<PlaceMotion>
         ensures { result ≡ motions_of self.now x y }
     {
-        let place = self.places.at(x, y, NO_MOTION);
-        place.motion(&self.targets, self.own.at(x, y))
+        if self.moving {
+            let place = self.places.at(x, y, NO_MOTION);
+            place.motion(&self.targets, self.own.at(x, y))
+        } else {
+            None
+        }
     }
 
     /// The motion of a place.
@@ -104,13 +114,37 @@ impl MotionField {
         ensures places { (i j : ℕ) → motions_of self.new i j
             ≡ (if j == y && (nat_le x i && nat_lt i (x + count)) then motion else motions_of self.old i j) }
     {
-        let Some(motion) = motion else {
+        match motion {
+            None => self.clear_run(x, y, count),
+            Some(motion) => self.put_motion(x, y, count, motion),
+        }
+    }
+
+    /// No motion over so many places of a row. Where no place has any, nothing is written.
+    fn clear_run(&mut self, x: usize, y: usize, count: usize)
+        requires columns { x + count ≤ self.old.across }
+        requires row { y < self.old.down }
+        ensures sides { (across down : ℕ) → HasPlaces self.old across down → HasPlaces self.new across down }
+        ensures places { (i j : ℕ) → motions_of self.new i j
+            ≡ (if j == y && (nat_le x i && nat_lt i (x + count)) then None else motions_of self.old i j) }
+    {
+        if self.moving {
             self.places.put_run(x, y, count, NO_MOTION);
-            return;
-        };
+        }
+    }
+
+    /// A motion over so many places of a row.
+    fn put_motion(&mut self, x: usize, y: usize, count: usize, motion: PlaceMotion)
+        requires columns { x + count ≤ self.old.across }
+        requires row { y < self.old.down }
+        ensures sides { (across down : ℕ) → HasPlaces self.old across down → HasPlaces self.new across down }
+        ensures places { (i j : ℕ) → motions_of self.new i j
+            ≡ (if j == y && (nat_le x i && nat_lt i (x + count)) then Some motion else motions_of self.old i j) }
+    {
         let (index_0, behind) = keep(&mut self.targets, self.count, motion.list_0);
         let (index_1, last) = keep(&mut self.targets, behind, motion.list_1);
         self.count = last;
+        self.moving = true;
         let packed = PackedMotion {
             mv_0: mv_of(motion.list_0),
             mv_1: mv_of(motion.list_1),
