@@ -1,5 +1,5 @@
 -- The motion of a unit, laid row after row.
-use Rattle.std.proofs.Common.{◌≡◌, ℕ, ◌+◌, ◌-◌, ◌&&◌, cond, nat_le, nat_lt, arith}
+use Rattle.std.proofs.Common.{◌≡◌, ℕ, ◌+◌, ◌-◌, ◌<◌, ◌≤◌, ◌&&◌, cond, nat_le, nat_lt, arith}
 use Rattle.std.proofs.Math.Path.{fun_ext}
 use Rattle.std.proofs.lemmas.Bool.Decides.{nat_tests}
 use Rattle.spec_motion.specs.declared.slice_motion.SliceMotion.{SliceMotion}
@@ -35,3 +35,18 @@ pub laid_rows : (unit : CodingTreeUnit) (block : PlaceBlock) (slice : SliceMotio
     → new ≡ unit_laid unit.layout unit.address slice known old
 laid_rows unit block slice known old new is e =
     fun_ext (λ i. fun_ext (λ j. laid_at unit block slice known old new i j is (e i j)))
+
+-- rows that have the motion of one, behind those that are laid
+pub rows_more : {A : Type 0} (x y columns row end : ℕ) (f : ℕ → ℕ → A) (new mid old : A) (i j : ℕ) → row < end
+    → ((a b : ℕ) → a < columns → row ≤ b → b < end → f (a + 1) (b + 1) ≡ f (a + 1) (row + 1))
+    → new
+    ≡ cond ((nat_le (y + row) j && nat_lt j (y + end)) && (nat_le x i && nat_lt i (x + columns)))
+    (f (i - x + 1) (row + 1)) mid
+    → mid
+    ≡ cond ((nat_le y j && nat_lt j (y + row)) && (nat_le x i && nat_lt i (x + columns)))
+    (f (i - x + 1) (j - y + 1)) old
+    → new
+    ≡ cond ((nat_le y j && nat_lt j (y + end)) && (nat_le x i && nat_lt i (x + columns)))
+    (f (i - x + 1) (j - y + 1)) old
+rows_more x y columns row end f new mid old i j lt same put before =
+    let e = same (i - x) (j - y) in grind (arith, nat_tests)
