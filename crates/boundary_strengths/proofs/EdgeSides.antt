@@ -1,5 +1,6 @@
 -- The strength of an edge, from what is known on both sides.
-use Rattle.std.proofs.Common.{◌≡◌, ℕ, Bool, true, false, ◌&&◌, ◌||◌, refl, sym, ◌∙◌, Option, ℤ, if◌then◌else◌}
+use Rattle.std.proofs.Common.{◌≡◌, ℕ, Bool, true, false, ◌&&◌, ◌||◌, refl, sym, ◌∙◌, Option, ℤ, if◌then◌else◌, None}
+use Rattle.std.proofs.Common.{Some}
 use Rattle.spec_boundary_strengths.specs.PictureBuffer.{PlaceMotion}
 use Rattle.spec_boundary_strengths.specs.declared.place.UnitPlace.{UnitPlace}
 use Rattle.spec_boundary_strengths.specs.Strengths.{strength}
@@ -17,6 +18,15 @@ pub strength_same : (r : ℕ) (coded t t' b b' c c' : Bool) (p p' q q' : Option 
     → coded ≡ (t && (b || c)) → t ≡ t' → b ≡ b' → c ≡ c' → p ≡ p' → q ≡ q'
     → r ≡ strength (t' && (b' || c')) p' q'
 strength_same r coded t t' b b' c c' p p' q q' er ec et eb ef ep eq = rw (← ep, ← eq, ← et, ← eb, ← ef, ← ec) er
+
+pub without_motion : (coded : Bool) (p : Option PlaceMotion) → 2 ≡ strength coded p None
+unfolding strength
+without_motion coded None = refl
+without_motion coded (Some p) = refl
+
+-- where the place behind has no motion
+pub still : (coded : Bool) (p q : Option PlaceMotion) → q ≡ None → 2 ≡ strength coded p q
+still coded p q e = rw e (without_motion coded p)
 
 -- where there is an edge
 pub with_edge : (e f t t' p p' : Bool) (r s : ℕ) → e ≡ true → e ≡ (f && (t || p)) → t ≡ t' → p ≡ p' → r ≡ s

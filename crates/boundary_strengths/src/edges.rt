@@ -1,6 +1,6 @@
 //! The strengths of the edges of a place (8.7.2.4).
 
-ghost use Rattle.std.specs.Prelude.{◌≡◌, ℕ, ◌+◌, ◌<◌, ◌≤◌, Bool, ◌&&◌, ◌||◌, List, Option};
+ghost use Rattle.std.specs.Prelude.{◌≡◌, ℕ, ◌+◌, ◌<◌, ◌≤◌, Bool, ◌&&◌, ◌||◌, List, Option, None};
 ghost use Rattle.ctu_records.specs.declared.item.Item.{Item};
 ghost use Rattle.spec_boundary_strengths.specs.PictureBuffer.{PlaceMotion};
 ghost use Rattle.spec_boundary_strengths.specs.Strengths.{coded_around, is_filtered, left_strength, strength};
@@ -74,6 +74,54 @@ pub(crate) fn top_strength<V: PlaceMotions>(
         let behind = coded_around(marks, sides, x + 1, y + 1);
         let coded = is_coded(transform, before, behind);
         strength_behind(coded, view, x + 1, y, motion)
+    } else {
+        0
+    }
+}
+
+/// bS of the left side of a place without motion.
+#[inline(always)]
+pub(crate) fn intra_left(marks: &Marks, sides: &UnitSides, x: usize, y: usize) -> u8
+    requires x { x < 16 }
+    requires y { y < 16 }
+    ensures { (pcm_disabled : Bool) (items : List Item) (motion : ℕ → ℕ → Option PlaceMotion)
+        → AreMarked pcm_disabled items marks.now → motion (x + 1) (y + 1) ≡ None
+        → result ≡ left_strength (beside_of sides.now motion) items x y }
+{
+    let transform = marks.transform_left[16 * y + x];
+    let prediction = marks.prediction_left[16 * y + x];
+    if is_edge(
+        transform,
+        prediction,
+        sides.deblocking_disabled,
+        sides.filter_left,
+        x,
+    ) {
+        2
+    } else {
+        0
+    }
+}
+
+/// bS of its top.
+#[inline(always)]
+pub(crate) fn intra_top(marks: &Marks, sides: &UnitSides, x: usize, y: usize) -> u8
+    requires x { x < 16 }
+    requires y { y < 16 }
+    ensures { (pcm_disabled : Bool) (items : List Item) (motion : ℕ → ℕ → Option PlaceMotion)
+        → AreMarked pcm_disabled items marks.now → motion (x + 1) (y + 1) ≡ None
+        → result ≡ top_strength (beside_of sides.now motion) items x y }
+{
+    let transform = marks.transform_top[16 * y + x];
+    let prediction = marks.prediction_top[16 * y + x];
+    if is_edge(
+        transform,
+        prediction,
+        sides.deblocking_disabled,
+        sides.filter_top,
+        y,
+    ) {
+        2
     } else {
         0
     }

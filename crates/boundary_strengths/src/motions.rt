@@ -1,6 +1,6 @@
 //! The motion of places.
 
-ghost use Rattle.std.specs.Prelude.{◌≡◌, ◌≤◌, ℕ, Option};
+ghost use Rattle.std.specs.Prelude.{◌≡◌, ◌+◌, ◌<◌, ◌≤◌, ℕ, Option, None, true};
 ghost use Rattle.spec_boundary_strengths.specs.PictureBuffer.{PlaceMotion};
 
 use spec_boundary_strengths::PlaceMotion;
@@ -16,4 +16,9 @@ pub trait PlaceMotions {
         requires column { column ≤ 16 }
         requires row { row ≤ 16 }
         ensures { result ≡ motion_at self.now column row };
+
+    /// Whether the unit's first places, so many across and down, are known to have no motion.
+    fn is_intra(&self, side: usize) -> bool
+        requires { side ≤ 16 }
+        ensures { result ≡ true → (x y : ℕ) → x < side → y < side → motion_at self.now (x + 1) (y + 1) ≡ None };
 }

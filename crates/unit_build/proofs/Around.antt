@@ -1,12 +1,12 @@
 -- The motion of a unit that is derived, and of what stands beside it.
-use Rattle.std.proofs.Common.{◌≡◌, ℕ, ◌+◌, ◌-◌, ◌≤◌, true, false, ap, ◌∙◌, arith}
+use Rattle.std.proofs.Common.{◌≡◌, ℕ, ◌+◌, ◌-◌, ◌<◌, ◌≤◌, Bool, true, false, None, ap, refl, sym, ◌∙◌, arith}
 use Rattle.std.proofs.lemmas.Bool.Decides.{nat_tests}
 use Rattle.spec_motion.specs.declared.slice_motion.SliceMotion.{SliceMotion}
 use Rattle.spec_motion.specs.Vectors.{Known}
 use Rattle.spec_picture_filters.specs.Units.{motion_near}
 use Rattle.spec_picture_build.specs.SpecPictureMotion.{Motions, pointing_motion}
 use Rattle.spec_picture_build.specs.SpecPictureMotion.{unit_laid}
-use Rattle.picture_filters.specs.SpecPictureTrees.{first_column, first_row, is_there}
+use Rattle.picture_filters.specs.SpecPictureTrees.{first_column, first_row, is_there, unit_places}
 use Rattle.spec_picture_build.specs.SpecSliceData.{PictureShape}
 use Rattle.unit_build.specs.Near.{is_inside}
 
@@ -36,3 +36,22 @@ pub near_beside : (picture : PictureShape) (address : ℕ) (slice : SliceMotion)
     ≡ motion_near picture address (unit_laid picture address slice known motions) column row
 unfolding motion_near unit_laid
 near_beside picture address slice known motions column row there outside = grind (arith, nat_tests)
+
+-- where none is known of a place of the unit
+still_at : (there : Bool) (picture : PictureShape) (address : ℕ) (slice : SliceMotion) (known : Known)
+    (motions : Motions) (column row : ℕ)
+    → is_there picture address column row ≡ there → is_inside picture column row ≡ true → known column row ≡ None
+    → motion_near picture address (unit_laid picture address slice known motions) column row ≡ None
+unfolding motion_near
+still_at true picture address slice known motions column row e inside none =
+    sym (near_inside picture address slice known motions column row e inside)
+    ∙ ap (pointing_motion slice) none
+still_at false picture address slice known motions column row e inside none = rw e refl
+
+pub still_near : (picture : PictureShape) (address : ℕ) (slice : SliceMotion) (known : Known) (motions : Motions)
+    (x y : ℕ) → x < unit_places picture → y < unit_places picture → known (x + 1) (y + 1) ≡ None
+    → motion_near picture address (unit_laid picture address slice known motions) (x + 1) (y + 1) ≡ None
+still_near picture address slice known motions x y few low none =
+    let inside : is_inside picture (x + 1) (y + 1) ≡ true = grind (arith, nat_tests) in
+    still_at (is_there picture address (x + 1) (y + 1)) picture address slice known motions (x + 1) (y + 1) refl inside
+    none

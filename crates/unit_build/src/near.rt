@@ -1,14 +1,16 @@
 //! The motion of a coding tree unit and beside it, as edges ask for it (8.7.2.4).
 
-ghost use Rattle.std.specs.Prelude.{◌≡◌, ◌≤◌};
+ghost use Rattle.std.specs.Prelude.{◌≡◌, ◌+◌, ◌<◌, ◌≤◌, ℕ, None, false, true};
 ghost use Rattle.picture_motion.specs.CtuMotion.{held};
 ghost use Rattle.unit_build.specs.Near.{is_inside, motion_behind};
+ghost use Rattle.spec_motion.specs.declared.slice_motion.SliceMotion.{SliceMotion};
+ghost use Rattle.spec_picture_build.specs.SpecPictureMotion.{Motions};
 ghost use Rattle.spec_picture_filters.specs.Units.{motion_near};
 
 use crate::view::Beside;
 use picture_filters::PlaceMotions;
 use picture_motion::{CodingTreeUnit, MotionView, PlaceMotion, UnitMotion, pointing_motion};
-use spec_motion::SliceMotion;
+use spec_motion::{Motion, SliceMotion};
 
 /// The motion of a unit that is derived, over that beside it.
 #[derive(Clone, Copy)]
@@ -29,6 +31,62 @@ impl<'a, B: Beside> PlaceMotions for UnitNear<'a, B> {
 
     fn motion(&self, column: usize, row: usize) -> Option<PlaceMotion> {
         motion_near(self.unit, self.beside, self.slice, self.motion, column, row)
+    }
+
+    fn is_intra(&self, side: usize) -> bool {
+        is_intra(self.unit, self.motion, side)
+    }
+}
+
+/// Whether the first places of a unit, so many across and down, have no motion.
+fn is_intra(unit: &CodingTreeUnit, motion: &UnitMotion, side: usize) -> bool
+    requires { side ≤ 16 }
+    ensures { result ≡ true → (slice : SliceMotion) (motions : Motions) (x y : ℕ) → x < side → y < side
+        → motion_near unit.now.layout unit.now.address (motion_behind unit.now slice (held motion.now) motions)
+        (x + 1) (y + 1)
+        ≡ None }
+{
+    if side <= unit.layout.side() {
+        are_still(motion, side)
+    } else {
+        false
+    }
+}
+
+/// Whether no motion is known of them.
+fn are_still(motion: &UnitMotion, side: usize) -> bool
+    requires { side ≤ 16 }
+    ensures { result ≡ true → (x y : ℕ) → x < side → y < side → held motion.now (x + 1) (y + 1) ≡ None }
+{
+    for y in 0..side {
+        if !is_still_row(motion, y, side) {
+            return false;
+        }
+    }
+    true
+}
+
+/// Whether none is known of those of a row.
+fn is_still_row(motion: &UnitMotion, y: usize, side: usize) -> bool
+    requires y { y < 16 }
+    requires side { side ≤ 16 }
+    ensures { result ≡ true → (x : ℕ) → x < side → held motion.now (x + 1) (y + 1) ≡ None }
+{
+    for x in 0..side {
+        if is_there(motion.motion(x + 1, y + 1)) {
+            return false;
+        }
+    }
+    true
+}
+
+/// Whether there is motion.
+fn is_there(motion: Option<Motion>) -> bool
+    ensures { result ≡ false → motion ≡ None }
+{
+    match motion {
+        Some(_) => true,
+        None => false,
     }
 }
 

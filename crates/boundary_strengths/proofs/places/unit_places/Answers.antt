@@ -1,31 +1,25 @@
-use Rattle.std.proofs.Common.{ℕ, ◌+◌, ◌*◌, ◌<◌, ◌≡◌, List, inl, inr, subst, arith, ◌∙◌}
-use Rattle.std.proofs.lemmas.Bool.{cases_lt}
+use Rattle.std.proofs.Common.{List, subst}
 use Rattle.std.specs.List.{All}
 use Rattle.ctu_records.specs.declared.item.Item.{Item}
-use Rattle.ctu_records.specs.Places.{by_place}
 use Rattle.spec_motion.specs.Units.{IsPlacedItem}
-use Rattle.spec_boundary_strengths.specs.declared.place.UnitPlace.{UnitPlace}
-use Rattle.spec_boundary_strengths.specs.Places.{unit_place}
-use Rattle.boundary_strengths.specs.Held.{AreMarked, beside_of}
+use Rattle.boundary_strengths.specs.Held.{AreMarked}
 use Rattle.boundary_strengths.proofs.places.unit_places.Goals as goal
 
-pub loop-y-preserved : goal.loop-y-preserved
-loop-y-preserved g c = λ each small i j d few low.
+pub returns-then-is_intra : goal.returns-then-is_intra
+returns-then-is_intra g c = λ each small x y d few low.
     let sides = c.args.sides.now in
-    let y = c.loop-y.y in
     let all =
     subst
     (λ (xs : List Item). All IsPlacedItem xs → AreMarked sides.pcm_loop_filter_disabled xs c.marks_of-marks.result)
     c.items.ensures c.marks_of-marks.ensures in
-    let at : ℕ → UnitPlace =
-    unit_place (beside_of sides (g.V.PlaceMotions.motion_at c.args.view.now)) sides.pcm_loop_filter_disabled
-    sides.qp_bd_offset c.args.records.now.items i in
-    elim (cases_lt j y) [
-      | inl below ↦
-          let before : 16 * j + i < 16 * y = omega (arith, below, few, c.requires.side) in
-          c.fill_row.ensures.above (16 * j + i) d before ∙ c.loop-y.invariant each small i j d few below
-      | inr above ↦
-          let same : y ≡ j = omega (arith, low, above) in
-          subst (λ (k : ℕ). by_place d c.fill_row.new.places i k ≡ at k) same
-          (c.fill_row.ensures.row (all each) small i d few)
-    ]
+    c.fill_intra.ensures (all each) small (g.V.PlaceMotions.motion_at c.args.view.now)
+    (c.is_intra.ensures c.if-is_intra.true) x y d few low
+
+pub returns-else-is_intra : goal.returns-else-is_intra
+returns-else-is_intra g c = λ each small x y d few low.
+    let sides = c.args.sides.now in
+    let all =
+    subst
+    (λ (xs : List Item). All IsPlacedItem xs → AreMarked sides.pcm_loop_filter_disabled xs c.marks_of-marks.result)
+    c.items.ensures c.marks_of-marks.ensures in
+    c.fill.ensures (all each) small x y d few low
