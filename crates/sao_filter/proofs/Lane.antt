@@ -1,5 +1,5 @@
 -- What one lane of eight holds.
-use Rattle.std.proofs.Common.{◌≡◌, ℕ, ◌+◌, ◌-◌, ◌%◌, ◌<◌, ◌≤◌, Bool, cond, true, false, ltb, w16, max, min, map, List}
+use Rattle.std.proofs.Common.{◌≡◌, ℕ, ◌+◌, ◌-◌, ◌*◌, ◌/◌, ◌%◌, ◌^◌, ◌<◌, ◌≤◌, Bool, cond, true, false, ltb, w16, max, min, map, List}
 use Rattle.std.proofs.Common.{length, get_or, replicate, refl, sym, ap, ◌∙◌, arith}
 use lib.Lanes.{Each1, chunk, zip2, sel_l, top}
 use mir.Val.{Fits}
@@ -53,6 +53,15 @@ plus lt {x = x} {y = y} p q = both lt (λ a b. (a + b) % 65536) ((x + y) % 65536
 pub minus : {k : ℕ} → k < 8 → {xs ys : List ℕ} {x y : ℕ} → Lane xs k x → Lane ys k y → x < 65536 → y ≤ x
     → Lane (zip2 (λ a b. (a + (65536 - b)) % 65536) xs ys) k (x - y)
 minus lt {x = x} {y = y} p q fits le = both lt (λ a b. (a + (65536 - b)) % 65536) (x - y) p q (omega arith)
+
+-- of a product, and of a shift down
+pub times : {k : ℕ} → k < 8 → {xs ys : List ℕ} {x y : ℕ} → Lane xs k x → Lane ys k y
+    → Lane (zip2 (λ a b. (a * b) % 65536) xs ys) k ((x * y) % 65536)
+times lt {x = x} {y = y} p q = both lt (λ a b. (a * b) % 65536) ((x * y) % 65536) p q refl
+
+pub shifted : {k : ℕ} → k < 8 → {xs ys : List ℕ} {x y : ℕ} → Lane xs k x → Lane ys k y
+    → Lane (zip2 (λ a b. a / 2 ^ b) xs ys) k (x / 2 ^ y)
+shifted lt {x = x} {y = y} p q = both lt (λ a b. a / 2 ^ b) (x / 2 ^ y) p q refl
 
 -- of a choice by a comparison
 pub chosen : {k : ℕ} → k < 8 → (t : ℕ → ℕ → Bool) {xs ys us vs : List ℕ} {x y u v : ℕ} → Lane xs k x → Lane ys k y

@@ -1,13 +1,16 @@
 -- What is made of one sample.
-use Rattle.std.proofs.Common.{◌≡◌, ℕ, zero, suc, ◌+◌, ◌-◌, ◌^◌, ◌%◌, ◌<◌, ◌≤◌, Bool, true, false, cond, nat_le, List}
+use Rattle.std.proofs.Common.{◌≡◌, ℕ, zero, suc, ◌+◌, ◌-◌, ◌*◌, ◌/◌, ◌^◌, ◌%◌, ◌<◌, ◌≤◌, Bool, true, false, cond, min}
+use Rattle.std.proofs.Common.{nat_le, nat_lt, List}
 use Rattle.std.proofs.Common.{arith, ap, ◌∙◌, ℤ, pos, negsuc, ◌+ℤ◌}
 use Rattle.std.specs.Prelude.{◌==◌}
 use Rattle.std.specs.Int.{int_max, int_min}
 use Rattle.std.specs.Int.RustNames.{unsigned_abs}
 use Rattle.std.proofs.lemmas.Int.{ints}
 use Rattle.std.proofs.lemmas.Bool.Decides.{nat_tests}
-use Rattle.spec_sample_adaptive_offset.specs.Offsets.{compared, edge_moved, moved}
+use Rattle.spec_sample_adaptive_offset.specs.Offsets.{band_index, band_moved, compared, edge_moved, moved}
 use Rattle.sao_filter.specs.Row.{at}
+use Rattle.sao_filter.specs.declared.changes.BandMoves.{BandMoves}
+use Rattle.sao_filter.specs.Moves.{AreBandMoves}
 use Rattle.sao_filter.specs.Units.{AreMoves, on_base}
 
 one_or_none : (b : Bool) → cond b 1 0 ≤ 1
@@ -90,3 +93,29 @@ edge_is depth offsets table g s a b s' a' b' are small same first second =
     ∙ ap (λ (v : ℕ). edge_moved depth offsets v a b) same
     ∙ ap (λ (v : ℕ). edge_moved depth offsets s' v b) first
     ∙ ap (λ (v : ℕ). edge_moved depth offsets s' a' v) second
+
+-- which offset a place among five has, of which the last has none
+abbrev pub next : ℕ → ℕ
+next p = cond (nat_lt p 4) (p + 1) 0
+
+next_held : (p : ℕ) → next (min p 4) ≡ next p
+next_held p = grind (arith, nat_tests)
+
+-- which offset the place of a band has
+pub next_is : (position from band : ℕ) → from ≡ position
+    → next (min ((band + (32 - from % 32)) % 32) 4) ≡ band_index position band
+unfolding band_index
+next_is position from band same = rw same (next_held ((band + (32 - position % 32)) % 32))
+
+-- a sample by its band, by what is added by where that stands
+pub banded_is : (depth position : ℕ) (offsets : List ℤ) (moves : BandMoves) (s s' : ℕ)
+    → AreBandMoves depth position offsets moves → s < 65536 → s ≡ s'
+    → on_base s (at moves.table (min ((s / 2 ^ moves.shift + moves.before) % 32) 4)) moves.greatest
+    ≡ band_moved depth position offsets s'
+banded_is depth position offsets moves s s' are small same =
+    are s small ∙ ap (λ (v : ℕ). band_moved depth position offsets v) same
+
+-- a number modulo 32, by one of 16 bits
+pub turned : (x : ℕ)
+    → (x % 65536 + (65536 - x % 65536 / 2 ^ 5 * 32 % 65536)) % 65536 ≡ x % 32
+turned x = omega arith

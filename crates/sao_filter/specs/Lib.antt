@@ -1,3 +1,4 @@
 pub mod Row
 pub mod Units
+pub mod Moves
 pub mod Laying

@@ -7,7 +7,7 @@ ghost use Rattle.sao_filter.specs.Row.{HasLines, IsRow, samples_of, top};
 ghost use Rattle.sao_filter.specs.Units.{IsBlock};
 
 use crate::block::CodingTreeBlock;
-use crate::changes::band_changes;
+use crate::changes::{band_changes, band_moves};
 use crate::row::OffsetRow;
 use crate::runs::{Run, band_run};
 
@@ -47,11 +47,13 @@ pub fn band_block(
         out.old out.new }
 {
     let table = band_changes(row.depth, position, offsets);
+    let moves = band_moves(row.depth, position, offsets);
     for line in 0..block.lines {
         band_run(
             lines,
             run_of(row.width, block, line),
             &table,
+            &moves,
             row.depth,
             out,
         );

@@ -4,6 +4,7 @@ ghost use Rattle.std.specs.Prelude.{◌≡◌, ◌≤◌, ◌<◌, ◌+◌, ◌-
 ghost use Rattle.std.specs.Prelude.{min, slice_index_or, ◌+ℤ◌};
 ghost use Rattle.spec_sample_adaptive_offset.specs.Offsets.{band_index, band_moved, compared, edge_idx, edge_moved};
 ghost use Rattle.spec_sample_adaptive_offset.specs.Offsets.{moved, offset_value};
+ghost use Rattle.sao_filter.specs.Moves.{AreBandMoves};
 ghost use Rattle.sao_filter.specs.Units.{AreMoves, IsBandTable, IsEdgeTable};
 
 /// An offset for so many bits: offsets are coded for up to 10.
@@ -120,6 +121,57 @@ pub fn band_moved(sample: u16, table: &[i16; 32], depth: u32) -> u16
     )
 }
 
+/// How samples are moved by their bands.
+#[derive(Clone, Copy)]
+pub struct BandMoves {
+    /// What is added to four bands from one on, and to all others, on 32768.
+    pub table: [u16; 5],
+    /// By how many bits a sample is above the number of its band.
+    pub shift: u16,
+    /// How many bands stand before that one, turned round: what is added to a band's number to count from it on.
+    pub before: u16,
+    /// The greatest sample.
+    pub greatest: u16,
+}
+
+/// The same, by the parameters of a unit and the bit depth.
+pub fn band_moves(depth: u32, position: u8, offsets: &[i8; 4]) -> BandMoves
+    requires depth { (8 ≤ depth) × (depth ≤ 14) }
+    ensures moves { AreBandMoves depth position offsets.now result }
+    ensures shift { result.shift ≤ 9 }
+    ensures before { result.before ≤ 32 }
+{
+    BandMoves {
+        table: [
+            raised_offset(depth, offsets, 1),
+            raised_offset(depth, offsets, 2),
+            raised_offset(depth, offsets, 3),
+            raised_offset(depth, offsets, 4),
+            raised_offset(depth, offsets, 0),
+        ],
+        shift: (depth - 5) as u16,
+        before: 32 - u16::from(position) % 32,
+        greatest: greatest_lane(depth),
+    }
+}
+
+/// SaoOffsetVal, on 32768.
+fn raised_offset(depth: u32, offsets: &[i8; 4], index: usize) -> u16
+    requires depth { depth ≤ 14 }
+    requires index { index ≤ 4 }
+    ensures { pos result ≡ pos 32768 +ℤ offset_value depth offsets.now index }
+{
+    on_base(offset_value(depth, offsets, index))
+}
+
+/// What is added to a sample, on 32768.
+#[inline(always)]
+fn on_base(change: i16) -> u16
+    ensures { pos result ≡ pos 32768 +ℤ change }
+{
+    (i32::from(change) + 32768) as u16
+}
+
 /// One more than the sign of a difference.
 #[inline(always)]
 fn compared(sample: u16, other: u16) -> u16
@@ -199,7 +251,7 @@ fn raised(table: &[i16; 5], signs: usize) -> u16
     requires { signs < 5 }
     ensures { pos result ≡ pos 32768 +ℤ slice_index_or table.now signs (pos 0) }
 {
-    (i32::from(table[signs]) + 32768) as u16
+    on_base(table[signs])
 }
 
 /// The greatest sample, as samples are held.

@@ -1,6 +1,6 @@
-//! Eight samples with edge offset at once.
+//! Eight samples with an offset at once.
 
-ghost use Rattle.std.specs.Prelude.{◌≡◌, ◌≤◌, ◌<◌, ◌+◌, ◌-◌, ◌==◌, ℕ, length, cond, min, nat_le};
+ghost use Rattle.std.specs.Prelude.{◌≡◌, ◌≤◌, ◌<◌, ◌+◌, ◌-◌, ◌/◌, ◌%◌, ◌^◌, ◌==◌, ℕ, length, cond, min, nat_le};
 ghost use Rattle.spec_sample_adaptive_offset.specs.Offsets.{compared};
 ghost use Rattle.sao_filter.specs.Row.{at};
 ghost use Rattle.sao_filter.specs.Units.{on_base};
@@ -83,6 +83,19 @@ fn held(samples: u16x8, greatest: u16) -> u16x8
     samples.simd_min(u16x8::splat(greatest))
 }
 
+/// Eight samples with what is added to each, on 32768.
+#[inline(always)]
+fn changed(samples: u16x8, changes: u16x8, greatest: u16) -> u16x8
+    ensures long { length result ≡ 8 }
+    ensures value { (k : ℕ) → k < 8 → at result k ≡ on_base (at samples k) (at changes k) greatest }
+{
+    let base = u16x8::splat(32768);
+    held(
+        less(more(samples, less(changes, base)), less(base, changes)),
+        greatest,
+    )
+}
+
 /// Eight samples between their neighbours, by what is added by the signs of the differences, on 32768.
 #[inline(always)]
 pub fn eight_moved(
@@ -96,10 +109,44 @@ pub fn eight_moved(
     ensures value { (k : ℕ) → k < 8 → at result k ≡ on_base (at samples k)
         (at table.now (compared (at samples k) (at first k) + compared (at samples k) (at second k))) greatest }
 {
-    let changes = entries(table, signs(samples, first, second));
-    let base = u16x8::splat(32768);
-    held(
-        less(more(samples, less(changes, base)), less(base, changes)),
+    changed(
+        samples,
+        entries(table, signs(samples, first, second)),
+        greatest,
+    )
+}
+
+/// Where the bands of samples stand, counted modulo 32 from one on; 4 is behind the fourth.
+#[inline(always)]
+fn places(samples: u16x8, shift: u16, before: u16) -> u16x8
+    requires shift { shift ≤ 9 }
+    requires before { before ≤ 32 }
+    ensures long { length result ≡ 8 }
+    ensures value { (k : ℕ) → k < 8 → at result k ≡ min ((at samples k / 2 ^ shift + before) % 32) 4 }
+{
+    let bands = (samples >> u16x8::splat(shift)) + u16x8::splat(before);
+    let turns = bands >> u16x8::splat(5);
+    (bands - turns * u16x8::splat(32)).simd_min(u16x8::splat(4))
+}
+
+/// Eight samples by their bands: what is added to four bands from one on, and to all others, on 32768.
+#[inline(always)]
+pub fn eight_banded(
+    samples: u16x8,
+    shift: u16,
+    before: u16,
+    table: &[u16; 5],
+    greatest: u16,
+) -> u16x8
+    requires shift { shift ≤ 9 }
+    requires before { before ≤ 32 }
+    ensures long { length result ≡ 8 }
+    ensures value { (k : ℕ) → k < 8 → at result k ≡ on_base (at samples k)
+        (at table.now (min ((at samples k / 2 ^ shift + before) % 32) 4)) greatest }
+{
+    changed(
+        samples,
+        entries(table, places(samples, shift, before)),
         greatest,
     )
 }

@@ -34,5 +34,6 @@ loop-line-preserved c =
     (line_laid row c.args.lines.now c.loop-line.line block.skip block.from block.to run.from run.first run.count
     c.band_run.new.out c.loop-line.out (λ (v : ℕ). band_moved row.depth c.args.position c.args.offsets.now v)
     c.run_of.ensures.from c.run_of.ensures.first c.run_of.ensures.count (omega (arith, c.requires.block.to))
-    c.requires.block.skip (c.band_run.ensures c.args.position c.args.offsets.now c.band_changes-table.ensures))
+    c.requires.block.skip (c.band_run.ensures c.args.position c.args.offsets.now c.band_changes-table.ensures
+    c.band_moves-moves.ensures.moves))
     c.loop-line.invariant
