@@ -1,3 +1,4 @@
 pub mod InRange
 pub mod Places
 pub mod Ranges
+pub mod HeldMotions

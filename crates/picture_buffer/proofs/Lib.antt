@@ -3,3 +3,4 @@ pub mod Own
 pub mod Places
 pub mod Formats
 pub mod Lent
+pub mod HeldPlaces

@@ -1,6 +1,7 @@
 pub mod Planes
 pub mod Packed
 pub mod Motion
+pub mod Held
 pub mod Pictures
 pub mod Lending
 pub mod PictureLending

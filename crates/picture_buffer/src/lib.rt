@@ -6,6 +6,7 @@ mod bases;
 mod motion_field;
 mod own_field;
 mod packed;
+mod packed_field;
 mod picture;
 mod place_motion;
 mod plane;

@@ -1,41 +1,33 @@
 //! The motion of a picture.
 
-ghost use Rattle.std.specs.Prelude.{◌≡◌, ℕ, ◌+◌, ◌<◌, ◌≤◌, ◌==◌, ◌&&◌, ◌||◌, nat_le, nat_lt};
-ghost use Rattle.std.specs.Prelude.{IfOk, None, Some, if◌then◌else◌};
+ghost use Rattle.std.specs.Prelude.{◌≡◌, ℕ, ◌+◌, ◌<◌, ◌≤◌, ◌==◌, ◌&&◌, nat_le, nat_lt};
+ghost use Rattle.std.specs.Prelude.{Decides, IfOk, IfSome, None, if◌then◌else◌};
+ghost use Rattle.picture_buffer.specs.Held.{AreMotionsHeld, HasVector, IsMotionHeld, IsVectorHeld};
 ghost use Rattle.picture_buffer.specs.Motion.{HasPlaces, motions_of};
-ghost use Rattle.picture_buffer.specs.Packed.{no_own, target_of};
-ghost use Rattle.place_grid.specs.Cells.{HasCells, cell};
 
-use crate::own_field::OwnField;
-use crate::packed::{NO_MOTION, PackedMotion, mv_of};
-use crate::place_motion::PlaceMotion;
-use crate::targets::{FIRST, NO_TARGET, OF_ITS_OWN, OwnTargets, Target, keep, target_of};
-use place_grid::Grid;
+use crate::packed_field::PackedField;
+use crate::place_motion::{PlaceMotion, PlaceVector};
 use std::alloc::{AllocError, Global};
 use std::marker::Model;
 
 /// The motion of a picture's places: `None` where a place is predicted in intra mode.
 #[derive(Drop)]
 pub struct MotionField {
-    places: Grid<PackedMotion>,
-    own: OwnField,
-    /// What the vectors of places point to, by index.
-    targets: [Target; 64],
-    /// How many indices are used.
-    count: usize,
-    /// Whether a place may have motion.
-    moving: bool,
+    field: PackedField,
+    /// Whether all motion that was laid is in range.
+    held: bool,
 }
 
 impl Model for MotionField {
-    ghost use Rattle.picture_buffer.specs.Motion.{FieldPlaces, unpacked_places};
-    ghost use Rattle.picture_buffer.specs.Packed.{AreKept, AreStill};
+    ghost use Rattle.std.specs.Prelude.{IsTrue};
+    ghost use Rattle.picture_buffer.specs.Held.{AreMotionsHeld};
+    ghost use Rattle.picture_buffer.specs.Motion.{FieldPlaces};
 
     ghost Value = { FieldPlaces };
 
-    ghost view = { λ f. unpacked_places f.targets f.own f.places };
+    ghost view = { λ f. f.field };
 
-    ghost invariant = { λ f. AreKept f.places f.own f.count × AreStill f.moving f.places };
+    ghost invariant = { λ f. IsTrue f.held → AreMotionsHeld f.field };
 }
 
 impl MotionField {
@@ -46,15 +38,8 @@ impl MotionField {
         ensures sides { IfOk result (λ f. HasPlaces f across down) }
         ensures places { IfOk result (λ f. (x y : ℕ) → motions_of f x y ≡ None) }
     {
-        let places = Grid::new(alloc, across, down, NO_MOTION)?;
-        let own = OwnField::new(alloc, across, down)?;
-        Ok(MotionField {
-            places,
-            own,
-            targets: [NO_TARGET; 64],
-            count: FIRST,
-            moving: false,
-        })
+        let field = PackedField::new(alloc, across, down)?;
+        Ok(MotionField { field, held: true })
     }
 
     /// No place has motion any more. It takes no memory.
@@ -62,37 +47,29 @@ impl MotionField {
         ensures sides { (across down : ℕ) → HasPlaces self.old across down → HasPlaces self.new across down }
         ensures places { (x y : ℕ) → motions_of self.new x y ≡ None }
     {
-        if self.moving {
-            self.places.fill(NO_MOTION);
-            self.count = FIRST;
-            self.moving = false;
-        }
+        self.field.restart();
+        self.held = true;
     }
 
     /// How many places a row has.
     pub fn across(&self) -> u32
         ensures { result ≡ self.now.across }
     {
-        self.places.across()
+        self.field.across()
     }
 
     /// How many rows of places there are.
     pub fn down(&self) -> u32
         ensures { result ≡ self.now.down }
     {
-        self.places.down()
+        self.field.down()
     }
 
     /// The motion of a place; `None` outside the picture.
     pub fn at(&self, x: usize, y: usize) -> Option<PlaceMotion>
         ensures { result ≡ motions_of self.now x y }
     {
-        if self.moving {
-            let place = self.places.at(x, y, NO_MOTION);
-            place.motion(&self.targets, self.own.at(x, y))
-        } else {
-            None
-        }
+        self.field.at(x, y)
     }
 
     /// The motion of a place.
@@ -114,70 +91,74 @@ impl MotionField {
         ensures places { (i j : ℕ) → motions_of self.new i j
             ≡ (if j == y && (nat_le x i && nat_lt i (x + count)) then motion else motions_of self.old i j) }
     {
-        match motion {
-            None => self.clear_run(x, y, count),
-            Some(motion) => self.put_motion(x, y, count, motion),
-        }
+        self.held = self.held && is_held(motion);
+        self.field.put_run(x, y, count, motion);
     }
 
-    /// No motion over so many places of a row. Where no place has any, nothing is written.
-    fn clear_run(&mut self, x: usize, y: usize, count: usize)
-        requires columns { x + count ≤ self.old.across }
-        requires row { y < self.old.down }
-        ensures sides { (across down : ℕ) → HasPlaces self.old across down → HasPlaces self.new across down }
-        ensures places { (i j : ℕ) → motions_of self.new i j
-            ≡ (if j == y && (nat_le x i && nat_lt i (x + count)) then None else motions_of self.old i j) }
+    /// Whether each place that has motion has a vector, and each vector a reference index below 16, as all that
+    /// decoding gives (8.5.3.2). It looks at the places only where other motion was laid.
+    pub fn are_motions_held(&self) -> bool
+        ensures { Decides result (AreMotionsHeld self.now) }
     {
-        if self.moving {
-            self.places.put_run(x, y, count, NO_MOTION);
-        }
+        self.held || self.are_rows_held()
     }
 
-    /// A motion over so many places of a row.
-    fn put_motion(&mut self, x: usize, y: usize, count: usize, motion: PlaceMotion)
-        requires columns { x + count ≤ self.old.across }
-        requires row { y < self.old.down }
-        ensures sides { (across down : ℕ) → HasPlaces self.old across down → HasPlaces self.new across down }
-        ensures places { (i j : ℕ) → motions_of self.new i j
-            ≡ (if j == y && (nat_le x i && nat_lt i (x + count)) then Some motion else motions_of self.old i j) }
+    /// The same of all rows of places, by looking at them.
+    fn are_rows_held(&self) -> bool
+        ensures { Decides result (AreMotionsHeld self.now) }
     {
-        let (index_0, behind) = keep(&mut self.targets, self.count, motion.list_0);
-        let (index_1, last) = keep(&mut self.targets, behind, motion.list_1);
-        self.count = last;
-        self.moving = true;
-        let packed = PackedMotion {
-            mv_0: mv_of(motion.list_0),
-            mv_1: mv_of(motion.list_1),
-            index_0,
-            index_1,
-        };
-        put_own(&mut self.own, x, y, count, packed, motion);
-        self.places.put_run(x, y, count, packed);
+        for y in 0..self.down() {
+            if !self.is_row_held(y) {
+                return false;
+            }
+        }
+        true
+    }
+
+    /// The same of a row of places.
+    fn is_row_held(&self, y: u32) -> bool
+        ensures { Decides result ((x : ℕ) → IfSome (motions_of self.now x y) IsMotionHeld) }
+    {
+        for x in 0..self.across() {
+            if !is_held(self.at(x as usize, y as usize)) {
+                return false;
+            }
+        }
+        true
     }
 }
 
-/// What the places of a motion keep of their own, where they keep any.
-fn put_own(
-    own: &mut OwnField,
-    x: usize,
-    y: usize,
-    count: usize,
-    packed: PackedMotion,
-    motion: PlaceMotion,
-)
-    requires columns { x + count ≤ own.old.across }
-    requires row { y < own.old.down }
-    ensures sides { HasCells own.new own.old.across own.old.down }
-    ensures cells { (i j : ℕ) → cell no_own own.new i j
-        ≡ (if (packed.index_0 == 2 || packed.index_1 == 2) && (j == y && (nat_le x i && nat_lt i (x + count)))
-        then record { first = target_of motion.list_0; second = target_of motion.list_1 }
-        else cell no_own own.old i j) }
+/// The same of a place.
+fn is_held(motion: Option<PlaceMotion>) -> bool
+    ensures { Decides result (IfSome motion IsMotionHeld) }
 {
-    if packed.index_0 == OF_ITS_OWN || packed.index_1 == OF_ITS_OWN {
-        let targets = OwnTargets {
-            first: target_of(motion.list_0),
-            second: target_of(motion.list_1),
-        };
-        own.put_run(x, y, count, targets);
+    match motion {
+        Some(place) => {
+            has_vector(place.list_0, place.list_1)
+                && is_vector_held(place.list_0)
+                && is_vector_held(place.list_1)
+        }
+        None => true,
+    }
+}
+
+/// Whether one of two vectors is there.
+fn has_vector(first: Option<PlaceVector>, second: Option<PlaceVector>) -> bool
+    ensures { Decides result (HasVector first second) }
+{
+    match (first, second) {
+        (None, None) => false,
+        (None, Some(_)) => true,
+        (Some(_), _) => true,
+    }
+}
+
+/// Whether a vector names one of 16 references, if it is there.
+fn is_vector_held(vector: Option<PlaceVector>) -> bool
+    ensures { Decides result (IfSome vector IsVectorHeld) }
+{
+    match vector {
+        Some(place) => place.vector.ref_idx < 16,
+        None => true,
     }
 }

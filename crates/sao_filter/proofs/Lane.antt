@@ -1,5 +1,6 @@
 -- What one lane of eight holds.
-use Rattle.std.proofs.Common.{◌≡◌, ℕ, ◌+◌, ◌-◌, ◌*◌, ◌/◌, ◌%◌, ◌^◌, ◌<◌, ◌≤◌, Bool, cond, true, false, ltb, w16, max, min, map, List}
+use Rattle.std.proofs.Common.{◌≡◌, ℕ, ◌+◌, ◌-◌, ◌*◌, ◌/◌, ◌%◌, ◌^◌, ◌<◌, ◌≤◌, Bool, cond, true, false, ltb, w16, max}
+use Rattle.std.proofs.Common.{min, map, List}
 use Rattle.std.proofs.Common.{length, get_or, replicate, refl, sym, ap, ◌∙◌, arith}
 use lib.Lanes.{Each1, chunk, zip2, sel_l, top}
 use mir.Val.{Fits}

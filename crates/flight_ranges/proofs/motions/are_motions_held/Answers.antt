@@ -1,8 +1,9 @@
-use Rattle.std.proofs.Common.{rules, ◌≤◌, refl}
-use Rattle.flight_ranges.proofs.Places.{rows_held}
+use Rattle.flight_ranges.proofs.HeldMotions.{for_flight, of_flight}
 use Rattle.flight_ranges.proofs.motions.are_motions_held.Goals as goal
 
 pub returns : goal.returns
 returns c =
-    let all : c.args.field.now.down ≤ c.loop-y.y = search rules in
-    (λ e. rows_held c.args.field.now c.loop-y.y all c.loop-y.invariant, λ held. refl)
+    let field = c.args.field.now in (
+      λ e. for_flight field (c.are_motions_held.ensures.0 e),
+      λ held. c.are_motions_held.ensures.1 (of_flight field held),
+    )

@@ -1,7 +1,7 @@
 use Rattle.std.proofs.Common.{refl}
 use Rattle.picture_buffer.specs.Packed.{no_motion}
 use Rattle.picture_buffer.proofs.Places.{put_at}
-use Rattle.picture_buffer.proofs.motion_field.MotionField.put_motion.Goals as goal
+use Rattle.picture_buffer.proofs.packed_field.PackedField.put_motion.Goals as goal
 
 pub returns-clause-places : goal.returns-clause-places
 returns-clause-places c i j =

@@ -1,6 +1,6 @@
 use Rattle.std.proofs.Common.{◌∙◌, sym}
 use Rattle.picture_buffer.proofs.Places.{motion_at, still_at}
-use Rattle.picture_buffer.proofs.motion_field.MotionField.at.Goals as goal
+use Rattle.picture_buffer.proofs.packed_field.PackedField.at.Goals as goal
 
 pub returns-then-self : goal.returns-then-self
 returns-then-self c =

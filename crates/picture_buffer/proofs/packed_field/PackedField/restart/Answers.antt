@@ -1,6 +1,6 @@
 use Rattle.std.proofs.Common.{◌∙◌, sym, refl}
 use Rattle.picture_buffer.proofs.Places.{none_at, still_at}
-use Rattle.picture_buffer.proofs.motion_field.MotionField.restart.Goals as goal
+use Rattle.picture_buffer.proofs.packed_field.PackedField.restart.Goals as goal
 
 pub returns-then-self-clause-places : goal.returns-then-self-clause-places
 returns-then-self-clause-places c =

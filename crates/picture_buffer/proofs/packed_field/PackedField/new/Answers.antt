@@ -1,7 +1,7 @@
 use Rattle.std.proofs.Common.{replicate, ◌∙◌, sym}
 use Rattle.picture_buffer.specs.Packed.{no_target}
 use Rattle.picture_buffer.proofs.Places.{none_at}
-use Rattle.picture_buffer.proofs.motion_field.MotionField.new.Goals as goal
+use Rattle.picture_buffer.proofs.packed_field.PackedField.new.Goals as goal
 
 pub returns-clause-places : goal.returns-clause-places
 returns-clause-places c =

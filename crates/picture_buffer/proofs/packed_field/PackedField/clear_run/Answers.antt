@@ -1,7 +1,7 @@
 use Rattle.std.proofs.Common.{◌==◌, ◌+◌, ◌&&◌, nat_le, nat_lt, refl}
 use Rattle.picture_buffer.specs.Packed.{no_motion}
 use Rattle.picture_buffer.proofs.Places.{none_put, still_at, unmoved}
-use Rattle.picture_buffer.proofs.motion_field.MotionField.clear_run.Goals as goal
+use Rattle.picture_buffer.proofs.packed_field.PackedField.clear_run.Goals as goal
 
 pub returns-then-self-clause-places : goal.returns-then-self-clause-places
 returns-then-self-clause-places c i j =
