@@ -94,7 +94,7 @@ impl Plane {
             else plane_at self.old i j) }
     {
         let first = self.width as usize * y as usize + x as usize;
-        self.samples[first..first + samples.len()].copy_from_slice(samples);
+        copy(&mut self.samples[first..first + samples.len()], samples);
     }
 
     /// The samples, row after row, for writing.
@@ -105,4 +105,27 @@ impl Plane {
     {
         self.samples.as_mut_slice()
     }
+}
+
+/// Samples over as many others. Most lines of units have one of a few lengths.
+#[inline(always)]
+fn copy(out: &mut [u16], samples: &[u16])
+    requires { length out.old ≡ length samples.now }
+    ensures { out.new ≡ samples.now }
+{
+    match samples.len() {
+        64 => copy_some::<64>(out, samples),
+        32 => copy_some::<32>(out, samples),
+        _ => out.copy_from_slice(samples),
+    }
+}
+
+/// The same of `N` samples, which is a few stores.
+#[inline(always)]
+fn copy_some<const N: usize>(out: &mut [u16], samples: &[u16])
+    requires out { length out.old ≡ N }
+    requires samples { length samples.now ≡ N }
+    ensures { out.new ≡ samples.now }
+{
+    out.copy_from_slice(&samples[..N]);
 }
