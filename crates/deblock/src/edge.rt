@@ -232,6 +232,7 @@ fn is_off(filter: Filter) -> bool
 }
 
 /// How the lines of a place are filtered across an edge, by the greatest change of a sample.
+#[inline(always)]
 fn filter_of(
     pass: &Pass,
     e: usize,
