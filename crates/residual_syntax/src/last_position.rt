@@ -79,6 +79,7 @@ fn last_prefix<'a>(
 
 /// The same; `None` where bits lack.
 #[tactic(auto, unfolding(spec_residuals::specs::LastPosition::last_prefix))]
+#[inline(always)]
 fn prefix<'a>(reader: &mut BinReader<'a>, base: usize, block: ResidualBlock) -> Option<u32>
     requires live { IsLive reader.old.interval }
     requires base { base ≤ 60 }

@@ -52,7 +52,7 @@ fn coded_context(block: ResidualBlock, sub: SubBlock) -> usize
 
 /// The indices of a sub-block that have a level, where `indices` had none: of that of the last level, from the last
 /// one's on. `None` where bits lack.
-#[inline(never)]
+#[inline(always)]
 #[tactic(auto, unfolding(spec_residuals::specs::Significance::coded_indices))]
 pub fn coded_indices<'a>(
     reader: &mut BinReader<'a>,
