@@ -124,6 +124,7 @@ impl UnitSamples {
     }
 
     /// A square of samples over what was there.
+    #[inline(always)]
     pub(crate) fn lay(&mut self, place: Place, block: &[u16])
         requires place { IsInside place }
         requires block { 2 ^ place.log2 * 2 ^ place.log2 ≤ length block.now }
@@ -221,6 +222,7 @@ impl UnitSamples {
     }
 
     /// Residuals added to a square.
+    #[inline(always)]
     pub(crate) fn add(&mut self, place: Place, residuals: &[i32], depth: u32)
         requires place { IsInside place }
         requires block { 2 ^ place.log2 * 2 ^ place.log2 ≤ length residuals.now }
