@@ -24,7 +24,7 @@ use Rattle.deblock.proofs.Flat.{inside_holds}
 use Rattle.deblock.proofs.Laying.{more}
 use Rattle.deblock.proofs.Lines.{IsBeside, beside_of, place_line}
 
-same_either : (b : Bool) (v old : ℕ) → (b ≡ true → old ≡ v) → old ≡ cond b v old
+pub same_either : (b : Bool) (v old : ℕ) → (b ≡ true → old ≡ v) → old ≡ cond b v old
 same_either true v old e = e refl
 same_either false v old e = refl
 
@@ -171,7 +171,7 @@ line_weak plane depth places samples e y off =
     let last = across samples (8 * e - 4) (side plane * (y / side plane) + (side plane - 1)) in
     rw (off (place_before plane places e y) first last) refl
 
-sample_weak : (plane : Plane) (depth : ℕ) (places : ℕ → ℕ → Place) (samples : ℕ → ℕ → ℕ) (e y k : ℕ) →
+pub sample_weak : (plane : Plane) (depth : ℕ) (places : ℕ → ℕ → Place) (samples : ℕ → ℕ → ℕ) (e y k : ℕ) →
     IsOff plane depth (place_behind plane places e y) →
     edge_sample plane depth places samples e y k ≡ nth (across samples (8 * e - 4) y) k
 unfolding edge_sample
@@ -195,10 +195,10 @@ edge_weak p places f s e samples is across along some inside off old =
     ∙ ap (λ (x : ℕ). seen p.window samples x j) k)))
     old
 
-edge_some : (e width : ℕ) → (nat_lt 0 e && nat_lt (8 * e) width) ≡ true → 0 < e
+pub edge_some : (e width : ℕ) → (nat_lt 0 e && nat_lt (8 * e) width) ≡ true → 0 < e
 edge_some e width t = grind (arith, nat_tests)
 
-edge_within : (e width : ℕ) → (nat_lt 0 e && nat_lt (8 * e) width) ≡ true → 8 * e < width
+pub edge_within : (e width : ℕ) → (nat_lt 0 e && nat_lt (8 * e) width) ≡ true → 8 * e < width
 edge_within e width t = grind (arith, nat_tests)
 
 weak_or_none : (p : Pass) (places : ℕ → ℕ → Place) (f : ℕ → ℕ → ℕ) (s e : ℕ) (samples : List ℕ) (b : Bool) →

@@ -133,3 +133,43 @@ line_wider a b first end from to i j line f new few z eight before behind n =
     (λ t. wide_case _ a b first end i j line f new refl (same_line a b i j t) (low_of a b i j t) (high_of a b i j t)
     before behind n)
     (λ t. cond_no _ _ _ _ n (narrow a b first end i j few t)))
+
+-- two samples of a line, of which the others are as they were
+and_none : (b : Bool) → (b && false) ≡ false
+and_none true = refl
+and_none false = refl
+
+and_line : (b : Bool) (j : ℕ) → (b && true) ≡ (b && j == j)
+and_line b j = grind (arith, nat_tests)
+
+inner_case : (r : Bool) (a i j : ℕ) (line : Line) (f : ℕ → ℕ → ℕ) (new mid p q : ℕ)
+    → new ≡ cond (i == a + 4 && r) q mid → mid ≡ cond (i == a + 3 && r) p (f i j)
+    → (r ≡ true → p ≡ nth line 3) → (r ≡ true → q ≡ nth line 4)
+    → (r ≡ true → (k : ℕ) → k < 3 → nth line k ≡ f (a + k) j)
+    → (r ≡ true → (k : ℕ) → 5 + k < 8 → nth line (5 + k) ≡ f (a + (5 + k)) j)
+    → new ≡ cond (r && (nat_le a i && nat_lt i (a + 8))) (nth line (i - a)) (f i j)
+inner_case true a i j line f new mid p q n m ep eq before behind =
+    let m2 = cond_by _ _ _ _ _ m (and_line (i == a + 3) j) in
+    let n2 = cond_by _ _ _ _ _ n (and_line (i == a + 4) j) in
+    let first = line_more a j 3 3 i j line mid (f i j) (f i j) p (omega arith) (ep refl) m2
+    (line_none a j 3 i j _ (f i j)) in
+    let both = line_more a j 3 4 i j line new mid (f i j) q (omega arith) (eq refl) n2 first in
+    let whole = line_wider a j 3 5 0 8 i j line f new (omega arith) refl refl (before refl) (behind refl) both in
+    let test : (j == j && (nat_le (a + 0) i && nat_lt i (a + 8))) ≡ (true && (nat_le a i && nat_lt i (a + 8))) = grind
+    (arith, nat_tests) in
+    cond_by _ _ _ _ _ whole test
+inner_case false a i j line f new mid p q n m ep eq before behind =
+    cond_no _ _ _ _ n (and_none (i == a + 4)) ∙ cond_no _ _ _ _ m (and_none (i == a + 3))
+
+pub inner_laid : (b a i j : ℕ) (line : Line) (f : ℕ → ℕ → ℕ) (new mid p q : ℕ)
+    → new ≡ cond (i == a + 4 && (nat_le b j && nat_lt j (b + 4))) q mid
+    → mid ≡ cond (i == a + 3 && (nat_le b j && nat_lt j (b + 4))) p (f i j)
+    → (b ≤ j → j < b + 4 → p ≡ nth line 3) → (b ≤ j → j < b + 4 → q ≡ nth line 4)
+    → (b ≤ j → j < b + 4 → (k : ℕ) → k < 3 → nth line k ≡ f (a + k) j)
+    → (b ≤ j → j < b + 4 → (k : ℕ) → 5 + k < 8 → nth line (5 + k) ≡ f (a + (5 + k)) j)
+    → new ≡ cond ((nat_le b j && nat_lt j (b + 4)) && (nat_le a i && nat_lt i (a + 8))) (nth line (i - a)) (f i j)
+inner_laid b a i j line f new mid p q n m ep eq before behind =
+    let low : (nat_le b j && nat_lt j (b + 4)) ≡ true → b ≤ j = λ t. grind (arith, nat_tests) in
+    let high : (nat_le b j && nat_lt j (b + 4)) ≡ true → j < b + 4 = λ t. grind (arith, nat_tests) in
+    inner_case (nat_le b j && nat_lt j (b + 4)) a i j line f new mid p q n m (λ t. ep (low t) (high t))
+    (λ t. eq (low t) (high t)) (λ t. before (low t) (high t)) (λ t. behind (low t) (high t))

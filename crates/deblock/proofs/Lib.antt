@@ -8,4 +8,5 @@ pub mod Ends
 pub mod Laying
 pub mod Lines
 pub mod Edges
+pub mod Near
 pub mod Rows

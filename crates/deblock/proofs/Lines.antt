@@ -37,7 +37,7 @@ beside_of plane s e i j t = record {
   last = grind (arith, nat_tests);
 }
 
-written_yes : (plane : Plane) (s a from to i j : ℕ) → side plane * s ≤ j → j < side plane * s + side plane
+pub written_yes : (plane : Plane) (s a from to i j : ℕ) → side plane * s ≤ j → j < side plane * s + side plane
     → a + from ≤ i → i < a + to → is_written plane s a from to i j ≡ true
 written_yes plane s a from to i j p q r t = grind (arith, nat_tests)
 

@@ -11,7 +11,7 @@ use Rattle.std.specs.Int.{int_shr}
 use Rattle.std.specs.Int.RustNames.{unsigned_abs}
 use Rattle.spec_deblocking.specs.declared.line.Line.{Line}
 use Rattle.spec_deblocking.specs.Filters.{held, moved, normal, normal_change, second_change, second_sample}
-use Rattle.spec_deblocking.specs.Filters.{strong, within}
+use Rattle.spec_deblocking.specs.Filters.{strong, within, chroma_change, nearest}
 use Rattle.deblock.specs.Samples.{AreSmall}
 use Rattle.std.proofs.lemmas.Simd.{Each1-get_or, length-zip2, get_or-zip2}
 use Rattle.std.proofs.lemmas.Simd.{tops_compared, length-sel_l, get_or-sel_l, length-replicate, get_or-replicate}
@@ -134,6 +134,11 @@ pub change_is : (p1 p0 q0 q1 : ℕ) → p1 ≤ 16383 → p0 ≤ 16383 → q0 ≤
     ≡ int_shr (pos (9 * q0 + 3 * p1 + 8) -ℤ pos (9 * p0 + 3 * q1)) 4
 change_is p1 p0 q0 q1 a b c d = grind (arith, ints, clamps)
 
+pub chroma_change_is : (p1 p0 q0 q1 : ℕ) → p1 ≤ 16383 → p0 ≤ 16383 → q0 ≤ 16383 → q1 ≤ 16383
+    → pos ((4 * q0 + p1 + 8388612 - (4 * p0 + q1)) / 8) -ℤ pos 1048576
+    ≡ int_shr (pos (4 * q0 + p1 + 4) -ℤ pos (4 * p0 + q1)) 3
+chroma_change_is p1 p0 q0 q1 a b c d = grind (arith, ints, clamps)
+
 pub within_is : (d reach base : ℕ) → reach ≤ 16320 → 65536 ≤ base
     → pos (max (min d (base + reach)) (base - reach)) -ℤ pos base ≡ within reach (pos d -ℤ pos base)
 unfolding within
@@ -184,6 +189,14 @@ normal_lines p1 q1 greatest tc line change delta back a b c d e f g ea eb ec ed 
     normal_case (nat_lt (unsigned_abs change) (10 * tc)) p1 q1 greatest tc line delta back a b c d ea eb ec ed
     ∙ rw (g, f, e) refl
 
+pub nearest_lines : (greatest tc : ℕ) (line : Line) (change delta back : ℤ) (b c : ℕ)
+    → change ≡ int_shr (pos (4 * line.q0 + line.p1 + 4) -ℤ pos (4 * line.p0 + line.q1)) 3
+    → delta ≡ within tc change → back ≡ neg_ℤ delta → b ≡ moved greatest line.p0 delta
+    → c ≡ moved greatest line.q0 back
+    → line_with line line.p2 line.p1 b c line.q1 line.q2 ≡ nearest greatest tc line
+unfolding nearest chroma_change
+nearest_lines greatest tc line change delta back b c e f g eb ec = rw (eb, ec, g, f, e) refl
+
 pub second_yes : (changes : Bool) (greatest tc outer middle inner : ℕ) (delta : ℤ) → changes ≡ true
     → moved greatest middle (within (tc / 2) (int_shr (pos ((outer + inner + 1) / 2) -ℤ pos middle +ℤ delta) 1))
     ≡ second_sample changes greatest tc outer middle inner delta
@@ -229,6 +242,20 @@ normal_small p1 q1 greatest tc line h =
       q2 = h.q2;
       q3 = h.q3;
     }) h
+
+pub nearest_small : (greatest tc : ℕ) (line : Line) → AreSmall greatest line
+    → AreSmall greatest (nearest greatest tc line)
+unfolding nearest
+nearest_small greatest tc line h = record {
+  p3 = h.p3;
+  p2 = h.p2;
+  p1 = h.p1;
+  p0 = moved_few greatest line.p0 _;
+  q0 = moved_few greatest line.q0 _;
+  q1 = h.q1;
+  q2 = h.q2;
+  q3 = h.q3;
+}
 
 pub strong_small : (greatest tc : ℕ) (line : Line) → AreSmall greatest line → AreSmall greatest (strong tc line)
 unfolding strong

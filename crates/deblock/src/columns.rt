@@ -4,7 +4,6 @@ ghost use Rattle.std.specs.Prelude.{◌≡◌, ◌<◌, ◌≤◌, ◌+◌, ◌-
 ghost use Rattle.std.specs.Prelude.{nat_lt, if◌then◌else◌};
 ghost use Rattle.spec_deblocking.specs.Filters.{filtered};
 ghost use Rattle.spec_deblocking.specs.Lines.{across, nth};
-ghost use Rattle.spec_deblocking.specs.declared.line.Filter.TheVariants.{Nearest};
 ghost use Rattle.deblock.specs.Lanes.{lane, line_of, row_of, half_and_half, two_of, AreLines};
 ghost use Rattle.deblock.specs.Samples.{AreSmall, IsBounded};
 ghost use Rattle.deblock.specs.Windows.{index, size, seen, holds};
@@ -257,7 +256,6 @@ pub fn filter_columns(
     b: usize,
 )
     requires level { w.now.turned ≡ false }
-    requires luma { filter ≡ Nearest → ◌≡◌ {A = ℕ} 0 1 }
     requires greatest { greatest ≤ 16383 }
     requires tc { tc ≤ 16320 }
     requires bounded { IsBounded greatest out.old }

@@ -5,7 +5,6 @@ ghost use Rattle.std.specs.Prelude.{◌==◌, ◌&&◌, nat_le, nat_lt, if◌the
 ghost use Rattle.spec_deblocking.specs.declared.line.Line.{Line};
 ghost use Rattle.spec_deblocking.specs.declared.place.Place.{Place};
 ghost use Rattle.spec_deblocking.specs.declared.place.Plane.TheVariants.{Luma, Chroma};
-ghost use Rattle.spec_deblocking.specs.declared.line.Filter.TheVariants.{Nearest};
 ghost use Rattle.spec_deblocking.specs.Lines.{across, nth};
 ghost use Rattle.spec_deblocking.specs.Places.{side};
 ghost use Rattle.spec_deblocking.specs.Thresholds.{tc};
@@ -51,7 +50,7 @@ pub fn side(plane: Plane) -> usize
 
 /// The greatest sample.
 #[inline(always)]
-fn greatest_sample(depth: u32) -> u32
+pub fn greatest_sample(depth: u32) -> u32
     requires { IsDepth depth }
     ensures value { result ≡ 2 ^ depth - 1 }
     ensures few { result ≤ 16383 }
@@ -136,7 +135,6 @@ fn filter_four(
     a: usize,
     b: usize,
 )
-    requires luma { kernel.filter ≡ Nearest → ◌≡◌ {A = ℕ} 0 1 }
     requires greatest { kernel.greatest ≤ 16383 }
     requires tc { kernel.tc ≤ 16320 }
     requires bounded { IsBounded kernel.greatest out.old }
@@ -173,7 +171,6 @@ fn is_wide(plane: Plane, kernel: Kernel) -> bool
     ensures side { result ≡ true → side plane ≡ 4 }
     ensures from { result ≡ true → kernel.from ≡ 0 }
     ensures to { result ≡ true → kernel.to ≡ 8 }
-    ensures luma { result ≡ true → kernel.filter ≡ Nearest → ◌≡◌ {A = ℕ} 0 1 }
 {
     match kernel.filter {
         Filter::Normal { .. } | Filter::Strong => side(plane) == 4 && kernel.to - kernel.from == 8,
@@ -421,7 +418,14 @@ fn filter_between(pass: &Pass, e: usize, s: usize, p: &Place, q: &Place, out: &m
 
 /// Filters an edge that has a strength at the lines of a place.
 #[inline(always)]
-fn filter_place<V: PlaceView>(view: &V, pass: &Pass, e: usize, s: usize, q: &Place, out: &mut [u16])
+pub fn filter_place<V: PlaceView>(
+    view: &V,
+    pass: &Pass,
+    e: usize,
+    s: usize,
+    q: &Place,
+    out: &mut [u16],
+)
     requires pass { IsPass pass.now }
     requires bounded { IsBounded (2 ^ pass.now.bit_depth - 1) out.old }
     requires room { length out.old ≡ size pass.now.window }

@@ -154,7 +154,6 @@ pub fn filter_rows(
     b: usize,
 )
     requires turned { w.now.turned ≡ true }
-    requires luma { filter ≡ Nearest → ◌≡◌ {A = ℕ} 0 1 }
     requires greatest { greatest ≤ 16383 }
     requires tc { tc ≤ 16320 }
     requires bounded { IsBounded greatest out.old }
@@ -170,4 +169,34 @@ pub fn filter_rows(
     let old = read_rows(out, w, way, a, b);
     let lines = filtered_lines(filter, greatest, tc, &old);
     write_rows(&lines, out, w, way, a, b);
+}
+
+/// Filters four lines across an edge of chroma, where no side is kept: the samples right before and right behind it.
+#[inline(always)]
+pub fn filter_inner_rows(
+    greatest: u32,
+    tc: u32,
+    out: &mut [u16],
+    w: &Window,
+    way: Way,
+    a: usize,
+    b: usize,
+)
+    requires turned { w.now.turned ≡ true }
+    requires greatest { greatest ≤ 16383 }
+    requires tc { tc ≤ 16320 }
+    requires bounded { IsBounded greatest out.old }
+    requires room { length out.old ≡ size w.now }
+    requires inside { (k n : ℕ) → k < 8 → n < 4 → holds w.now (a + k) (b + n) ≡ true }
+    requires at { (k : ℕ) → k < 8 → way.first + k * way.step ≡ index w.now (a + k) b }
+    ensures value { (i j : ℕ) → holds w.now i j ≡ true
+        → seen w.now out.new i j
+        ≡ cond ((nat_le b j && nat_lt j (b + 4)) && (nat_le a i && nat_lt i (a + 8)))
+        (nth (filtered Nearest greatest tc (across (seen w.now out.old) a j)) (i - a)) (seen w.now out.old i j) }
+    ensures bounded { IsBounded greatest out.new }
+{
+    let old = read_rows(out, w, way, a, b);
+    let lines = filtered_lines(Filter::Nearest, greatest, tc, &old);
+    write_row(lines.p0, out, w, way, a, b, 3);
+    write_row(lines.q0, out, w, way, a, b, 4);
 }

@@ -1,4 +1,4 @@
-//! The filters of four lines of luma at once (8.7.2.5.7). A vector has a sample of each line, and changes stand on a
+//! The filters of four lines at once (8.7.2.5.7, 8.7.2.5.8). A vector has a sample of each line, and changes stand on a
 //! base, so that no lane has a sign.
 
 ghost use Rattle.std.specs.Prelude.{◌≡◌, ◌<◌, ◌≤◌, ◌+◌, ◌-◌, ◌*◌, ◌/◌, ℕ, ℤ, pos, ◌+ℤ◌, ◌-ℤ◌, neg_ℤ, length, cond};
@@ -6,8 +6,7 @@ ghost use Rattle.std.specs.Prelude.{nat_lt};
 ghost use Rattle.std.specs.Int.{int_shr};
 ghost use Rattle.std.specs.Int.RustNames.{unsigned_abs};
 ghost use Rattle.spec_deblocking.specs.Filters.{held, strong, moved, within, normal_change, second_change};
-ghost use Rattle.spec_deblocking.specs.Filters.{second_sample, normal, filtered};
-ghost use Rattle.spec_deblocking.specs.declared.line.Filter.TheVariants.{Nearest};
+ghost use Rattle.spec_deblocking.specs.Filters.{second_sample, normal, nearest, filtered};
 ghost use Rattle.deblock.specs.Lanes.{lane, on_base, line_of, AreLow, AreLines, IsNear};
 
 use spec_deblocking::Filter;
@@ -243,11 +242,41 @@ fn normal(p1: bool, q1: bool, greatest: u32, tc: u32, l: &Lines) -> Lines
     }
 }
 
-/// Four lines of luma, filtered.
+/// delta of the filter of chroma, before it is clipped, on a base of 1048576.
+#[inline(always)]
+fn chroma_change(p1: u32x4, p0: u32x4, q0: u32x4, q1: u32x4) -> u32x4
+    requires before { AreLow p1 × AreLow p0 }
+    requires behind { AreLow q0 × AreLow q1 }
+    ensures long { length result ≡ 4 }
+    ensures value { (k : ℕ) → k < 4 → on_base 1048576 result k
+        ≡ int_shr (pos (4 * lane q0 k + lane p1 k + 4) -ℤ pos (4 * lane p0 k + lane q1 k)) 3 }
+{
+    let up = u32x4::splat(4) * q0 + p1 + u32x4::splat(8388612);
+    let down = u32x4::splat(4) * p0 + q1;
+    (up - down) >> u32x4::splat(3)
+}
+
+/// The filter of chroma.
+#[inline(always)]
+fn nearest(greatest: u32, tc: u32, l: &Lines) -> Lines
+    requires tc { tc ≤ 16320 }
+    requires lines { AreLines 16383 l.now }
+    ensures value { (k : ℕ) → k < 4 → line_of result k ≡ nearest greatest tc (line_of l.now k) }
+{
+    let change = chroma_change(l.p1, l.p0, l.q0, l.q1);
+    let delta = within(tc, 1048576, change);
+    let back = negated(delta);
+    Lines {
+        p0: moved(greatest, 1048576, l.p0, delta),
+        q0: moved(greatest, 1048576, l.q0, back),
+        ..*l
+    }
+}
+
+/// Four lines, filtered.
 #[inline(always)]
 #[tactic(auto, unfolding(spec_deblocking::specs::Filters::filtered))]
 pub fn filtered_lines(filter: Filter, greatest: u32, tc: u32, l: &Lines) -> Lines
-    requires luma { filter ≡ Nearest → ◌≡◌ {A = ℕ} 0 1 }
     requires greatest { greatest ≤ 16383 }
     requires tc { tc ≤ 16320 }
     requires lines { AreLines greatest l.now }
@@ -257,6 +286,7 @@ pub fn filtered_lines(filter: Filter, greatest: u32, tc: u32, l: &Lines) -> Line
     match filter {
         Filter::Normal { p1, q1 } => normal(p1, q1, greatest, tc, l),
         Filter::Strong => strong(tc, l),
-        Filter::Off | Filter::Nearest => *l,
+        Filter::Nearest => nearest(greatest, tc, l),
+        Filter::Off => *l,
     }
 }

@@ -8,6 +8,7 @@ mod edge;
 mod filters;
 mod four;
 mod lanes;
+mod pairs;
 mod pass;
 mod row;
 mod thresholds;

@@ -1,7 +1,7 @@
 //! The edges of a row of coding tree blocks.
 
 ghost use Rattle.std.specs.Prelude.{◌≡◌, ◌<◌, ◌≤◌, ◌+◌, ◌-◌, ◌*◌, ◌/◌, ◌^◌, ◌==◌, ℕ, cond, length, List};
-ghost use Rattle.std.specs.Prelude.{true, false};
+ghost use Rattle.std.specs.Prelude.{true};
 ghost use Rattle.spec_deblocking.specs.Planes.{vertical, horizontal};
 ghost use Rattle.deblock.specs.Samples.{IsBounded};
 ghost use Rattle.deblock.specs.Windows.{at, size, seen, columns_across, lines_across};
@@ -10,6 +10,7 @@ ghost use Rattle.deblock.specs.Passes.{placed, IsPass, IsAlong, IsPartly};
 ghost use Rattle.deblock.specs.Rows.{IsRow, is_beside_row, is_in_row};
 
 use crate::edge::{filter_edge, place};
+use crate::pairs::filter_chroma;
 use crate::pass::Pass;
 use crate::view::PlaceView;
 use crate::window::Window;
@@ -132,41 +133,39 @@ fn filter_row<V: PlaceView>(view: &V, pass: &Pass, out: &mut [u16])
                 plane: Plane::Luma,
                 ..*pass
             };
-            filter_plane::<V, 4>(view, &pass, out);
+            filter_luma(view, &pass, out);
         }
         Plane::Chroma { qp_pic_offset } => {
             let pass = Pass {
                 plane: Plane::Chroma { qp_pic_offset },
                 ..*pass
             };
-            filter_plane::<V, 2>(view, &pass, out);
+            filter_chroma(view, &pass, out);
         }
     }
 }
 
-/// Filters the edges of a row of luma or chroma.
+/// Filters the edges of a row of luma.
 #[inline(always)]
-fn filter_plane<V: PlaceView, const SIDE: usize>(view: &V, pass: &Pass, out: &mut [u16])
+fn filter_luma<V: PlaceView>(view: &V, pass: &Pass, out: &mut [u16])
     requires pass { IsPass pass.now }
-    requires same { SIDE ≡ side pass.now.plane }
-    requires some { 0 < SIDE }
+    requires same { 4 ≡ side pass.now.plane }
     requires room { length out.old ≡ size pass.now.window }
     requires bounded { IsBounded (2 ^ pass.now.bit_depth - 1) out.old }
     ensures value { IsPartly pass.now (placed pass.now.window.turned (V.place_at view.now))
         (seen pass.now.window out.old) (pass.now.along_end / side pass.now.plane) 0 out.new }
     ensures bounded { IsBounded (2 ^ pass.now.bit_depth - 1) out.new }
 {
-    for s in pass.along_first / SIDE..pass.along_end / SIDE {
-        filter_places::<V, SIDE>(view, pass, s, out);
+    for s in pass.along_first / 4..pass.along_end / 4 {
+        filter_places(view, pass, s, out);
     }
 }
 
 /// Filters all edges at the lines of a place.
 #[inline(always)]
-fn filter_places<V: PlaceView, const SIDE: usize>(view: &V, pass: &Pass, s: usize, out: &mut [u16])
+fn filter_places<V: PlaceView>(view: &V, pass: &Pass, s: usize, out: &mut [u16])
     requires pass { IsPass pass.now }
-    requires same { SIDE ≡ side pass.now.plane }
-    requires some { 0 < SIDE }
+    requires same { 4 ≡ side pass.now.plane }
     requires room { length out.old ≡ size pass.now.window }
     requires bounded { IsBounded (2 ^ pass.now.bit_depth - 1) out.old }
     requires along { IsAlong pass.now s }
@@ -175,19 +174,18 @@ fn filter_places<V: PlaceView, const SIDE: usize>(view: &V, pass: &Pass, s: usiz
         → IsPartly pass.now (placed pass.now.window.turned (V.place_at view.now)) f (s + 1) 0 out.new }
     ensures bounded { IsBounded (2 ^ pass.now.bit_depth - 1) out.new }
 {
-    let mut e = next_edge::<V, SIDE>(view, pass, pass.first, s);
+    let mut e = next_edge(view, pass, pass.first, s);
     while e < pass.end {
         filter_edge(view, pass, e, s, out);
-        e = next_edge::<V, SIDE>(view, pass, e + 1, s);
+        e = next_edge(view, pass, e + 1, s);
     }
 }
 
 /// The next edge that may be filtered at the lines of a place, from one on. Between them samples stay.
 #[inline(always)]
-fn next_edge<V: PlaceView, const SIDE: usize>(view: &V, pass: &Pass, from: usize, s: usize) -> usize
+fn next_edge<V: PlaceView>(view: &V, pass: &Pass, from: usize, s: usize) -> usize
     requires pass { IsPass pass.now }
-    requires same { SIDE ≡ side pass.now.plane }
-    requires some { 0 < SIDE }
+    requires same { 4 ≡ side pass.now.plane }
     requires along { IsAlong pass.now s }
     requires first { pass.now.first ≤ from }
     requires from { from ≤ pass.now.end }
@@ -198,23 +196,18 @@ fn next_edge<V: PlaceView, const SIDE: usize>(view: &V, pass: &Pass, from: usize
         → IsPartly pass.now (placed pass.now.window.turned (V.place_at view.now)) f s result samples }
 {
     for e in from..pass.end {
-        let q = place(view, pass.window.turned, 8 * e / SIDE, s);
-        if !is_weak::<SIDE>(q.left_strength) {
+        let q = place(view, pass.window.turned, 8 * e / 4, s);
+        if !is_weak(q.left_strength) {
             return e;
         }
     }
     pass.end
 }
 
-/// Whether an edge of such a strength is not filtered in a plane whose places have so many lines.
+/// Whether an edge of such a strength is not filtered.
 #[inline(always)]
-fn is_weak<const SIDE: usize>(strength: u8) -> bool
-    ensures luma { result ≡ true → SIDE ≡ 4 → (strength == 0) ≡ true }
-    ensures chroma { result ≡ true → SIDE ≡ 2 → (strength == 2) ≡ false }
+fn is_weak(strength: u8) -> bool
+    ensures { result ≡ true → (strength == 0) ≡ true }
 {
-    if SIDE == 4 {
-        strength == 0
-    } else {
-        strength != 2
-    }
+    strength == 0
 }

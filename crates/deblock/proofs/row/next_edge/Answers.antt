@@ -8,9 +8,9 @@ loop-e-preserved g c = λ f samples old.
     edge_still c.args.pass.now (placed c.args.pass.now.window.turned (g.V.PlaceView.place_at c.args.view.now)) f
     c.args.s c.loop-e.e samples c.requires.pass
     (record { low = omega arith; high = omega arith }) c.requires.along
-    (weak_place c.args.pass.now.plane c.args.pass.now.bit_depth g.row.SIDE _ _ c.requires.same
-    (rw c.requires.same at c.place-q.ensures) (c.is_weak.ensures.luma (search rules))
-    (c.is_weak.ensures.chroma (search rules)))
+    (weak_place c.args.pass.now.plane c.args.pass.now.bit_depth 4 c.place-q.result _ c.requires.same
+    (rw c.requires.same at c.place-q.ensures) (λ four. c.is_weak.ensures (search rules))
+    (λ two. absurd (omega (arith, two))))
     (c.loop-e.invariant f samples old)
 
 pub returns-clause-done : goal.returns-clause-done

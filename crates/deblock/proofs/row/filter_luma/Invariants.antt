@@ -2,7 +2,7 @@ use Rattle.std.proofs.Common.{◌-◌, ◌^◌}
 use Rattle.deblock.specs.Samples.{IsBounded}
 use Rattle.deblock.specs.Windows.{seen}
 use Rattle.deblock.specs.Passes.{placed, IsPartly}
-use Rattle.deblock.proofs.row.filter_plane.Given as goal
+use Rattle.deblock.proofs.row.filter_luma.Given as goal
 
 abbrev pub invariant-loop-s : goal.invariant-loop-s
 invariant-loop-s g l = record {
