@@ -1,12 +1,12 @@
 //! What was read of a coding tree unit by place.
 
-ghost use Rattle.std.specs.Prelude.{[]};
+ghost use Rattle.std.specs.Prelude.{◌≡◌, []};
 ghost use Rattle.std.specs.List.{All};
 ghost use Rattle.ctu_records.specs.declared.item.Item.TheVariants.{Pcm, Prediction, Transform, Unit};
 ghost use Rattle.spec_motion.specs.Derivation.{IsPlaced};
 ghost use Rattle.spec_motion.specs.Units.{IsPlacedItem};
 ghost use Rattle.boundary_strengths.specs.Held.{AreMarked};
-ghost use Rattle.boundary_strengths.specs.Marking.{IsAdded};
+ghost use Rattle.boundary_strengths.specs.Marking.{IsAdded, adds_nothing};
 
 use crate::laying::{block_of, lay_block, mark_left, mark_top};
 use ctu_records::{CodingUnit, Item, PredictionUnit, Square, TransformUnit};
@@ -35,7 +35,7 @@ pub(crate) fn marks_of(items: &[Item], pcm_disabled: bool) -> Marks
 {
     let mut marks = unmarked(pcm_disabled);
     for k in 0..items.len() {
-        add_item(&mut marks, items[k], pcm_disabled);
+        add_item(&mut marks, &items[k], pcm_disabled);
     }
     marks
 }
@@ -54,20 +54,44 @@ fn unmarked(pcm_disabled: bool) -> Marks
     }
 }
 
-/// An item more. A prediction unit that doesn't lie in the greatest unit is passed over.
+/// An item more. Levels, which are most items, are passed over by a test of their own, since the match on all kinds is
+/// a jump that is foretold badly.
+#[inline(always)]
 #[tactic(auto, using(crate::proofs::Steps::same_added))]
-fn add_item(marks: &mut Marks, item: Item, pcm_disabled: bool)
-    ensures { IsPlacedItem item → IsAdded pcm_disabled item marks.old marks.new }
+fn add_item(marks: &mut Marks, item: &Item, pcm_disabled: bool)
+    ensures { IsPlacedItem item.now → IsAdded pcm_disabled item.now marks.old marks.new }
+{
+    if !adds_nothing(item) {
+        add_other(marks, item, pcm_disabled);
+    }
+}
+
+/// Whether an item marks nothing, as levels do.
+#[inline(always)]
+fn adds_nothing(item: &Item) -> bool
+    ensures { result ≡ adds_nothing item.now }
 {
     match item {
-        Item::Unit(unit) => add_unit(marks, unit, pcm_disabled),
-        Item::Transform(unit) => add_transform(marks, unit, pcm_disabled),
+        Item::Unit(_) | Item::Prediction(_) | Item::Pcm(_) | Item::Transform(_) => false,
+        _ => true,
+    }
+}
+
+/// An item more that marks something. A prediction unit that doesn't lie in the greatest unit is passed over.
+#[inline(never)]
+#[tactic(auto, using(crate::proofs::Steps::same_added))]
+fn add_other(marks: &mut Marks, item: &Item, pcm_disabled: bool)
+    ensures { IsPlacedItem item.now → IsAdded pcm_disabled item.now marks.old marks.new }
+{
+    match item {
+        Item::Unit(unit) => add_unit(marks, *unit, pcm_disabled),
+        Item::Transform(unit) => add_transform(marks, *unit, pcm_disabled),
         Item::Prediction(unit) => {
-            if is_placed(&unit) {
-                add_prediction(marks, &unit, pcm_disabled);
+            if is_placed(unit) {
+                add_prediction(marks, unit, pcm_disabled);
             }
         }
-        Item::Pcm(square) => add_pcm(marks, square, pcm_disabled),
+        Item::Pcm(square) => add_pcm(marks, *square, pcm_disabled),
         _ => {}
     }
 }
