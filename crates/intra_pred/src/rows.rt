@@ -26,10 +26,11 @@ pub fn lay(out: &mut [u16], first: usize, count: usize, value: u16)
     }
 }
 
-/// The greatest of some samples.
+/// The greatest of some samples, 0 where there are none.
 #[inline(always)]
 pub fn greatest(samples: &[u16]) -> u16
-    ensures { (k : ℕ) → k < length samples.now → at samples.now k ≤ result }
+    ensures bound { (k : ℕ) → k < length samples.now → at samples.now k ≤ result }
+    ensures least { (bound : ℕ) → ((k : ℕ) → k < length samples.now → at samples.now k ≤ bound) → result ≤ bound }
 {
     let mut greatest = 0;
     for k in 0..samples.len() {
