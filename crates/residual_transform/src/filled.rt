@@ -21,7 +21,7 @@ pub fn filled_rows<const SIZE: usize>(d: &[i32]) -> usize
 
 /// Whether as many numbers from `start` on are all 0.
 #[inline(always)]
-pub fn is_zero<const COUNT: usize>(numbers: &[i32], start: usize) -> bool
+fn is_zero<const COUNT: usize>(numbers: &[i32], start: usize) -> bool
     requires room { start + COUNT ≤ length numbers.now }
     ensures zero { result ≡ true → (k : ℕ) → k < COUNT → at numbers.now (start + k) ≡ pos 0 }
     ensures only { ((k : ℕ) → k < COUNT → at numbers.now (start + k) ≡ pos 0) → result ≡ true }

@@ -11,6 +11,6 @@ mod stages;
 
 pub use halves::{even, odd};
 pub use matrix::{Matrix, matrix_of};
-pub use scaling::{Scaling, scale, scale_level, scaling_of};
+pub use scaling::{Scaling, scale_level, scaling_of};
 pub use skipping::skip;
 pub use stages::inverse;

@@ -1,37 +1,11 @@
 //! The scaling process for transform coefficients (8.6.3).
 
-ghost use Rattle.std.specs.Prelude.{◌≡◌, ℕ, ◌+◌, ◌-◌, ◌*◌, ◌^◌, ◌<◌, ◌≤◌, pos, negsuc, ◌+ℤ◌, ◌*ℤ◌, ◌≤ℤ◌, length};
-ghost use Rattle.std.specs.Prelude.{slice_index};
-ghost use Rattle.std.specs.List.{All};
+ghost use Rattle.std.specs.Prelude.{◌≡◌, ℕ, ◌+◌, ◌-◌, ◌≤◌, pos, negsuc, ◌*ℤ◌, ◌≤ℤ◌};
 ghost use Rattle.spec_arithmetic.specs.Rounding.{rounded};
-ghost use Rattle.spec_transforms.specs.Matrices.{at};
 ghost use Rattle.spec_transforms.specs.Scaling.{Is16, IsDepth, IsParameter, IsSize, clip16, quantizer, scaled};
 ghost use Rattle.residual_transform.specs.Sums.{scaled_by};
 
-use crate::filled::is_zero;
 use spec_transforms::LEVEL_SCALE;
-
-/// The scaled coefficients `out` of the `levels` of a block of 2^`log2` columns and rows, both row after row.
-///
-/// `qp` is qP of 8.6.2, which has QpBdOffset in it and so is never below 0; `factors` has the scaling factor m of each
-/// place, 16 everywhere where there are no scaling lists; `depth` is the bit depth of the component.
-pub fn scale(levels: &[i32], log2: u32, qp: u32, factors: &[u8], depth: u32, out: &mut [i32])
-    requires depth { IsDepth depth }
-    requires log2 { IsSize log2 }
-    requires qp { IsParameter depth qp }
-    requires levels { All Is16 levels.now }
-    requires count { length levels.now ≡ 2 ^ log2 * 2 ^ log2 }
-    requires factors { length factors.now ≡ length levels.now }
-    requires room { length out.old ≡ length levels.now }
-    ensures value { (i : ℕ) → i < length levels.now
-        → at out.new i ≡ scaled depth log2 qp (slice_index factors.now i) (at levels.now i) }
-    ensures small { All Is16 out.new }
-{
-    let scaling = scaling_of(log2, qp, depth);
-    for k in 0..levels.len() / 8 {
-        scale_eight(levels, factors, scaling, 8 * k, out);
-    }
-}
 
 /// What the levels of a block are scaled by besides their scaling factors.
 #[derive(Clone, Copy)]
@@ -42,7 +16,8 @@ pub struct Scaling {
     pub shift: u32,
 }
 
-/// What the levels of a block of 2^`log2` columns and rows are scaled by; `qp` and `depth` are those of `scale`.
+/// What the levels of a block of 2^`log2` columns and rows are scaled by. `qp` is qP of 8.6.2, which has QpBdOffset in
+/// it and so is never below 0; `depth` is the bit depth of the component.
 #[inline(always)]
 pub fn scaling_of(log2: u32, qp: u32, depth: u32) -> Scaling
     requires depth { IsDepth depth }
@@ -60,7 +35,7 @@ pub fn scaling_of(log2: u32, qp: u32, depth: u32) -> Scaling
     }
 }
 
-/// The scaled coefficient of a level under a scaling factor, as `scale` stores it.
+/// The scaled coefficient of a level under a scaling factor m, which is 16 where there are no scaling lists.
 #[inline(always)]
 #[tactic(auto, unfolding(spec_transforms::specs::Scaling::scaled))]
 pub fn scale_level(level: i32, factor: u8, scaling: Scaling) -> i32
@@ -73,60 +48,6 @@ pub fn scale_level(level: i32, factor: u8, scaling: Scaling) -> i32
     ensures small { Is16 result }
 {
     scaled(level, factor, scaling.quantizer, scaling.shift)
-}
-
-/// Scales eight levels from `start` on, which mostly are all 0.
-fn scale_eight(levels: &[i32], factors: &[u8], scaling: Scaling, start: usize, out: &mut [i32])
-    requires quantizer { scaling.quantizer ≤ 1179648 }
-    requires some_shift { 1 ≤ scaling.shift }
-    requires shift { scaling.shift ≤ 14 }
-    requires levels { All Is16 levels.now }
-    requires count { start + 8 ≤ length levels.now }
-    requires factors { length factors.now ≡ length levels.now }
-    requires room { length out.old ≡ length levels.now }
-    ensures here { (j : ℕ) → j < 8 → at out.new (start + j)
-        ≡ scaled_by scaling.quantizer scaling.shift (slice_index factors.now (start + j)) (at levels.now (start + j)) }
-    ensures before { (i : ℕ) → i < start → at out.new i ≡ at out.old i }
-    ensures small { (j : ℕ) → j < 8 → Is16 (at out.new (start + j)) }
-{
-    if is_zero::<8>(levels, start) {
-        lay_zeros(out, start);
-    } else {
-        scale_levels(levels, factors, scaling, start, out);
-    }
-}
-
-/// Stores eight coefficients of 0 from `start` on.
-#[inline(always)]
-fn lay_zeros(out: &mut [i32], start: usize)
-    requires room { start + 8 ≤ length out.old }
-    ensures here { (j : ℕ) → j < 8 → at out.new (start + j) ≡ pos 0 }
-    ensures before { (i : ℕ) → i < start → at out.new i ≡ at out.old i }
-{
-    for j in 0..8 {
-        out[start + j] = 0;
-    }
-}
-
-/// Stores eight scaled levels from `start` on.
-#[inline(always)]
-fn scale_levels(levels: &[i32], factors: &[u8], scaling: Scaling, start: usize, out: &mut [i32])
-    requires quantizer { scaling.quantizer ≤ 1179648 }
-    requires some_shift { 1 ≤ scaling.shift }
-    requires shift { scaling.shift ≤ 14 }
-    requires levels { All Is16 levels.now }
-    requires count { start + 8 ≤ length levels.now }
-    requires factors { length factors.now ≡ length levels.now }
-    requires room { length out.old ≡ length levels.now }
-    ensures here { (j : ℕ) → j < 8 → at out.new (start + j)
-        ≡ scaled_by scaling.quantizer scaling.shift (slice_index factors.now (start + j)) (at levels.now (start + j)) }
-    ensures before { (i : ℕ) → i < start → at out.new i ≡ at out.old i }
-    ensures small { (j : ℕ) → j < 8 → Is16 (at out.new (start + j)) }
-{
-    for j in 0..8 {
-        let i = start + j;
-        out[i] = scaled(levels[i], factors[i], scaling.quantizer, scaling.shift);
-    }
 }
 
 /// levelScale[qP % 6] << (qP / 6).
