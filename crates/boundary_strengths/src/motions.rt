@@ -17,8 +17,10 @@ pub trait PlaceMotions {
         requires row { row ≤ 16 }
         ensures { result ≡ motion_at self.now column row };
 
-    /// Whether the unit's first places, so many across and down, are known to have no motion.
+    /// Whether none of the unit's first places, so many across and down, has motion.
     fn is_intra(&self, side: usize) -> bool
         requires { side ≤ 16 }
-        ensures { result ≡ true → (x y : ℕ) → x < side → y < side → motion_at self.now (x + 1) (y + 1) ≡ None };
+        ensures still { result ≡ true → (x y : ℕ) → x < side → y < side → motion_at self.now (x + 1) (y + 1) ≡ None }
+        ensures only { ((x y : ℕ) → x < side → y < side → motion_at self.now (x + 1) (y + 1) ≡ None)
+            → result ≡ true };
 }

@@ -2,9 +2,7 @@
 
 ghost use Rattle.std.specs.Prelude.{◌≡◌, ◌+◌, ◌<◌, ◌≤◌, ℕ, None, false, true};
 ghost use Rattle.picture_motion.specs.CtuMotion.{held};
-ghost use Rattle.unit_build.specs.Near.{is_inside, motion_behind};
-ghost use Rattle.spec_motion.specs.declared.slice_motion.SliceMotion.{SliceMotion};
-ghost use Rattle.spec_picture_build.specs.SpecPictureMotion.{Motions};
+ghost use Rattle.unit_build.specs.Near.{is_inside, motion_behind, motion_there};
 ghost use Rattle.spec_picture_filters.specs.Units.{motion_near};
 
 use crate::view::Beside;
@@ -34,40 +32,58 @@ impl<'a, B: Beside> PlaceMotions for UnitNear<'a, B> {
     }
 
     fn is_intra(&self, side: usize) -> bool {
-        is_intra(self.unit, self.motion, side)
+        are_still(self, side)
     }
 }
 
-/// Whether the first places of a unit, so many across and down, have no motion.
-fn is_intra(unit: &CodingTreeUnit, motion: &UnitMotion, side: usize) -> bool
+/// Whether none of the first places of a unit, so many across and down, has motion.
+fn are_still<B: Beside>(near: &UnitNear<'_, B>, side: usize) -> bool
     requires { side ≤ 16 }
-    ensures { result ≡ true → (slice : SliceMotion) (motions : Motions) (x y : ℕ) → x < side → y < side
-        → motion_near unit.now.layout unit.now.address (motion_behind unit.now slice (held motion.now) motions)
-        (x + 1) (y + 1)
+    ensures still { result ≡ true → (x y : ℕ) → x < side → y < side
+        → motion_there near.now.unit.now near.now.slice.now (held near.now.motion.now)
+        (B.motion_at near.now.beside.now) (x + 1) (y + 1)
         ≡ None }
-{
-    if side <= unit.layout.side() {
-        are_still(motion, side)
-    } else {
-        false
-    }
-}
-
-/// Whether no motion is known of them.
-fn are_still(motion: &UnitMotion, side: usize) -> bool
-    requires { side ≤ 16 }
-    ensures { result ≡ true → (x y : ℕ) → x < side → y < side → held motion.now (x + 1) (y + 1) ≡ None }
+    ensures only { ((x y : ℕ) → x < side → y < side
+        → motion_there near.now.unit.now near.now.slice.now (held near.now.motion.now)
+        (B.motion_at near.now.beside.now) (x + 1) (y + 1)
+        ≡ None)
+        → result ≡ true }
 {
     for y in 0..side {
-        if !is_still_row(motion, y, side) {
+        if !is_still_row(near, y, side) {
             return false;
         }
     }
     true
 }
 
-/// Whether none is known of those of a row.
-fn is_still_row(motion: &UnitMotion, y: usize, side: usize) -> bool
+/// Whether none of those of a row has. Most rows without motion are told by what is known of the unit alone.
+fn is_still_row<B: Beside>(near: &UnitNear<'_, B>, y: usize, side: usize) -> bool
+    requires y { y < side }
+    requires side { side ≤ 16 }
+    ensures still { result ≡ true → (x : ℕ) → x < side
+        → motion_there near.now.unit.now near.now.slice.now (held near.now.motion.now)
+        (B.motion_at near.now.beside.now) (x + 1) (y + 1)
+        ≡ None }
+    ensures only { ((x : ℕ) → x < side
+        → motion_there near.now.unit.now near.now.slice.now (held near.now.motion.now)
+        (B.motion_at near.now.beside.now) (x + 1) (y + 1)
+        ≡ None)
+        → result ≡ true }
+{
+    if side <= near.unit.layout.side() && is_unknown_row(near.motion, y, side) {
+        return true;
+    }
+    for x in 0..side {
+        if !is_still(near, x + 1, y + 1) {
+            return false;
+        }
+    }
+    true
+}
+
+/// Whether no motion is known of the first places of a row.
+fn is_unknown_row(motion: &UnitMotion, y: usize, side: usize) -> bool
     requires y { y < 16 }
     requires side { side ≤ 16 }
     ensures { result ≡ true → (x : ℕ) → x < side → held motion.now (x + 1) (y + 1) ≡ None }
@@ -87,6 +103,26 @@ fn is_there(motion: Option<Motion>) -> bool
     match motion {
         Some(_) => true,
         None => false,
+    }
+}
+
+/// Whether a place that is counted from 1 at a unit's first place has no motion.
+#[inline(never)]
+fn is_still<B: Beside>(near: &UnitNear<'_, B>, column: usize, row: usize) -> bool
+    requires column { column ≤ 16 }
+    requires row { row ≤ 16 }
+    ensures still { result ≡ true
+        → motion_there near.now.unit.now near.now.slice.now (held near.now.motion.now)
+        (B.motion_at near.now.beside.now) column row
+        ≡ None }
+    ensures only { motion_there near.now.unit.now near.now.slice.now (held near.now.motion.now)
+        (B.motion_at near.now.beside.now) column row
+        ≡ None
+        → result ≡ true }
+{
+    match motion_near(near.unit, near.beside, near.slice, near.motion, column, row) {
+        Some(_) => false,
+        None => true,
     }
 }
 

@@ -13,7 +13,7 @@ returns-then-is_intra g c = λ each small x y d few low.
     (λ (xs : List Item). All IsPlacedItem xs → AreMarked sides.pcm_loop_filter_disabled xs c.marks_of-marks.result)
     c.items.ensures c.marks_of-marks.ensures in
     c.fill_intra.ensures (all each) small (g.V.PlaceMotions.motion_at c.args.view.now)
-    (c.is_intra.ensures c.if-is_intra.true) x y d few low
+    (c.is_intra.ensures.still c.if-is_intra.true) x y d few low
 
 pub returns-else-is_intra : goal.returns-else-is_intra
 returns-else-is_intra g c = λ each small x y d few low.
