@@ -8,7 +8,11 @@ loop-k-preserved c =
     let more : (k : ℕ) → k < c.loop-k.k → at c.args.samples.now k ≤ c.max-greatest.result =
     λ k few. omega (arith, told, c.loop-k.invariant.0 k few) in
     let least : (bound : ℕ) → ((k : ℕ) → k < c.loop-k.k + 1 → at c.args.samples.now k ≤ bound)
-        → c.max-greatest.result ≤ bound =
-    λ bound each. omega (arith, told, each c.loop-k.k (omega arith),
-    c.loop-k.invariant.1 bound (λ k few. each k (omega (arith, few)))) in
+    → c.max-greatest.result ≤ bound =
+    λ bound each. omega (
+      arith,
+      told,
+      each c.loop-k.k (omega arith),
+      c.loop-k.invariant.1 bound (λ k few. each k (omega (arith, few))),
+    ) in
     (below_more _ _ more (omega (arith, told)), least)
