@@ -54,3 +54,18 @@ pub held_over : (old new : Cells) (places places' : List (Option Motion)) (block
 held_over old new places places' block motion x y width height eo en ex ey ew eh hx hy told =
     fun_ext (λ i. fun_ext (λ j. over_at old new block motion x y width height ex ey ew eh hx hy i j
     (λ hi hj. rw (eo, en) (told i j None hi hj))))
+
+-- one motion that was laid over all places of a unit of the greatest size
+pub whole_laid : (old new : List (Option Motion)) (value : Option Motion) (block : Rectangle) (x y width height : ℕ)
+    → x ≡ block.x → y ≡ block.y → width ≡ block.width → height ≡ block.height → block.x + block.width ≤ 16
+    → block.y + block.height ≤ 16
+    → ((i j : ℕ) (d : Option Motion) → i < 34 → j < 17
+    → get_or new (cell i j) d
+    ≡ cond ((nat_le (x + 1) i && nat_lt i (x + 1 + width)) && (nat_le (y + 1) j && nat_lt j (y + 1 + height))) value
+    (get_or old (cell i j) d))
+    → block.width ≡ 16 → block.height ≡ 16
+    → (i j : ℕ) → i < 16 → j < 16 → get_or new (cell (i + 1) (j + 1)) None ≡ get_or new (cell 1 1) None
+whole_laid old new value block x y width height ex ey ew eh hx hy told wide high i j li lj =
+    let here = told (i + 1) (j + 1) None (omega (arith, li)) (omega (arith, lj)) in
+    let first = told 1 1 None (omega arith) (omega arith) in
+    grind (arith, nat_tests)

@@ -1,5 +1,6 @@
 -- The motion that the cells of a unit have.
-use Rattle.std.specs.Prelude.{ℕ, ◌+◌, ◌*◌, ◌&&◌, nat_lt, List, Option, None, slice_index_or, if◌then◌else◌}
+use Rattle.std.specs.Prelude.{◌≡◌, ℕ, ◌+◌, ◌*◌, ◌<◌, ◌&&◌, nat_lt, Bool, true, List, Option, None, slice_index_or}
+use Rattle.std.specs.Prelude.{if◌then◌else◌}
 use Rattle.spec_motion.specs.declared.collocation.Collocated.{Collocated}
 use Rattle.spec_motion.specs.declared.vectors.Motion.{Motion}
 use Rattle.spec_motion.specs.Vectors.{Beneath, Known}
@@ -24,3 +25,8 @@ held cells column row =
 unfoldable pub held_beneath : Cells → Beneath
 held_beneath cells column row =
     if nat_lt column 5 && nat_lt row 4 then slice_index_or cells.beneath (block_cell column row) None else None
+
+-- where one motion was laid over all places of a unit of the greatest size, they have it
+abbrev pub AreWhole : Bool → List (Option Motion) → Type 0
+AreWhole whole places = whole ≡ true → (i j : ℕ) → i < 16 → j < 16
+    → slice_index_or places (cell (i + 1) (j + 1)) None ≡ slice_index_or places (cell 1 1) None

@@ -1,6 +1,6 @@
 //! The motion of a coding tree unit.
 
-ghost use Rattle.std.specs.Prelude.{◌≡◌, ℕ, ◌+◌, ◌*◌, ◌<◌, ◌≤◌, ◌==◌, ◌&&◌, None, Some, Option, if◌then◌else◌};
+ghost use Rattle.std.specs.Prelude.{◌≡◌, ℕ, ◌+◌, ◌*◌, ◌<◌, ◌≤◌, ◌==◌, ◌&&◌, true, None, Some, Option, if◌then◌else◌};
 ghost use Rattle.ctu_motion.specs.Held.{held, held_beneath};
 ghost use Rattle.spec_motion.specs.Derivation.{IsPlaced, motion_laid, motion_over};
 
@@ -14,14 +14,18 @@ use std::marker::Model;
 pub struct UnitMotion {
     places: [Option<Motion>; 578],
     beneath: [Option<Collocated>; 20],
+    /// Whether one motion was laid over all places of a unit of the greatest size.
+    whole: bool,
 }
 
 impl Model for UnitMotion {
-    ghost use Rattle.ctu_motion.specs.Held.{Cells};
+    ghost use Rattle.ctu_motion.specs.Held.{AreWhole, Cells};
 
     ghost Value = { Cells };
 
     ghost view = { λ m. record { places = m.places; beneath = m.beneath } };
+
+    ghost invariant = { λ m. AreWhole m.whole m.places };
 }
 
 impl UnitMotion {
@@ -34,6 +38,7 @@ impl UnitMotion {
         UnitMotion {
             places: [None; 578],
             beneath: [None; 20],
+            whole: false,
         }
     }
 
@@ -45,6 +50,7 @@ impl UnitMotion {
     {
         self.places = [None; 578];
         self.beneath = [None; 20];
+        self.whole = false;
     }
 
     /// What is known of a place.
@@ -56,6 +62,7 @@ impl UnitMotion {
             → held self.new i j ≡ (if (i == column) && (j == row) then motion else held self.old i j) }
         ensures beneath { held_beneath self.new ≡ held_beneath self.old }
     {
+        self.whole = false;
         self.places[34 * row + column] = motion;
     }
 
@@ -87,6 +94,15 @@ impl UnitMotion {
             usize::from(block.height),
             Some(motion),
         );
+        self.whole = (block.width == 16) & (block.height == 16);
+    }
+
+    /// Whether all places of a unit of the greatest size are known to have one motion.
+    #[tactic(auto, unfolding(crate::specs::Held::held))]
+    pub fn is_whole(&self) -> bool
+        ensures { result ≡ true → (i j : ℕ) → i < 16 → j < 16 → held self.now (i + 1) (j + 1) ≡ held self.now 1 1 }
+    {
+        self.whole
     }
 }
 

@@ -96,6 +96,9 @@ fn rows_end(motion: &UnitMotion, row: usize, block: PlaceBlock) -> usize
     ensures same { (i j : ℕ) → i < block.columns → row ≤ j → j < result
         → held motion.now (i + 1) (j + 1) ≡ held motion.now (i + 1) (row + 1) }
 {
+    if motion.is_whole() {
+        return block.rows;
+    }
     let mut end = row + 1;
     while end < block.rows && is_same_row(motion, row, end, block.columns) {
         end += 1;
@@ -130,6 +133,9 @@ fn run_end(motion: &UnitMotion, row: usize, column: usize, columns: usize) -> us
     ensures same { (i : ℕ) → column ≤ i → i < result
         → held motion.now (i + 1) (row + 1) ≡ held motion.now (column + 1) (row + 1) }
 {
+    if motion.is_whole() {
+        return columns;
+    }
     let here = motion.motion(column + 1, row + 1);
     let mut end = column + 1;
     while end < columns && is_same(motion.motion(end + 1, row + 1), here) {
