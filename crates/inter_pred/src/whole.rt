@@ -55,8 +55,32 @@ fn copy_byte_line(window: &[u16], from: usize, width: usize, out: &mut [u16], to
     }
 }
 
-/// The samples of a window of 8 bits, in lines of 64.
+/// The samples of a window of 8 bits, in lines of 64. Most blocks have one of a few widths.
 pub fn lay_bytes(window: &[u16; 5112], width: usize, height: usize, out: &mut [u16; 4096])
+    requires { (width ≤ 64) × (height ≤ 64) }
+    ensures { (x y : ℕ) → x < width → y < height → at out.new (64 * y + x) ≡ min (at window.now (72 * y + x)) 255 }
+{
+    match width {
+        8 => lay_byte_lines::<8>(window, height, out),
+        16 => lay_byte_lines::<16>(window, height, out),
+        32 => lay_byte_lines::<32>(window, height, out),
+        64 => lay_byte_lines::<64>(window, height, out),
+        _ => lay_any_lines(window, width, height, out),
+    }
+}
+
+/// Lines of `WIDTH` of them.
+fn lay_byte_lines<const WIDTH: usize>(window: &[u16; 5112], height: usize, out: &mut [u16; 4096])
+    requires { (WIDTH ≤ 64) × (height ≤ 64) }
+    ensures { (x y : ℕ) → x < WIDTH → y < height → at out.new (64 * y + x) ≡ min (at window.now (72 * y + x)) 255 }
+{
+    for y in 0..height {
+        lay_byte_line(window, 72 * y, WIDTH, out, 64 * y);
+    }
+}
+
+/// Lines of any width.
+fn lay_any_lines(window: &[u16; 5112], width: usize, height: usize, out: &mut [u16; 4096])
     requires { (width ≤ 64) × (height ≤ 64) }
     ensures { (x y : ℕ) → x < width → y < height → at out.new (64 * y + x) ≡ min (at window.now (72 * y + x)) 255 }
 {
@@ -66,6 +90,7 @@ pub fn lay_bytes(window: &[u16; 5112], width: usize, height: usize, out: &mut [u
 }
 
 /// A line of them.
+#[inline(always)]
 fn lay_byte_line(window: &[u16], from: usize, width: usize, out: &mut [u16], to: usize)
     requires window { from + width ≤ length window.now }
     requires out { to + width ≤ length out.old }
