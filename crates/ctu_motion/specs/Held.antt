@@ -6,10 +6,12 @@ use Rattle.spec_motion.specs.declared.vectors.Motion.{Motion}
 use Rattle.spec_motion.specs.Vectors.{Beneath, Known}
 
 -- the motion of 34 places in each of 17 rows, the first column and the first row beside the unit, the row as far as
--- twice its side; and that of the collocated picture in four rows of five blocks
+-- twice its side; that of the collocated picture in four rows of five blocks; and whether the last motion was laid over
+-- all places of a unit of the greatest size
 pub record Cells : Type 0 where
   pub places : List (Option Motion)
   pub beneath : List (Option Collocated)
+  pub whole : Bool
 
 -- where a place's cell is, and a block's
 abbrev pub cell : ℕ → ℕ → ℕ

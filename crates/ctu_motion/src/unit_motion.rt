@@ -1,6 +1,7 @@
 //! The motion of a coding tree unit.
 
-ghost use Rattle.std.specs.Prelude.{◌≡◌, ℕ, ◌+◌, ◌*◌, ◌<◌, ◌≤◌, ◌==◌, ◌&&◌, true, None, Some, Option, if◌then◌else◌};
+ghost use Rattle.std.specs.Prelude.{◌≡◌, ℕ, ◌+◌, ◌*◌, ◌<◌, ◌≤◌, ◌==◌, ◌&&◌, false, true, None, Some, Option};
+ghost use Rattle.std.specs.Prelude.{if◌then◌else◌};
 ghost use Rattle.ctu_motion.specs.Held.{held, held_beneath};
 ghost use Rattle.spec_motion.specs.Derivation.{IsPlaced, motion_laid, motion_over};
 
@@ -23,7 +24,7 @@ impl Model for UnitMotion {
 
     ghost Value = { Cells };
 
-    ghost view = { λ m. record { places = m.places; beneath = m.beneath } };
+    ghost view = { λ m. record { places = m.places; beneath = m.beneath; whole = m.whole } };
 
     ghost invariant = { λ m. AreWhole m.whole m.places };
 }
@@ -34,6 +35,7 @@ impl UnitMotion {
     pub fn new() -> UnitMotion
         ensures places { (column row : ℕ) → held result column row ≡ None }
         ensures beneath { (column row : ℕ) → held_beneath result column row ≡ None }
+        ensures whole { result.whole ≡ false }
     {
         UnitMotion {
             places: [None; 578],
@@ -47,6 +49,7 @@ impl UnitMotion {
     pub fn restart(&mut self)
         ensures places { (column row : ℕ) → held self.new column row ≡ None }
         ensures beneath { (column row : ℕ) → held_beneath self.new column row ≡ None }
+        ensures whole { self.new.whole ≡ false }
     {
         self.places = [None; 578];
         self.beneath = [None; 20];
@@ -61,6 +64,7 @@ impl UnitMotion {
         ensures places { (i j : ℕ)
             → held self.new i j ≡ (if (i == column) && (j == row) then motion else held self.old i j) }
         ensures beneath { held_beneath self.new ≡ held_beneath self.old }
+        ensures whole { self.new.whole ≡ false }
     {
         self.whole = false;
         self.places[34 * row + column] = motion;
@@ -74,6 +78,7 @@ impl UnitMotion {
         ensures places { held self.new ≡ held self.old }
         ensures beneath { (i j : ℕ)
             → held_beneath self.new i j ≡ (if (i == column) && (j == row) then motion else held_beneath self.old i j) }
+        ensures whole { self.new.whole ≡ self.old.whole }
     {
         self.beneath[5 * row + column] = motion;
     }
@@ -85,6 +90,7 @@ impl UnitMotion {
         requires y { block.y + block.height ≤ 16 }
         ensures places { held self.new ≡ motion_over block motion (held self.old) }
         ensures beneath { held_beneath self.new ≡ held_beneath self.old }
+        ensures whole { self.new.whole ≡ ((block.width == 16) && (block.height == 16)) }
     {
         fill_block(
             &mut self.places,
@@ -94,13 +100,14 @@ impl UnitMotion {
             usize::from(block.height),
             Some(motion),
         );
-        self.whole = (block.width == 16) & (block.height == 16);
+        self.whole = block.width == 16 && block.height == 16;
     }
 
-    /// Whether all places of a unit of the greatest size are known to have one motion.
+    /// Whether the last motion was laid over all places of a unit of the greatest size.
     #[tactic(auto, unfolding(crate::specs::Held::held))]
     pub fn is_whole(&self) -> bool
-        ensures { result ≡ true → (i j : ℕ) → i < 16 → j < 16 → held self.now (i + 1) (j + 1) ≡ held self.now 1 1 }
+        ensures value { result ≡ self.now.whole }
+        ensures same { result ≡ true → (i j : ℕ) → i < 16 → j < 16 → held self.now (i + 1) (j + 1) ≡ held self.now 1 1 }
     {
         self.whole
     }
