@@ -1,3 +1,4 @@
+pub mod Fronts
 pub mod Pictures
 pub mod Closings
 pub mod Taking

@@ -1,10 +1,10 @@
 //! Pictures that are decoded together.
 
-ghost use Rattle.std.specs.Prelude.{◌≡◌, ◌++◌, ◌∷◌, [], None, length, OnOk, OnErr, IfErr};
+ghost use Rattle.std.specs.Prelude.{◌≡◌, ◌++◌, ◌∷◌, [], None, length, OnOk, OnErr, IfOk, IfErr, take, drop};
 ghost use Rattle.picture_plan.specs.Flights.{some_flight};
 
 use plan_types::PicturePlan;
-use std::alloc::Global;
+use std::alloc::{AllocError, Global};
 use std::marker::Model;
 
 /// Consecutive pictures of one sequence parameter set, in decoding order. Contracts see the list.
@@ -42,6 +42,20 @@ impl Flight {
             Ok(()) => Ok(()),
             Err(failed) => Err(failed.value),
         }
+    }
+
+    /// Takes the first `count` pictures out, as a flight of their own; all where there are no more. `Err` is want of
+    /// memory.
+    pub fn take_first(&mut self, count: usize) -> Result<Flight, AllocError>
+        ensures first { IfOk result (λ first. first ≡ take count self.old) }
+        ensures left { OnOk result (self.new ≡ drop count self.old) }
+    {
+        let most = self.pictures.len();
+        let mut first = Flight::new(*self.pictures.allocator());
+        for _taken in 0..count.min(most) {
+            first.pictures.push(self.pictures.remove(0))?;
+        }
+        Ok(first)
     }
 
     /// The pictures in decoding order.
