@@ -7,7 +7,7 @@ use Rattle.std.proofs.lemmas.Result.{err_from_is_err_and}
 use Rattle.std.specs.List.{concat}
 use Rattle.std.proofs.lemmas.List.Folds.{concat-append}
 use Rattle.std.proofs.Math.Seq.{take-append-add}
-use Rattle.std.proofs.lemmas.List.{drop_all}
+use Rattle.std.proofs.lemmas.List.{drop_all, take-append-drop}
 use Rattle.std.proofs.lemmas.List.Elements.{All-cons, All-head, All-nil, All-tail}
 use Rattle.std.proofs.lemmas.List.{length-append}
 use Rattle.hv_base.specs.declared.outcome.Outcome.{Outcome}
@@ -59,6 +59,14 @@ drop-next items i x d lt is =
     drop-cons items i d lt
     ∙ ap (λ y. y ∷ drop (suc i) items) (sym is)
     ∙ ap (λ (n : ℕ). x ∷ drop n items) (sym (add-one i))
+
+-- the first of these pictures, and those behind them
+pub parts-of : (n : ℕ) (left part rest : List PicturePlan) → part ≡ take n left → rest ≡ drop n left
+    → left ≡ part ++ rest
+parts-of n left part rest p r =
+    sym (take-append-drop n left)
+    ∙ ap (λ (ps : List PicturePlan). ps ++ drop n left) (sym p)
+    ∙ ap (λ (ps : List PicturePlan). part ++ ps) (sym r)
 
 -- the exit of a call that answers how decoding ended
 pub exit-is : (r : Result (Unit {0}) Outcome) (o : Outcome) → IsErrAnd r (λ y. y ≡ o) → r ≡ Err o
@@ -515,21 +523,19 @@ module _ {X : Type 0} (bytes : X → Option (List ℕ)) (faults : X → ℕ) whe
     left-first flight pictures left new e is =
         ap pictures_of e ∙ ap (λ (ps : List PicturePlan). ps ++ pictures_of new) (sym is)
 
-    -- one more flight is decoded
-    pub passes-flight : (a b c : X) (all : List PicturePlan) (left rest : List (List PicturePlan))
-        (flight pictures : List PicturePlan) (old mid new : HeldBuffer)
-        → left ≡ flight ∷ rest → pictures ≡ flight
-        → Passes form hash (by a b) all old (pictures_of left) mid → Passes form hash (by b c) pictures mid [] new
-        → Passes form hash (by a c) all old (pictures_of rest) new
-    passes-flight a b c all left rest flight pictures old mid new e is p q =
-        let whole : pictures ≡ q.front = q.order ∙ append-nil q.front in
+    -- some more of these pictures are decoded
+    pub passes-part : (a b c : X) (all left part rest : List PicturePlan) (old mid new : HeldBuffer)
+        → left ≡ part ++ rest
+        → Passes form hash (by a b) all old left mid → Passes form hash (by b c) part mid [] new
+        → Passes form hash (by a c) all old rest new
+    passes-part a b c all left part rest old mid new e p q =
+        let whole : part ≡ q.front = q.order ∙ append-nil q.front in
         record {
           front = p.front ++ q.front;
           order = p.order
               ∙ ap (λ (ps : List PicturePlan). p.front ++ ps)
-              (left-first flight pictures left rest e is
-              ∙ ap (λ (ps : List PicturePlan). ps ++ pictures_of rest) whole)
-              ∙ sym (append_assoc p.front q.front (pictures_of rest));
+              (e ∙ ap (λ (ps : List PicturePlan). ps ++ rest) whole)
+              ∙ sym (append_assoc p.front q.front rest);
           outs = p.outs ++ q.outs;
           went = went-then form a b c old.number mid.number new.number p.outs q.outs p.went q.went;
           run =
@@ -538,17 +544,34 @@ module _ {X : Type 0} (bytes : X → Option (List ℕ)) (faults : X → ℕ) whe
               q.few n (p.few n le (all-front n p.front q.front kept)) (all-back n p.front q.front kept);
         }
 
+    pub over-part : (a b c : X) (all left part rest : List PicturePlan) (old mid : HeldBuffer) (o : Outcome)
+        → left ≡ part ++ rest
+        → Passes form hash (by a b) all old left mid → Ends form hash (by b c) part mid o
+        → Ends form hash (by a c) all old o
+    over-part a b c all left part rest old mid o e p q = λ end later.
+        ends-behind a b c all left old mid o p end later
+        (subst (λ (ps : List PicturePlan). IsAnswered (owed-of end ps mid) (by b c) o)
+        (sym (ap (λ (ps : List PicturePlan). ps ++ later) e ∙ append_assoc part rest later))
+        (q end (rest ++ later)))
+
+    -- one more flight is decoded
+    pub passes-flight : (a b c : X) (all : List PicturePlan) (left rest : List (List PicturePlan))
+        (flight pictures : List PicturePlan) (old mid new : HeldBuffer)
+        → left ≡ flight ∷ rest → pictures ≡ flight
+        → Passes form hash (by a b) all old (pictures_of left) mid → Passes form hash (by b c) pictures mid [] new
+        → Passes form hash (by a c) all old (pictures_of rest) new
+    passes-flight a b c all left rest flight pictures old mid new e is p q =
+        passes-part a b c all (pictures_of left) pictures (pictures_of rest) old mid new
+        (left-first flight pictures left rest e is) p q
+
     pub over-flight : (a b c : X) (all : List PicturePlan) (left rest : List (List PicturePlan))
         (flight pictures : List PicturePlan) (old mid : HeldBuffer) (o : Outcome)
         → left ≡ flight ∷ rest → pictures ≡ flight
         → Passes form hash (by a b) all old (pictures_of left) mid → Ends form hash (by b c) pictures mid o
         → Ends form hash (by a c) all old o
-    over-flight a b c all left rest flight pictures old mid o e is p q = λ end later.
-        ends-behind a b c all (pictures_of left) old mid o p end later
-        (subst (λ (ps : List PicturePlan). IsAnswered (owed-of end ps mid) (by b c) o)
-        (sym (ap (λ (ps : List PicturePlan). ps ++ later) (left-first flight pictures left rest e is)
-        ∙ append_assoc pictures (pictures_of rest) later))
-        (q end (pictures_of rest ++ later)))
+    over-flight a b c all left rest flight pictures old mid o e is p q =
+        over-part a b c all (pictures_of left) pictures (pictures_of rest) old mid o
+        (left-first flight pictures left rest e is) p q
 
     -- ---- the end
 

@@ -4,6 +4,7 @@ pub mod Buffers
 pub mod Digests
 pub mod Pictures
 pub mod Flights
+pub mod Together
 pub mod Writing
 pub mod Owed
 pub mod Taking

@@ -11,6 +11,7 @@ mod session;
 mod session_calls;
 mod stream;
 mod tag;
+mod together;
 mod writing;
 
 pub use decoding::decode;

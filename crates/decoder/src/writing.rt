@@ -12,6 +12,7 @@ ghost use Rattle.decoder.specs.Writing.{IsAnswered, TakesPicture, WritesFirst, o
 
 use crate::buffer::Buffer;
 use crate::options::Options;
+use crate::together::most_together;
 use hv_base::{Outcome, Stop};
 use hv_io::{Gate, Sink};
 use picture_plan::{Flight, Flights, Planned};
@@ -89,7 +90,30 @@ pub(crate) fn decode_flights<R: Threads + Wait + Sync, O: Sink, G: Gate + Sync>(
 {
     let mut left = flights;
     while let Some(flight) = left.next() {
-        decode_pictures(rt, options, &flight, buffer, out, gate)?;
+        decode_flight(rt, options, flight, buffer, out, gate)?;
+    }
+    Ok(())
+}
+
+/// Decodes the pictures of a flight, as many together as the memory of one board is for, and writes what goes out.
+fn decode_flight<R: Threads + Wait + Sync, O: Sink, G: Gate + Sync>(
+    rt: &R,
+    options: Options,
+    flight: Flight,
+    buffer: &mut Buffer,
+    out: &mut O,
+    gate: &G,
+) -> Result<(), Outcome>
+    ensures { WritesFirst options.form options.hash (change_of O.contents O.faults out.old out.new) flight buffer.old
+        buffer.new result }
+{
+    let mut left = flight;
+    'parts: while 0 < left.len() {
+        let together = most_together(left.as_slice());
+        let Ok(part) = left.take_first(together) else {
+            return Err(Outcome::Memory);
+        };
+        decode_pictures(rt, options, &part, buffer, out, gate)?;
     }
     Ok(())
 }
