@@ -1,4 +1,5 @@
 pub mod Places
+pub mod Fresh
 pub mod Units
 pub mod Lines
 pub mod Same

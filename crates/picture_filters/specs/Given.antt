@@ -1,17 +1,28 @@
 -- What a coding tree unit gives the loop filters of its picture.
-use Rattle.std.specs.Prelude.{◌≡◌, ℕ, ◌<◌, ◌==◌, ◌&&◌, nat_lt, Bool, List, slice_index_or, if◌then◌else◌}
+use Rattle.std.specs.Prelude.{◌≡◌, ℕ, ◌<◌, ◌==◌, ◌&&◌, nat_lt, pos, Bool, false, List, slice_index_or}
+use Rattle.std.specs.Prelude.{if◌then◌else◌}
 use Rattle.ctu_records.specs.Tree.{Ctu}
 use Rattle.picture_filters.specs.declared.given.UnitFilters.{UnitFilters}
 use Rattle.picture_filters.specs.Filtering.{read_place}
 use Rattle.picture_filters.specs.Units.{first_unit}
 use Rattle.plan_types.specs.declared.picture_plan.PicturePlan.{PicturePlan}
 use Rattle.plan_types.specs.declared.segment_plan.SegmentPlan.{SegmentPlan}
+use Rattle.slice_types.specs.declared.slice.SliceDeblocking.{SliceDeblocking}
 use Rattle.spec_picture_filters.specs.Units.{places_read, unit_read}
 use Rattle.spec_picture_filters.specs.SpecPictureMotion.{Motions}
 use Rattle.spec_picture_trees.specs.Places.{unit_places}
 use Rattle.spec_picture_trees.specs.Shapes.{picture_shape}
 use Rattle.spec_sample_adaptive_offset.specs.declared.unit.OffsetUnit.{OffsetUnit}
 use Rattle.spec_picture_trees.specs.SpecSliceData.{PictureShape, column_of, row_of}
+
+-- deblocking without offsets
+abbrev pub no_deblocking : SliceDeblocking
+no_deblocking = record {
+  deblocking_filter_override_flag = false;
+  slice_deblocking_filter_disabled_flag = false;
+  slice_beta_offset_div2 = pos 0;
+  slice_tc_offset_div2 = pos 0;
+}
 
 -- that of the unit at an address, a unit of a slice segment, by the motion of the picture behind it and by the places
 -- that are coded before it

@@ -4,7 +4,8 @@ ghost use Rattle.std.specs.Prelude.{◌≡◌, ℕ, ◌<◌, ◌≤◌, Bool, sl
 ghost use Rattle.std.specs.List.{All};
 ghost use Rattle.ctu_records.specs.Tree.{qp_at};
 ghost use Rattle.picture_filters.specs.Filtering.{IsCodedAbove, IsCodedLeft, IsUnit};
-ghost use Rattle.picture_filters.specs.Given.{IsGiven};
+ghost use Rattle.picture_filters.specs.Given.{IsGiven, no_deblocking};
+ghost use Rattle.picture_filters.specs.Places.{first_read};
 ghost use Rattle.picture_filters.specs.Units.{first_unit};
 ghost use Rattle.picture_buffer.specs.SpecMotion.{IsPlacedItem};
 ghost use Rattle.spec_picture_filters.specs.Units.{is_across, motion_near, offset_of};
@@ -40,8 +41,12 @@ pub struct UnitFilters {
 }
 
 impl UnitFilters {
-    /// Nothing is told yet.
-    pub fn new() -> UnitFilters {
+    /// Nothing is told yet: no edge has a strength, and no offset is added.
+    pub fn new() -> UnitFilters
+        ensures places { (q : ℕ) → slice_index_or result.places q first_read ≡ first_read }
+        ensures deblocking { result.deblocking ≡ no_deblocking }
+        ensures offsets { (c : ℕ) → slice_index_or result.offsets c first_unit ≡ first_unit }
+    {
         UnitFilters {
             places: [NO_PLACE; 256],
             deblocking: NO_DEBLOCKING,

@@ -1,5 +1,10 @@
 //! What a coding tree unit's work leaves.
 
+ghost use Rattle.std.specs.Prelude.{◌≡◌, ◌*◌, ℕ, None, slice_index_or};
+ghost use Rattle.ctu_build.specs.Held.{held};
+ghost use Rattle.picture_motion.specs.CtuMotion.{held as motion_held};
+ghost use Rattle.picture_filters.specs.Places.{first_read};
+
 use ctu_build::UnitSamples;
 use picture_filters::UnitFilters;
 use picture_motion::UnitMotion;
@@ -19,9 +24,14 @@ pub struct BuiltUnit {
 }
 
 impl BuiltUnit {
-    /// Of no unit yet.
+    /// Of no unit yet: it has no sample and no motion, refers to no picture, and gives the loop filters nothing.
     #[inline(always)]
-    pub fn new() -> BuiltUnit {
+    pub fn new() -> BuiltUnit
+        ensures samples { (c column line : ℕ) → held result.samples c column line ≡ None }
+        ensures motion { (column row : ℕ) → motion_held result.motion column row ≡ None }
+        ensures lists { (result.slice.active_0 ≡ 0) × (result.slice.active_1 ≡ 0) }
+        ensures places { (q : ℕ) → slice_index_or result.filters.places q first_read ≡ first_read }
+    {
         BuiltUnit {
             samples: UnitSamples::new(),
             motion: UnitMotion::new(),
