@@ -4,6 +4,7 @@ ghost use Rattle.std.specs.Prelude.{◌≡◌, ◌≢◌, ℕ, ◌+◌, ◌*◌,
 ghost use Rattle.border_words.specs.Units.{IsTreeUnit};
 ghost use Rattle.sample_lines.specs.FactsOfFlights.{flight_in};
 ghost use Rattle.sample_lines.specs.FactsOfFlights.{IsOfFlight};
+ghost use Rattle.hv_base.specs.declared.line.Phase.TheVariants.{B};
 ghost use Rattle.header_types.specs.SequenceParameterSets.{height_in_ctbs};
 ghost use Rattle.line_words.specs.Places.{number_at};
 ghost use Rattle.progress_words.specs.Passes.{IsPassOf, Knows, view};
@@ -117,6 +118,7 @@ fn read_line(
     requires own { IsPassOf board.now pass.old }
     requires flight { IsOfFlight board.now.flight layout.now }
     requires place { at.now.sizes ≡ layout.now }
+    requires phase { at.now.line.phase ≡ B }
     requires seen { at.now.unit < seen_of (view pass.old) (number_at at.now) }
     requires component { c < 3 }
     requires line { line < height_at at.now c }
@@ -143,6 +145,7 @@ fn read_from_left(
     requires own { IsPassOf board.now pass.old }
     requires flight { IsOfFlight board.now.flight layout.now }
     requires place { at.now.sizes ≡ layout.now }
+    requires phase { at.now.line.phase ≡ B }
     requires seen { at.now.unit < seen_of (view pass.old) (number_at at.now) }
     requires component { c < 3 }
     requires line { line < height_at at.now c }

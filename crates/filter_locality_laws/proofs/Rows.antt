@@ -1,18 +1,18 @@
 -- The rows of a component behind each step of the loop filters.
-use Rattle.std.proofs.Common.{◌≡◌, ℕ, zero, suc, ◌+◌, ◌-◌, ◌*◌, ◌/◌, ◌<◌, ◌≤◌, refl, sym, ap, subst, ◌∙◌, arith}
+use Rattle.std.proofs.Common.{◌≡◌, ℕ, zero, suc, ◌+◌, ◌*◌, ◌/◌, ◌%◌, ◌<◌, ◌≤◌, refl, ap, ◌∙◌, arith}
 use Rattle.std.proofs.lemmas.Nat.{div_below, le-div}
 use Rattle.spec_loop_filters.specs.SpecDeblocking.{Place}
 use Rattle.spec_loop_filters.specs.SpecDeblocking.{side}
-use Rattle.spec_loop_filters.proofs.SpecDeblockingLemmas.{horizontal_rows, vertical_rows}
-use Rattle.spec_loop_filters.specs.SpecSampleAdaptiveOffset.{AgreeBeside, offset_sample, unit_at}
+use Rattle.spec_loop_filters.specs.SpecSampleAdaptiveOffset.{offset_sample}
 use Rattle.spec_loop_filters.proofs.SpecSampleAdaptiveOffsetLemmas.{beside_alone}
 use Rattle.spec_loop_filters.specs.declared.format.FilterFormat.{FilterFormat}
 use Rattle.spec_loop_filters.specs.Filters.{LoopFilters, Samples, deblocked_samples, depth_of, final_samples}
 use Rattle.spec_loop_filters.specs.Filters.{height_of}
-use Rattle.spec_loop_filters.specs.Filters.{luma_samples, offset_plane, plane_of, size_of, width_of}
+use Rattle.spec_loop_filters.specs.Filters.{offset_plane, plane_of, size_of, width_of}
 use Rattle.spec_loop_filters.specs.SpecDeblocking.{deblocked}
 use Rattle.filter_locality_laws.specs.Rows.{IsFilterFormat, IsOfRow, IsPlaceOfRow, behind_horizontal, behind_vertical}
-use Rattle.filter_locality_laws.proofs.Sizes.{IsRow, row_is}
+use Rattle.filter_locality_laws.proofs.Near.{horizontal_near, vertical_near}
+use Rattle.filter_locality_laws.proofs.Sizes.{row_is}
 
 pub three_steps : (filters : LoopFilters) (samples : Samples) (c x y : ℕ)
     → final_samples filters samples c x y
@@ -22,31 +22,39 @@ pub three_steps : (filters : LoopFilters) (samples : Samples) (c x y : ℕ)
 unfolding final_samples deblocked_samples deblocked
 three_steps filters samples c x y = refl
 
-pub vertical_row : (format : FilterFormat) (places others : ℕ → ℕ → Place) (f g : ℕ → ℕ → ℕ) (c row x y : ℕ)
-    → IsFilterFormat format
-    → ((i s : ℕ) → IsPlaceOfRow format row 0 s → places i s ≡ others i s)
-    → ((i j : ℕ) → i < width_of format c → IsOfRow format c row 0 j → f i j ≡ g i j)
-    → x < width_of format c → IsOfRow format c row 0 y
+pub vertical_row : (format : FilterFormat) (places others : ℕ → ℕ → Place) (f g : ℕ → ℕ → ℕ) (c row beside x y : ℕ)
+    → IsFilterFormat format → beside % 4 ≡ 0
+    → ((i s : ℕ) → IsPlaceOfRow format row (beside / 2) s → places i s ≡ others i s)
+    → ((i j : ℕ) → i < width_of format c → IsOfRow format c row beside j → f i j ≡ g i j)
+    → x < width_of format c → IsOfRow format c row beside y
     → behind_vertical format places c f x y ≡ behind_vertical format others c g x y
-vertical_row format places others f g c row x y whole known same inside at =
+vertical_row format places others f g c row beside x y whole four known same inside at =
     let r = row_is format c row whole in
-    vertical_rows (plane_of format c) (depth_of format c) (width_of format c) places others f g
-    (size_of format c * row) (size_of format c) x y r.width r.top r.lines inside (omega (arith, at.0))
-    (omega (arith, at.1)) (λ i s low high. known i s (r.places s low high))
-    (λ i j short low high. same i j short (omega (arith, low), omega (arith, high)))
+    let width = r.width in
+    let here = r.near beside y four at.0 at.1 in
+    vertical_near (plane_of format c) (depth_of format c) (width_of format c) places others f g x y
+    (λ _ _. known _ _ here) (λ _ _. known _ _ here)
+    (λ i j edge low high first last.
+    same i j (omega (arith, width, edge, high)) (r.strip beside y j four at.0 at.1 first last))
+    (same x y inside at)
 
 pub horizontal_row : (format : FilterFormat) (places others : ℕ → ℕ → Place) (f g : ℕ → ℕ → ℕ) (c row x y : ℕ)
     → IsFilterFormat format
     → ((i s : ℕ) → IsPlaceOfRow format row 1 s → places i s ≡ others i s)
     → ((i j : ℕ) → i < width_of format c → j < height_of format c → IsOfRow format c row 4 j → f i j ≡ g i j)
-    → x < width_of format c → y < height_of format c → IsOfRow format c row 0 y
+    → x < width_of format c → y < height_of format c → IsOfRow format c row 4 y
     → behind_horizontal format places c f x y ≡ behind_horizontal format others c g x y
 horizontal_row format places others f g c row x y whole known same inside above at =
     let r = row_is format c row whole in
-    horizontal_rows (plane_of format c) (depth_of format c) (width_of format c) (height_of format c) places others f g
-    (size_of format c * row) (size_of format c) x y r.width r.height r.top r.lines inside above (omega (arith, at.0))
-    (omega (arith, at.1)) (λ i s low high. known i s (r.beside s low high))
-    (λ i j short lower low high. same i j short lower (omega (arith, low), omega (arith, high)))
+    let height = r.height in
+    let top = r.top in
+    let lines = r.lines in
+    horizontal_near (plane_of format c) (depth_of format c) (height_of format c) places others f g x y
+    (λ some _. known _ _ (r.before y at.0 at.1 some)) (λ _ _. known _ _ (r.behind y at.0 at.1))
+    (λ i j edge low high first last.
+    same i j (r.across x i inside last) (omega (arith, height, edge, high))
+    (omega (arith, at.0, top, low), omega (arith, at.1, top, lines, high)))
+    (same x y inside above at)
 
 -- the row of units of a line beside one of a row
 row_above : (k row y j : ℕ) → 1 ≤ k → k * row ≤ y → y ≤ j + 1 → row ≤ j / k + 1

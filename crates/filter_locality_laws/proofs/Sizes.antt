@@ -1,5 +1,5 @@
 -- The rows of a component, by those of luma.
-use Rattle.std.proofs.Common.{◌≡◌, ℕ, zero, suc, ◌+◌, ◌-◌, ◌*◌, ◌/◌, ◌%◌, ◌<◌, ◌≤◌, ◌==◌, Bool, true, false, ap, ◌∙◌}
+use Rattle.std.proofs.Common.{◌≡◌, ℕ, ◌+◌, ◌-◌, ◌*◌, ◌/◌, ◌%◌, ◌<◌, ◌≤◌, ◌==◌, Bool, true, false, ap, ◌∙◌}
 use Rattle.std.proofs.Common.{if◌then◌else◌, arith}
 use Rattle.std.proofs.lemmas.Nat.{mod-mul-add}
 use Rattle.spec_loop_filters.specs.SpecDeblocking.{Plane}
@@ -25,16 +25,28 @@ doubled k h row e = let twice : 2 * h * row ≡ 2 * (h * row) = grind arith in a
 pub record IsRow (format : FilterFormat) (plane : Plane) (n row : ℕ) : Type 0 where
   pub width : format.width / n % 4 ≡ 0
   pub height : format.height / n % 4 ≡ 0
+  -- the other columns of a place
+  pub across : (x i : ℕ) → x < format.width / n → i < side plane * (x / side plane) + side plane → i < format.width / n
   pub top : format.ctb_size / n * row % 8 ≡ 0
-  pub lines : format.ctb_size / n % 4 ≡ 0
+  pub lines : format.ctb_size / n % 8 ≡ 0
   pub some : 1 ≤ format.ctb_size / n
-  -- a row of places of it, one of them or one beside them, and that of a line
-  pub places : (s : ℕ) → format.ctb_size / n * row ≤ side plane * s
-      → side plane * s < format.ctb_size / n * row + format.ctb_size / n → IsPlaceOfRow format row 0 s
-  pub beside : (s : ℕ) → format.ctb_size / n * row ≤ side plane * s + side plane
-      → side plane * s ≤ format.ctb_size / n * row + format.ctb_size / n → IsPlaceOfRow format row 1 s
+  -- the row of places of a line of it
   pub here : (y : ℕ) → format.ctb_size / n * row ≤ y → y < format.ctb_size / n * row + format.ctb_size / n
       → IsPlaceOfRow format row 0 (y / side plane)
+  -- that of a line of it or of so many lines beside it, and the other lines of that place
+  pub near : (beside y : ℕ) → beside % 4 ≡ 0 → format.ctb_size / n * row ≤ y + beside
+      → y < format.ctb_size / n * row + format.ctb_size / n + beside
+      → IsPlaceOfRow format row (beside / 2) (y / side plane)
+  pub strip : (beside y j : ℕ) → beside % 4 ≡ 0 → format.ctb_size / n * row ≤ y + beside
+      → y < format.ctb_size / n * row + format.ctb_size / n + beside
+      → side plane * (y / side plane) ≤ j → j < side plane * (y / side plane) + side plane
+      → (format.ctb_size / n * row ≤ j + beside) × (j < format.ctb_size / n * row + format.ctb_size / n + beside)
+  -- the places on both sides of the horizontal edge that a line of it, or one of four beside it, stands at, and the
+  -- lines beside that edge
+  pub before : (y : ℕ) → format.ctb_size / n * row ≤ y + 4 → y < format.ctb_size / n * row + format.ctb_size / n + 4
+      → 0 < (y + 4) / 8 → IsPlaceOfRow format row 1 ((8 * ((y + 4) / 8) - 1) / side plane)
+  pub behind : (y : ℕ) → format.ctb_size / n * row ≤ y + 4 → y < format.ctb_size / n * row + format.ctb_size / n + 4
+      → IsPlaceOfRow format row 1 (8 * ((y + 4) / 8) / side plane)
 
 luma_row : (format : FilterFormat) (row : ℕ) → IsFilterFormat format → IsRow format Luma 1 row
 luma_row format row whole =
@@ -47,12 +59,18 @@ luma_row format row whole =
     record {
       width = omega (arith, whole.width);
       height = omega (arith, whole.height);
+      across = λ x i less last. omega (arith, whole.width, less, last);
       top = top;
-      lines = omega (arith, lines);
+      lines = lines;
       some = omega (arith, one, whole.some);
-      places = λ s low high. (omega (arith, one, same, low), omega (arith, one, same, high));
-      beside = λ s low high. (omega (arith, one, same, low), omega (arith, one, same, high));
       here = λ y low high. (omega (arith, one, same, low, top), omega (arith, one, same, high));
+      near = λ beside y four low high.
+          (omega (arith, one, same, four, low, top), omega (arith, one, same, four, high, top, lines));
+      strip = λ beside y j four low high first last.
+          (omega (arith, four, low, top, first), omega (arith, four, high, top, lines, last));
+      before = λ y low high some.
+          (omega (arith, one, same, low, top), omega (arith, one, same, high, top, lines, some));
+      behind = λ y low high. (omega (arith, one, same, low, top), omega (arith, one, same, high, top, lines));
     }
 
 chroma_row : (format : FilterFormat) (offset : _) (row : ℕ) → IsFilterFormat format → IsRow format (Chroma offset) 2 row
@@ -66,12 +84,18 @@ chroma_row format offset row whole =
     record {
       width = omega (arith, whole.width);
       height = omega (arith, whole.height);
+      across = λ x i less last. omega (arith, whole.width, less, last);
       top = top;
-      lines = omega (arith, lines);
+      lines = lines;
       some = omega (arith, half, whole.some);
-      places = λ s low high. (omega (arith, half, same, low), omega (arith, half, same, high));
-      beside = λ s low high. (omega (arith, half, same, low), omega (arith, half, same, high));
       here = λ y low high. (omega (arith, half, same, low, top), omega (arith, half, same, high));
+      near = λ beside y four low high.
+          (omega (arith, half, same, four, low, top), omega (arith, half, same, four, high, top, lines));
+      strip = λ beside y j four low high first last.
+          (omega (arith, four, low, top, first), omega (arith, four, high, top, lines, last));
+      before = λ y low high some.
+          (omega (arith, half, same, low, top), omega (arith, half, same, high, top, lines, some));
+      behind = λ y low high. (omega (arith, half, same, low, top), omega (arith, half, same, high, top, lines));
     }
 
 pub row_is : (format : FilterFormat) (c row : ℕ) → IsFilterFormat format

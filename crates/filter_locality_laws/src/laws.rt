@@ -1,6 +1,6 @@
 //! What follows from the definitions.
 
-ghost use Rattle.std.specs.Prelude.{◌≡◌, ◌<◌, ◌≤◌, ◌+◌, ℕ};
+ghost use Rattle.std.specs.Prelude.{◌≡◌, ◌<◌, ◌≤◌, ◌+◌, ◌/◌, ◌%◌, ℕ};
 ghost use Rattle.spec_loop_filters.specs.SpecDeblocking.{Place};
 ghost use Rattle.spec_loop_filters.specs.SpecSampleAdaptiveOffset.{offset_sample};
 ghost use Rattle.spec_loop_filters.specs.declared.format.FilterFormat.{FilterFormat};
@@ -20,24 +20,25 @@ pub fn samples_are_filtered_in_three_steps()
         x y }
 {}
 
-/// A row of coding tree blocks behind its vertical edges depends on its own samples before them, and on its own places.
+/// A row of coding tree blocks with a multiple of four lines on each side depends behind its vertical edges on the
+/// samples of these lines before them, and on their places. Two lines of chroma stand for a row of places.
 pub fn vertical_rows_depend_on_their_lines()
-    ensures { (format : FilterFormat) (places others : ℕ → ℕ → Place) (f g : ℕ → ℕ → ℕ) (c row x y : ℕ)
-        → IsFilterFormat format
-        → ((i s : ℕ) → IsPlaceOfRow format row 0 s → places i s ≡ others i s)
-        → ((i j : ℕ) → i < width_of format c → IsOfRow format c row 0 j → f i j ≡ g i j)
-        → x < width_of format c → IsOfRow format c row 0 y
+    ensures { (format : FilterFormat) (places others : ℕ → ℕ → Place) (f g : ℕ → ℕ → ℕ) (c row beside x y : ℕ)
+        → IsFilterFormat format → beside % 4 ≡ 0
+        → ((i s : ℕ) → IsPlaceOfRow format row (beside / 2) s → places i s ≡ others i s)
+        → ((i j : ℕ) → i < width_of format c → IsOfRow format c row beside j → f i j ≡ g i j)
+        → x < width_of format c → IsOfRow format c row beside y
         → behind_vertical format places c f x y ≡ behind_vertical format others c g x y }
 {}
 
-/// Behind its horizontal edges it depends on its own samples before them and four lines on each side, and on its own
-/// places and a row of places on each side.
+/// Behind its horizontal edges it depends, with four lines on each side, on the samples of these lines before them, and
+/// on its own places and a row of places on each side: an edge changes four lines on each side of it by the same lines.
 pub fn horizontal_rows_depend_on_four_lines_beside_them()
     ensures { (format : FilterFormat) (places others : ℕ → ℕ → Place) (f g : ℕ → ℕ → ℕ) (c row x y : ℕ)
         → IsFilterFormat format
         → ((i s : ℕ) → IsPlaceOfRow format row 1 s → places i s ≡ others i s)
         → ((i j : ℕ) → i < width_of format c → j < height_of format c → IsOfRow format c row 4 j → f i j ≡ g i j)
-        → x < width_of format c → y < height_of format c → IsOfRow format c row 0 y
+        → x < width_of format c → y < height_of format c → IsOfRow format c row 4 y
         → behind_horizontal format places c f x y ≡ behind_horizontal format others c g x y }
 {}
 

@@ -55,8 +55,3 @@ pub still_seen : (facts : FlightFacts) (s : FlightSizes) (v w : View FlightFacts
     → AreRowsSeen facts s v l beside → AreRowsSeen facts s w l beside
 still_seen facts s v w l beside same seen =
     subst (λ (u : View FlightFacts). AreRowsSeen facts s u l beside) (sym same) seen
-
--- fewer rows are seen too
-pub fewer_seen : (facts : FlightFacts) (s : FlightSizes) (v : View FlightFacts) (l : Line)
-    → AreRowsSeen facts s v l 1 → AreRowsSeen facts s v l 0
-fewer_seen facts s v l seen r there low high = seen r there (omega (arith, low)) (omega (arith, high))

@@ -1,7 +1,7 @@
 -- Rows of units that are laid one after the other, and what the filters of a row then know.
 use Rattle.std.proofs.Common.{◌≡◌, ℕ, zero, suc, ◌+◌, ◌-◌, ◌*◌, ◌/◌, ◌<◌, ◌≤◌}
 use Rattle.std.proofs.Common.{◌||◌, min, Bool, true, false}
-use Rattle.std.proofs.Common.{inl, inr, sym, ap, subst, ◌∙◌, arith, lt-ltb, if◌then◌else◌}
+use Rattle.std.proofs.Common.{inl, inr, refl, sym, ap, subst, ◌∙◌, arith, lt-ltb, if◌then◌else◌}
 use Rattle.std.proofs.lemmas.Bool.{and_from, cases_lt}
 use Rattle.std.proofs.lemmas.Nat.{le-div}
 use Rattle.hv_base.specs.declared.line.Line.{Line}
@@ -11,7 +11,7 @@ use Rattle.spec_sample_adaptive_offset.specs.declared.unit.OffsetUnit.{OffsetUni
 use Rattle.spec_picture_filters.specs.Filtered.{filter_format}
 use Rattle.filter_locality_laws.specs.Rows.{IsPlaceOfRow}
 use Rattle.row_filters.specs.Around.{Around, place_in, unit_in}
-use Rattle.row_filters.specs.Known.{AreKept, ArePlaces, AreUnits}
+use Rattle.row_filters.specs.Known.{ArePlaces, AreUnits}
 use Rattle.sample_words.specs.declared.sizes.FlightSizes.{FlightSizes}
 use Rattle.sample_words.specs.Sizes.{IsFlight, columns, ctb_size, height_of, rows, width_of}
 use Rattle.sample_words.proofs.Extents.{whole_rows}
@@ -51,6 +51,12 @@ begun old new p row r same format above low high = record {
   first = omega (arith, above, low);
   last = omega (arith, above, high);
 }
+
+-- and of which the places stay
+pub same_places : (old new : Around) → new.format ≡ old.format → new.above ≡ old.above → new.places ≡ old.places
+    → (x y : ℕ) → place_in new x y ≡ place_in old x y
+unfolding place_in
+same_places old new format above places x y = rw (format, above, places) refl
 
 -- the row above is whole
 pub whole_above : (s : FlightSizes) (row : ℕ) → 0 < row → row < rows s → height_of s (row - 1) / 4 ≡ unit_side s
@@ -162,16 +168,17 @@ laid : {X : Type 0} (b : Bool) (known old new : X) → new ≡ (if b then known 
 laid true known old new e here = sym e
 laid false known old new e here = absurd cc
 
-before_row : (n row t : ℕ) → 1 ≤ n → n * row ≤ t + 1 → t < n * row
-    → (0 < row) × (n * (row - 1) + (n - 1) ≡ t)
-before_row n zero t some low less = let e : n * 0 ≡ 0 = grind arith in absurd (omega (arith, e, less))
-before_row n (suc r) t some low less =
+-- a row of places before those of a row of units is one of the lowest of the row above
+before_row : (n row t beside : ℕ) → beside ≤ n → n * row ≤ t + beside → t < n * row
+    → (0 < row) × ((n * (row - 1) + (n - beside) ≤ t) × (t < n * (row - 1) + n))
+before_row n zero t beside few low less = let e : n * 0 ≡ 0 = grind arith in absurd (omega (arith, e, less))
+before_row n (suc r) t beside few low less =
     let e : n * suc r ≡ n * r + n = grind arith in
-    let f : suc r - 1 ≡ r = omega arith in
-    (omega arith, ap (λ m. n * m + (n - 1)) f ∙ omega (arith, e, low, less, some))
+    let f : n * (suc r - 1) ≡ n * r = let g : suc r - 1 ≡ r = omega arith in ap (λ m. n * m) g in
+    (omega arith, (omega (arith, e, f, few, low), omega (arith, e, f, less)))
 
 module _ (s : FlightSizes) (is : IsFlight s) (p : PicturePlan) (pictures : ℕ)
-    (sizes : s ≡ flight_sizes p.sps pictures) (row beside : ℕ) (few : beside ≤ 1)
+    (sizes : s ≡ flight_sizes p.sps pictures) (row beside : ℕ) (few : beside ≤ 2)
     (known : ℕ → ℕ → Place) (begun own above below : Around)
     (first : LaysPlaces (is_in_row s row 0 (height_of s row / 4)) known begun own)
     (second : LaysPlaces (is_just_above s row beside) known own above)
@@ -214,11 +221,11 @@ module _ (s : FlightSizes) (is : IsFlight s) (p : PicturePlan) (pictures : ℕ)
   above_known x y is_near less =
       let some = some_places s is in
       let asked : 0 < beside = omega (arith, is_near.low, less) in
-      let at = before_row side row y some (omega (arith, is_near.low, few)) less in
+      let at = before_row side row y beside (omega (arith, some, few)) is_near.low less in
       laid (is_just_above s row beside x y) (known x y) (place_in own x y) (place_in above x y) (second.places x y)
       (and_from _ _ (and_from _ _ (lt-ltb _ _ asked) (lt-ltb _ _ at.0))
-      (inside 0 (s.width / 4) (side * (row - 1) + (side - 1)) (side * (row - 1) + side) x y (omega arith)
-      is_near.column (omega (arith, at.1)) (omega (arith, at.1, some))))
+      (inside 0 (s.width / 4) (side * (row - 1) + (side - beside)) (side * (row - 1) + side) x y (omega arith)
+      is_near.column at.1.0 at.1.1))
 
   row_there : (y : ℕ) → y < s.height / 4 → side * row + side ≤ y → row + 1 < rows s
   unfolding rows
@@ -239,7 +246,7 @@ module _ (s : FlightSizes) (is : IsFlight s) (p : PicturePlan) (pictures : ℕ)
       let next : side * (row + 1) ≡ side * row + side = grind arith in
       laid (is_just_below s row beside x y) (known x y) (place_in above x y) (place_in below x y) (third.places x y)
       (and_from _ _ (and_from _ _ (lt-ltb _ _ asked) (lt-ltb _ _ (row_there y is_near.line (omega (arith, past)))))
-      (inside 0 (s.width / 4) (side * (row + 1) + 0) (side * (row + 1) + 1) x y (omega arith) is_near.column
+      (inside 0 (s.width / 4) (side * (row + 1) + 0) (side * (row + 1) + beside) x y (omega arith) is_near.column
       (omega (arith, next, past)) (omega (arith, next, is_near.high, few))))
 
   then_above : (x y : ℕ) → known x y ≡ place_in own x y → known x y ≡ place_in above x y
@@ -264,13 +271,6 @@ module _ (s : FlightSizes) (is : IsFlight s) (p : PicturePlan) (pictures : ℕ)
 
   pub row_places : ArePlaces (filter_format p) row beside known (place_in below)
   row_places x y less lower of = all_known x y (near x y less lower of)
-
--- places that are known tell whether their samples stay, also behind units that are laid
-pub row_kept : (here : ℕ → ℕ → Bool) (units : ℕ → ℕ → ℕ → OffsetUnit) (p : PicturePlan) (row : ℕ)
-    (known : ℕ → ℕ → Place) (old new : Around) → LaysUnits here units old new
-    → ArePlaces (filter_format p) row 0 known (place_in old) → AreKept (filter_format p) row known (place_in new)
-row_kept here units p row known old new lays are x y less lower of =
-    ap (λ (place : Place). place.kept) (are x y less lower of ∙ sym (lays.places x y))
 
 pub three_rows : (s : FlightSizes) (p : PicturePlan) (pictures : ℕ) → IsFlight s → s ≡ flight_sizes p.sps pictures
     → (row : ℕ) (known : ℕ → ℕ → ℕ → OffsetUnit) (old new : Around) → old.above ≡ row - 1

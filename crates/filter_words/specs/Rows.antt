@@ -30,12 +30,12 @@ abbrev pub is_in_row : FlightSizes → ℕ → ℕ → ℕ → ℕ → ℕ → B
 is_in_row s row first end =
     is_inside 0 (s.width / 4) (unit_side s * row + first) (unit_side s * row + end)
 
--- whether a place is in the lowest row of places of the row above, if one row beside is asked for
+-- whether a place is in the lowest rows of places of the row above, as many as are asked for beside the row
 abbrev pub is_just_above : FlightSizes → ℕ → ℕ → ℕ → ℕ → Bool
 is_just_above s row beside x y =
-    (nat_lt 0 beside && nat_lt 0 row) && is_in_row s (row - 1) (unit_side s - 1) (unit_side s) x y
+    (nat_lt 0 beside && nat_lt 0 row) && is_in_row s (row - 1) (unit_side s - beside) (unit_side s) x y
 
--- and in the first one of the row below
+-- and in the first ones of the row below
 abbrev pub is_just_below : FlightSizes → ℕ → ℕ → ℕ → ℕ → Bool
 is_just_below s row beside x y =
-    (nat_lt 0 beside && nat_lt (row + 1) (rows s)) && is_in_row s (row + 1) 0 1 x y
+    (nat_lt 0 beside && nat_lt (row + 1) (rows s)) && is_in_row s (row + 1) 0 beside x y

@@ -4,16 +4,15 @@ ghost use Rattle.std.specs.Prelude.{◌≡◌, ◌<◌, ◌+◌, ◌-◌, ℕ, S
 ghost use Rattle.sample_words.specs.Sizes.{columns, rows};
 ghost use Rattle.spec_picture_filters.specs.Filtered.{filter_format};
 ghost use Rattle.row_filters.specs.Around.{place_in, unit_in};
-ghost use Rattle.row_filters.specs.Known.{AreKept, AreUnits};
+ghost use Rattle.row_filters.specs.Known.{AreUnits};
 ghost use Rattle.progress_words.specs.Passes.{IsPassOf, Knows, view};
 ghost use Rattle.flight_facts.specs.Facts.{flight_in};
 ghost use Rattle.flight_facts.specs.Flights.{IsOfFlight};
 ghost use Rattle.filter_words.specs.Regions.{LaysUnits, is_inside};
 ghost use Rattle.filter_words.specs.Rows.{AreRowsSeen};
-ghost use Rattle.filter_words.specs.Units.{filters_at, places_at};
+ghost use Rattle.filter_words.specs.Units.{filters_at};
 
 use crate::line_offsets::lay_line_offsets;
-use crate::row_places::lay_row_places;
 use flight_facts::FlightFacts;
 use hv_base::Line;
 use plan_types::PicturePlan;
@@ -21,9 +20,9 @@ use progress_words::{Board, Pass};
 use row_filters::RowPlaces;
 use sample_words::Layout;
 
-/// Takes the rows around the one that a line is of, and lays what its sample adaptive offset asks for: its places, and
-/// the components of its units, of those above and of those below, where there are such. The pass has seen all units of
-/// these rows counted.
+/// Takes the rows around the one that a line is of, and lays the components of its units, of those above and of those
+/// below, where there are such, as its sample adaptive offset asks for them. The pass has seen all units of these rows
+/// counted. What is known of the places of these rows stays.
 pub fn lay_row_units(
     board: &Board<'_, FlightFacts>,
     pass: &mut Pass<FlightFacts>,
@@ -40,12 +39,14 @@ pub fn lay_row_units(
     requires format { around.old.format ≡ filter_format plan.now }
     ensures format { around.new.format ≡ around.old.format }
     ensures above { around.new.above ≡ line.row - 1 }
-    ensures kept { AreKept (filter_format plan.now) line.row (places_at board.now.flight line) (place_in around.new) }
+    ensures places { around.old.above ≡ line.row - 1
+        → (x y : ℕ) → place_in around.new x y ≡ place_in around.old x y }
     ensures units { (c : ℕ) → c < 3 → AreUnits (filter_format plan.now) c line.row
         (filters_at board.now.flight line).units (unit_in around.new) }
     ensures same { Knows pass.old pass.new (view pass.old) }
 {
-    lay_row_places(board, pass, layout, plan, line, 0, around);
+    let _few = layout.rows();
+    around.begin(line.row as usize);
     lay_three_rows(board, pass, layout, plan, line, around);
 }
 

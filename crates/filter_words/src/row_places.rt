@@ -1,6 +1,6 @@
 //! The places that the filters of a row of coding tree blocks ask for.
 
-ghost use Rattle.std.specs.Prelude.{◌≡◌, ◌<◌, ◌≤◌, ◌-◌, Some, slice_get};
+ghost use Rattle.std.specs.Prelude.{◌≡◌, ◌<◌, ◌≤◌, ◌-◌, Some, min, slice_get};
 ghost use Rattle.sample_words.specs.Sizes.{rows};
 ghost use Rattle.spec_picture_filters.specs.Filtered.{filter_format};
 ghost use Rattle.row_filters.specs.Around.{place_in};
@@ -20,9 +20,9 @@ use progress_words::{Board, Pass};
 use row_filters::RowPlaces;
 use sample_words::Layout;
 
-/// Takes the rows around the one that a line is of, and lays the places that its filters ask for: its own, and with
-/// `beside` 1 the lowest row of places of the row above and the first one of the row below, where there are such. The
-/// pass has seen all units of these rows counted.
+/// Takes the rows around the one that a line is of, and lays the places that its filters ask for: its own, and so many
+/// rows of places on each side, the lowest ones of the row above and the first ones of the row below, where there are
+/// such. The pass has seen all units of these rows counted.
 pub fn lay_row_places(
     board: &Board<'_, FlightFacts>,
     pass: &mut Pass<FlightFacts>,
@@ -36,8 +36,8 @@ pub fn lay_row_places(
     requires flight { IsOfFlight board.now.flight layout.now }
     requires picture { slice_get (flight_in board.now.flight).pictures line.picture ≡ Some plan.now }
     requires row { line.row < rows layout.now }
-    requires beside { beside ≤ 1 }
-    requires seen { AreRowsSeen board.now.flight layout.now (view pass.old) line beside }
+    requires beside { beside ≤ 2 }
+    requires seen { AreRowsSeen board.now.flight layout.now (view pass.old) line (min beside 1) }
     requires format { around.old.format ≡ filter_format plan.now }
     ensures format { around.new.format ≡ around.old.format }
     ensures above { around.new.above ≡ line.row - 1 }

@@ -1,6 +1,6 @@
 //! The rows of places beside a row of coding tree blocks.
 
-ghost use Rattle.std.specs.Prelude.{◌≡◌, ◌<◌, ◌≤◌, ◌+◌, ◌-◌, ◌&&◌, nat_lt, Some, slice_get};
+ghost use Rattle.std.specs.Prelude.{◌≡◌, ◌<◌, ◌≤◌, ◌+◌, ◌-◌, ◌&&◌, min, nat_lt, Some, slice_get};
 ghost use Rattle.sample_words.specs.Sizes.{rows};
 ghost use Rattle.progress_words.specs.Passes.{IsPassOf, Knows, view};
 ghost use Rattle.flight_facts.specs.Facts.{flight_in};
@@ -17,7 +17,7 @@ use progress_words::{Board, Pass};
 use row_filters::RowPlaces;
 use sample_words::Layout;
 
-/// Lays the lowest row of places of the row above, if `beside` is 1 and there is such a row.
+/// Lays the lowest `beside` rows of places of the row above, if there is such a row.
 pub(crate) fn lay_above(
     board: &Board<'_, FlightFacts>,
     pass: &mut Pass<FlightFacts>,
@@ -31,8 +31,8 @@ pub(crate) fn lay_above(
     requires flight { IsOfFlight board.now.flight layout.now }
     requires picture { slice_get (flight_in board.now.flight).pictures line.picture ≡ Some plan.now }
     requires row { line.row < rows layout.now }
-    requires beside { beside ≤ 1 }
-    requires seen { AreRowsSeen board.now.flight layout.now (view pass.old) line beside }
+    requires beside { beside ≤ 2 }
+    requires seen { AreRowsSeen board.now.flight layout.now (view pass.old) line (min beside 1) }
     requires room { HasRoom around.old plan.now (line.row - 1) }
     ensures places { LaysPlaces (is_just_above layout.now line.row beside) (places_at board.now.flight line)
         around.old around.new }
@@ -45,7 +45,8 @@ pub(crate) fn lay_above(
             picture: line.picture,
             row: line.row - 1,
         };
-        lay_line_places(board, pass, layout, plan, above, side - 1, side, around);
+        let first = side - beside as u32;
+        lay_line_places(board, pass, layout, plan, above, first, side, around);
     }
 }
 
@@ -56,7 +57,7 @@ fn has_above(line: Line, beside: usize) -> bool
     0 < beside && 0 < line.row
 }
 
-/// Lays the first row of places of the row below, if `beside` is 1 and there is such a row.
+/// Lays the first `beside` rows of places of the row below, if there is such a row.
 pub(crate) fn lay_below(
     board: &Board<'_, FlightFacts>,
     pass: &mut Pass<FlightFacts>,
@@ -70,8 +71,8 @@ pub(crate) fn lay_below(
     requires flight { IsOfFlight board.now.flight layout.now }
     requires picture { slice_get (flight_in board.now.flight).pictures line.picture ≡ Some plan.now }
     requires row { line.row < rows layout.now }
-    requires beside { beside ≤ 1 }
-    requires seen { AreRowsSeen board.now.flight layout.now (view pass.old) line beside }
+    requires beside { beside ≤ 2 }
+    requires seen { AreRowsSeen board.now.flight layout.now (view pass.old) line (min beside 1) }
     requires room { HasRoom around.old plan.now (line.row + 1) }
     ensures places { LaysPlaces (is_just_below layout.now line.row beside) (places_at board.now.flight line)
         around.old around.new }
@@ -83,7 +84,7 @@ pub(crate) fn lay_below(
             picture: line.picture,
             row: line.row + 1,
         };
-        lay_line_places(board, pass, layout, plan, below, 0, 1, around);
+        lay_line_places(board, pass, layout, plan, below, 0, beside as u32, around);
     }
 }
 

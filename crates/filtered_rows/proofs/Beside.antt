@@ -1,45 +1,41 @@
--- Lines of a component of a row, and of the rows beside it, as units of the flight have them.
-use Rattle.std.proofs.Common.{◌≡◌, ◌≢◌, ℕ, ◌+◌, ◌-◌, ◌*◌, ◌<◌, ◌≤◌, min, inl, inr, arith, ap, sym, ◌∙◌}
+-- Lines of a component of a row, and of the rows beside it, as they are built.
+use Rattle.std.proofs.Common.{◌≡◌, ℕ, ◌+◌, ◌-◌, ◌*◌, ◌<◌, ◌≤◌, min, inl, inr, arith, ap, ◌∙◌}
 use Rattle.std.proofs.Common.{List, get_or}
 use Rattle.std.proofs.lemmas.Bool.{cases_eq}
 use Rattle.hv_base.specs.declared.line.Line.{Line}
-use Rattle.hv_base.specs.declared.line.Phase.TheVariants.{B}
 use Rattle.deblock.specs.Windows.{at}
 use Rattle.loop_filters.specs.declared.component.Component.{Component}
 use Rattle.row_filters.specs.Lines.{end_line}
 use Rattle.sample_words.specs.declared.sizes.FlightSizes.{FlightSizes}
-use Rattle.sample_words.specs.Sizes.{IsFlight, rows}
-use Rattle.flight_waits.specs.SpecFlights.{PlannedFlight}
-use Rattle.sample_lines.specs.FactsOfFlights.{samples_at}
-use Rattle.sample_lines.specs.Lines.{height_at, sample_of, width_at}
+use Rattle.sample_words.specs.Contents.{component_side}
+use Rattle.sample_words.specs.Sizes.{IsFlight, ctb_size, height_of, rows}
 use Rattle.filtered_rows.specs.Components.{HasSidesOf, IsPartOfRow}
-use Rattle.filtered_rows.proofs.Sides.{begins, begins_row, row_unit, size_range, unit_height_is, unit_sample}
-use Rattle.filtered_rows.proofs.Sides.{unit_width_is}
+use Rattle.filtered_rows.proofs.Sides.{begins, begins_row, lines_are, size_range, top_is}
 
 module _ (s : FlightSizes) (k : Component) (is : IsFlight s) (of : HasSidesOf s k) where
-  module _ (l : Line) (other : l.phase ≢ B) where
-    -- lines from a to before b of the component are among the unit's
-    pub lines_inside : (a b top : ℕ) → top ≡ k.size * l.row → top ≤ a → a < b → b ≤ end_line k l.row 0
-        → a - top + (b - a) ≤ height_at (row_unit s l) k.c
+  module _ (row : ℕ) where
+    -- lines from a to before b of the component are among the row's
+    pub lines_inside : (a b top : ℕ) → top ≡ k.size * row → top ≤ a → a < b → b ≤ end_line k row 0
+        → a - top + (b - a) ≤ component_side k.c (height_of s row)
     lines_inside a b top t low some high =
-        let h = unit_height_is s k is of l other in omega (arith, t, low, some, high, h)
+        let h = lines_are s k is of row in omega (arith, t, low, some, high, h)
 
     -- and are as many samples as are read
-    pub lines_room : (n count : ℕ) → n ≡ k.width * count → n ≡ width_at (row_unit s l) k.c * count
-    lines_room n count e = e ∙ ap (λ (w : ℕ). w * count) (sym (unit_width_is s k is of l other))
+    pub lines_room : (n count : ℕ) → n ≡ k.width * count → n ≡ component_side k.c s.width * count
+    lines_room n count e = e ∙ ap (λ (w : ℕ). w * count) of.width
 
     -- so they are those of the picture
-    pub lines_told : (f : PlannedFlight) (out : List ℕ) (a n top : ℕ) → top ≡ k.size * l.row → top ≤ a
-        → ((x y : ℕ) → x < width_at (row_unit s l) k.c → y < n
-        → get_or out (width_at (row_unit s l) k.c * y + x) 0 ≡ sample_of f (row_unit s l) k.c x (a - top + y))
-        → (x y : ℕ) → x < k.width → y < n
-        → at k.width out x y ≡ samples_at f l.picture l.phase k.c x (a + y)
-    lines_told f out a n top t low told x y column line =
-        let w = unit_width_is s k is of l other in
-        let inside : x < width_at (row_unit s l) k.c = omega (arith, w, column) in
-        ap (λ (j : ℕ). get_or out (j * y + x) 0) (sym w)
-        ∙ (told x y inside line
-        ∙ unit_sample s k is of l other f x (a - top + y) (a + y) (omega (arith, t, low)))
+    pub lines_told : (g : ℕ → ℕ → ℕ) (out : List ℕ) (a n top : ℕ) → top ≡ k.size * row → top ≤ a
+        → ((x y : ℕ) → x < component_side k.c s.width → y < n
+        → get_or out (component_side k.c s.width * y + x) 0
+        ≡ g x (component_side k.c (row * ctb_size s) + (a - top) + y))
+        → (x y : ℕ) → x < k.width → y < n → at k.width out x y ≡ g x (a + y)
+    lines_told g out a n top t low told x y column line =
+        let w = of.width in
+        let e = top_is s k is of row in
+        let place : component_side k.c (row * ctb_size s) + (a - top) + y ≡ a + y = omega (arith, e, t, low) in
+        ap (λ (j : ℕ). get_or out (j * y + x) 0) w
+        ∙ (told x y (omega (arith, w, column)) line ∙ ap (g x) place)
 
   -- the parts of the lines around a row
   module _ (l : Line) (inside : l.row < rows s) (top beside : ℕ) (is_top : top ≡ k.size * l.row) (few : beside ≤ 4)

@@ -8,15 +8,14 @@ use Rattle.hv_base.specs.declared.line.Phase.TheVariants.{B}
 use Rattle.deblock.specs.Windows.{at}
 use Rattle.loop_filters.specs.declared.component.Component.{Component}
 use Rattle.loop_filters.proofs.Gathered.{part_length, part_sample}
-use Rattle.row_filters.specs.Lines.{HoldLines, HoldRow, count_of, end_line, first_line}
+use Rattle.row_filters.specs.Lines.{HoldRow, count_of, end_line, first_line}
 use Rattle.sample_words.specs.declared.sizes.FlightSizes.{FlightSizes}
-use Rattle.sample_words.specs.Contents.{component_side}
-use Rattle.sample_words.specs.Sizes.{IsFlight, ctb_size, height_of}
+use Rattle.sample_words.specs.Sizes.{IsFlight}
 use Rattle.flight_waits.specs.SpecFlights.{PlannedFlight}
 use Rattle.sample_lines.specs.FactsOfFlights.{samples_at}
 use Rattle.sample_lines.specs.Lines.{height_at, sample_of, width_at}
 use Rattle.filtered_rows.specs.Components.{HasSidesOf}
-use Rattle.filtered_rows.proofs.Sides.{lines_are, row_unit, top_is, unit_height_is, unit_sample, unit_width_is}
+use Rattle.filtered_rows.proofs.Sides.{row_unit, unit_height_is, unit_sample, unit_width_is}
 
 -- so many own lines, behind so many above them
 module _ (k : Component) (row beside above own : ℕ) (samples : List ℕ) (first : above ≡ min (k.size * row) beside)
@@ -75,27 +74,3 @@ module _ (s : FlightSizes) (k : Component) (is : IsFlight s) (of : HasSidesOf s 
         ap (λ (j : ℕ). get_or out (j * y + x) 0) w
         ∙ (told x y (omega (arith, w, column)) (omega (arith, h, count, line))
         ∙ sym (unit_sample s k is of l other f x y (k.size * l.row + y) refl))
-
-  -- the lines of a row as it is built
-  module _ (row count : ℕ) (lines : count ≡ min k.size (k.height - k.size * row)) (begins : k.size * row < k.height)
-    where
-      pub built_inside : 0 + count ≤ component_side k.c (height_of s row)
-      built_inside = let e = lines_are s k is of row in omega (arith, e, lines)
-
-      pub built_room : (n : ℕ) → n ≡ count_of k row 0 → n ≡ component_side k.c s.width * count
-      built_room n e =
-          let all : end_line k row 0 - first_line k row 0 ≡ count = omega (arith, lines, begins) in
-          e ∙ (ap (λ (j : ℕ). k.width * j) all ∙ ap (λ (w : ℕ). w * count) of.width)
-
-      pub built_held : (g : ℕ → ℕ → ℕ) (out : List ℕ)
-          → ((x y : ℕ) → x < component_side k.c s.width → y < count
-          → get_or out (component_side k.c s.width * y + x) 0
-          ≡ g x (component_side k.c (row * ctb_size s) + 0 + y))
-          → HoldLines k row 0 g out
-      built_held g out told x y column low high =
-          let w = of.width in
-          let top = top_is s k is of row in
-          let j : ℕ = y - first_line k row 0 in
-          let line : component_side k.c (row * ctb_size s) + 0 + j ≡ y = omega (arith, top, low) in
-          ap (λ (n : ℕ). get_or out (n * j + x) 0) w
-          ∙ (told x j (omega (arith, w, column)) (omega (arith, lines, begins, low, high)) ∙ ap (g x) line)

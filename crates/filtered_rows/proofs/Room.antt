@@ -2,8 +2,8 @@
 use Rattle.std.proofs.Common.{◌≡◌, ℕ, ◌+◌, ◌-◌, ◌*◌, ◌/◌, ◌≤◌, ◌==◌, Bool, true, false, cond}
 use Rattle.std.proofs.Common.{arith}
 use Rattle.std.proofs.Math.Nat.{mul-le-mul_left, mul-le-mul_right}
-use Rattle.hv_base.specs.declared.line.Phase.{Phase}
-use Rattle.hv_base.specs.declared.line.Phase.TheVariants.{B, V, H, S}
+use Rattle.hv_base.specs.declared.line.Line.{Line}
+use Rattle.hv_base.specs.declared.line.Phase.TheVariants.{B}
 use Rattle.spec_loop_filters.specs.declared.format.FilterFormat.{FilterFormat}
 use Rattle.loop_filters.specs.declared.component.Component.{Component}
 use Rattle.loop_filters.specs.Formats.{IsComponent}
@@ -13,7 +13,7 @@ use Rattle.sample_words.specs.declared.sizes.FlightSizes.{FlightSizes}
 use Rattle.sample_words.specs.Words.{line_number}
 use Rattle.progress_words.specs.declared.view.View.{View}
 use Rattle.progress_words.specs.Views.{seen_of}
-use Rattle.filtered_rows.specs.Phases.{AreSamplesSeen}
+use Rattle.filtered_rows.specs.Components.{AreRowsBuilt}
 
 narrow : (luma : Bool) (n : ℕ) → n / cond luma 1 2 ≤ n
 narrow true n = omega arith
@@ -44,16 +44,9 @@ copy_room format k of row room all =
     omega (arith, lines, more, all)
 
 -- what was seen of rows is seen behind writing
-pub samples_still : {F : Type 0} (phase : Phase) (s : FlightSizes) (v w : View F) (k row : ℕ)
-    → ((l : ℕ) → seen_of w l ≡ seen_of v l) → AreSamplesSeen phase s v k row → AreSamplesSeen phase s w k row
-samples_still B s v w k row same seen = seen
-samples_still V s v w k row same seen =
-    let e = same (line_number s (line_of B k row)) in omega (arith, e, seen)
-samples_still H s v w k row same seen = λ r there low high.
-    let e = same (line_number s (line_of V k r)) in
-    let here = seen r there low high in
-    omega (arith, e, here)
-samples_still S s v w k row same seen = λ r there low high.
-    let e = same (line_number s (line_of H k r)) in
+pub rows_still : {F : Type 0} (s : FlightSizes) (v w : View F) (l : Line)
+    → ((n : ℕ) → seen_of w n ≡ seen_of v n) → AreRowsBuilt s v l → AreRowsBuilt s w l
+rows_still s v w l same seen = λ r there low high.
+    let e = same (line_number s (line_of B l.picture r)) in
     let here = seen r there low high in
     omega (arith, e, here)

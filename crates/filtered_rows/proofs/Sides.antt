@@ -32,19 +32,7 @@ in_range facts s is = subst IsFlight (sym is.sizes) (flight_sized (flight_in fac
 abbrev pub row_unit : FlightSizes → Line → UnitAt
 row_unit s l = record { sizes = s; line = l; unit = 0 }
 
--- whether a phase is one of a loop filter
-pub vertical_other : (phase : Phase) → phase ≡ V → phase ≢ B
-vertical_other V e = λ same. absurd cc
-vertical_other B e = absurd cc
-vertical_other H e = absurd cc
-vertical_other S e = absurd cc
-
-pub horizontal_other : (phase : Phase) → phase ≡ H → phase ≢ B
-horizontal_other H e = λ same. absurd cc
-horizontal_other B e = absurd cc
-horizontal_other V e = absurd cc
-horizontal_other S e = absurd cc
-
+-- the last phase is not the one that is built
 pub offset_other : (phase : Phase) → phase ≡ S → phase ≢ B
 offset_other S e = λ same. absurd cc
 offset_other B e = absurd cc
@@ -56,9 +44,6 @@ one_of s B other = absurd (other refl)
 one_of s V other = refl
 one_of s H other = refl
 one_of s S other = refl
-
-pub one_unit : (s : FlightSizes) (l : Line) → l.phase ≢ B → 0 < line_units s l.phase
-one_unit s l other = let e = one_of s l.phase other in omega (arith, e)
 
 -- a unit of such a phase is its whole line
 pub at_is : (s : FlightSizes) (u : UnitAt) → u.sizes ≡ s → IsUnit u → u.line.phase ≢ B → u ≡ row_unit s u.line

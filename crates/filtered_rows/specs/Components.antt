@@ -1,6 +1,7 @@
 -- Components of the pictures of a flight, and rows of coding tree blocks that a pass has seen counted.
 use Rattle.std.specs.Prelude.{◌≡◌, ◌<◌, ◌≤◌, ℕ, ◌+◌, ◌*◌, Some, slice_get}
 use Rattle.hv_base.specs.declared.line.Line.{Line}
+use Rattle.hv_base.specs.declared.line.Phase.TheVariants.{B}
 use Rattle.plan_types.specs.declared.picture_plan.PicturePlan.{PicturePlan}
 use Rattle.spec_loop_filters.specs.declared.format.FilterFormat.{FilterFormat}
 use Rattle.spec_picture_filters.specs.Filtered.{filter_format}
@@ -9,7 +10,7 @@ use Rattle.row_filters.specs.Lines.{end_line}
 use Rattle.board_core.specs.Places.{line_of}
 use Rattle.sample_words.specs.declared.sizes.FlightSizes.{FlightSizes}
 use Rattle.sample_words.specs.Contents.{component_side}
-use Rattle.sample_words.specs.Sizes.{ctb_size, rows}
+use Rattle.sample_words.specs.Sizes.{columns, ctb_size, rows}
 use Rattle.sample_words.specs.Words.{line_number}
 use Rattle.progress_words.specs.declared.view.View.{View}
 use Rattle.progress_words.specs.Views.{seen_of}
@@ -36,8 +37,8 @@ pub record IsPartOfRow (s : FlightSizes) (k : Component) (l : Line) (row first e
   pub top : k.size * row ≤ first
   pub bottom : end ≤ end_line k row 0
 
--- the row of a phase that a line is, and those above and below it, as far as the picture has them, are seen counted
-abbrev pub AreRowsCounted : {F : Type 0} → FlightSizes → View F → Line → Type 0
-AreRowsCounted s v l =
+-- the row of a line as it is built, and those above and below it, as far as the picture has them, are seen counted
+abbrev pub AreRowsBuilt : {F : Type 0} → FlightSizes → View F → Line → Type 0
+AreRowsBuilt s v l =
     (r : ℕ) → r < rows s → l.row ≤ r + 1 → r ≤ l.row + 1
-    → 1 ≤ seen_of v (line_number s (line_of l.phase l.picture r))
+    → columns s ≤ seen_of v (line_number s (line_of B l.picture r))

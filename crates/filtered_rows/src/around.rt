@@ -1,25 +1,24 @@
-//! Lines of a component, with those beside them, out of the words of rows of coding tree blocks.
+//! Lines of a component as they are built, with those beside them, out of the words of rows of coding tree units.
 
-ghost use Rattle.std.specs.Prelude.{◌≡◌, ◌≢◌, ◌<◌, ◌≤◌, ◌-◌, ◌*◌, ◌&&◌, ℕ, if◌then◌else◌, length};
+ghost use Rattle.std.specs.Prelude.{◌≡◌, ◌<◌, ◌≤◌, ◌-◌, ◌*◌, ◌&&◌, ℕ, if◌then◌else◌, length};
 ghost use Rattle.std.specs.Prelude.{nat_le, nat_lt};
 ghost use Rattle.hv_base.specs.declared.line.Phase.TheVariants.{B};
 ghost use Rattle.deblock.specs.Windows.{at};
 ghost use Rattle.row_filters.specs.Lines.{HoldLines, count_of, end_line};
 ghost use Rattle.board_core.specs.Places.{line_of};
-ghost use Rattle.sample_words.specs.Sizes.{rows};
+ghost use Rattle.sample_words.specs.Sizes.{columns, rows};
 ghost use Rattle.sample_words.specs.Words.{IsLine, line_number};
 ghost use Rattle.progress_words.specs.Passes.{IsPassOf, Knows, view};
 ghost use Rattle.progress_words.specs.Views.{seen_of};
 ghost use Rattle.sample_lines.specs.FactsOfFlights.{flight_in};
 ghost use Rattle.sample_lines.specs.FactsOfFlights.{IsOfFlight, samples_at};
-ghost use Rattle.filtered_rows.specs.Components.{AreRowsCounted, HasSidesOf, IsPartOfRow};
+ghost use Rattle.filtered_rows.specs.Components.{AreRowsBuilt, HasSidesOf, IsPartOfRow};
 
 use crate::row_lines::row_top;
 use hv_base::{Line, Phase};
-use line_words::UnitPlace;
 use loop_filters::Component;
 use progress_words::{Board, Pass};
-use sample_lines::{FlightFacts, read_lines};
+use sample_lines::{FlightFacts, read_built_lines};
 use sample_words::Layout;
 
 /// Lines of a component, from one to before another.
@@ -29,19 +28,19 @@ struct Span {
     end: usize,
 }
 
-/// A row of the picture of a line, in a phase.
-pub(crate) fn row_at(line: Line, phase: Phase, row: u32) -> Line
-    ensures { result ≡ line_of phase line.picture row }
+/// A row of the picture of a line as it is built.
+fn built_row(line: Line, row: u32) -> Line
+    ensures { result ≡ line_of B line.picture row }
 {
     Line {
-        phase,
+        phase: Phase::B,
         picture: line.picture,
         row,
     }
 }
 
-/// Lays some lines of a component of a row of a line's picture and phase, which the pass has seen counted, into their
-/// places among other lines of the component in memory.
+/// Lays some lines of a component of a row of a line's picture, whose units the pass has seen counted as they are
+/// built, into their places among other lines of the component in memory.
 fn lay_some(
     board: &Board<'_, FlightFacts>,
     pass: &mut Pass<FlightFacts>,
@@ -56,9 +55,8 @@ fn lay_some(
     requires own { IsPassOf board.now pass.old }
     requires flight { IsOfFlight board.now.flight layout.now }
     requires line { IsLine layout.now line }
-    requires phase { line.phase ≢ B }
     requires row { row < rows layout.now }
-    requires seen { 1 ≤ seen_of (view pass.old) (line_number layout.now (line_of line.phase line.picture row)) }
+    requires seen { columns layout.now ≤ seen_of (view pass.old) (line_number layout.now (line_of B line.picture row)) }
     requires component { HasSidesOf layout.now component.now }
     requires some { part.first < part.end }
     requires top { component.now.size * row ≤ part.first }
@@ -70,22 +68,21 @@ fn lay_some(
     ensures value { (x y : ℕ) → x < component.now.width → memory.first ≤ y → y < memory.end
         → at component.now.width out.new x (y - memory.first)
         ≡ (if nat_le part.first y && nat_lt y part.end
-        then samples_at (flight_in board.now.flight) line.picture line.phase component.now.c x y
+        then samples_at (flight_in board.now.flight) line.picture B component.now.c x y
         else at component.now.width out.old x (y - memory.first)) }
     ensures same { Knows pass.old pass.new (view pass.old) }
 {
     let top = row_top(layout, component, row);
-    let own = row_at(line, line.phase, row);
-    let at = UnitPlace::new(layout, own, 0);
+    let own = built_row(line, row);
     let first = part.first - top;
     let count = part.end - part.first;
     let from = component.width * (part.first - memory.first);
     let to = component.width * (part.end - memory.first);
-    read_lines(
+    read_built_lines(
         board,
         pass,
         layout,
-        &at,
+        own,
         component.c,
         first,
         count,
@@ -108,8 +105,7 @@ fn lay_part(
     requires own { IsPassOf board.now pass.old }
     requires flight { IsOfFlight board.now.flight layout.now }
     requires line { IsLine layout.now line }
-    requires phase { line.phase ≢ B }
-    requires seen { AreRowsCounted layout.now (view pass.old) line }
+    requires seen { AreRowsBuilt layout.now (view pass.old) line }
     requires component { HasSidesOf layout.now component.now }
     requires part { part.first < part.end → IsPartOfRow layout.now component.now line row part.first part.end }
     requires first { memory.first ≤ part.first }
@@ -119,7 +115,7 @@ fn lay_part(
     ensures value { (x y : ℕ) → x < component.now.width → memory.first ≤ y → y < memory.end
         → at component.now.width out.new x (y - memory.first)
         ≡ (if nat_le part.first y && nat_lt y part.end
-        then samples_at (flight_in board.now.flight) line.picture line.phase component.now.c x y
+        then samples_at (flight_in board.now.flight) line.picture B component.now.c x y
         else at component.now.width out.old x (y - memory.first)) }
     ensures same { Knows pass.old pass.new (view pass.old) }
 {
@@ -128,8 +124,9 @@ fn lay_part(
     }
 }
 
-/// Lines of a component of a row behind a loop filter, with so many lines above and below it, as far as the picture has
-/// them, out of the words of the row and of those above and below it, all of which the pass has seen counted.
+/// Lines of a component of a row as they are built, with so many lines above and below it, as far as the picture has
+/// them, out of the words of the coding tree units of the row and of those above and below it, all of which the pass
+/// has seen counted.
 pub fn read_rows_around(
     board: &Board<'_, FlightFacts>,
     pass: &mut Pass<FlightFacts>,
@@ -142,14 +139,13 @@ pub fn read_rows_around(
     requires own { IsPassOf board.now pass.old }
     requires flight { IsOfFlight board.now.flight layout.now }
     requires line { IsLine layout.now line }
-    requires phase { line.phase ≢ B }
-    requires seen { AreRowsCounted layout.now (view pass.old) line }
+    requires seen { AreRowsBuilt layout.now (view pass.old) line }
     requires component { HasSidesOf layout.now component.now }
     requires beside { beside ≤ 4 }
     requires room { length out.old ≡ count_of component.now line.row beside }
     ensures count { length out.new ≡ length out.old }
     ensures value { HoldLines component.now line.row beside
-        (samples_at (flight_in board.now.flight) line.picture line.phase component.now.c) out.new }
+        (samples_at (flight_in board.now.flight) line.picture B component.now.c) out.new }
     ensures same { Knows pass.old pass.new (view pass.old) }
 {
     let _rows = layout.rows();

@@ -14,10 +14,11 @@ ghost use Rattle.flight_waits.specs.Waits.{AreAllKnown, HasSameParts, HoldsUnit}
 ghost use Rattle.filtered_rows.specs.Memory.{HasRoomFor};
 ghost use Rattle.filtered_rows.specs.Phases.{IsReady};
 
+use crate::final_row::finish_row;
 use crate::memory::FilterMemory;
-use crate::phases::{filter_components, lay_around};
 use crate::waiting::wait_for_row;
 use flight_plan::FlightPlan;
+use hv_base::Phase;
 use hv_io::Gate;
 use line_words::{UnitPlace, count_unit};
 use plan_types::PicturePlan;
@@ -27,7 +28,8 @@ use sample_words::Layout;
 use spec_loop_filters::FilterFormat;
 use std::sync::Wait;
 
-/// Takes a row that all it is filtered from is seen of through its phase, writes its words, and counts it.
+/// Works off a row that all it needs is seen of. Behind edges it has no words and is counted; behind sample adaptive
+/// offset it is taken through all loop filters.
 fn filter_ready_row(
     board: &Board<'_, FlightFacts>,
     pass: &mut Pass<FlightFacts>,
@@ -52,25 +54,16 @@ fn filter_ready_row(
     ensures sound { AllSound (flight_meaning (flight_in board.now.flight)) (number_at at.now) 1 }
     ensures memory { HasRoomFor format.now memory.new }
 {
-    let line = at.line();
-    memory.places.set_format(format);
-    lay_around(board, pass, layout, plan, line, &mut memory.places);
-    filter_components(
-        board,
-        pass,
-        layout,
-        at,
-        format,
-        &memory.places,
-        &mut memory.lines,
-        &mut memory.copy,
-    );
-    count_unit(board, pass, at);
+    match at.line().phase {
+        Phase::B => unreachable!(),
+        Phase::V | Phase::H => count_unit(board, pass, at),
+        Phase::S => finish_row(board, pass, layout, plan, format, at, memory),
+    }
 }
 
 /// Works off a row of coding tree blocks in a phase of the loop filters, whose line the pass holds: waits for what the
-/// phase reads, filters the row in memory, writes its words, and counts it. Where a fault is found before the row it
-/// ends without.
+/// phase needs, filters the row in memory and writes its words if the phase is the last, and counts it. Where a fault
+/// is found before the row it ends without.
 pub fn filter_row<R: Wait, G: Gate>(
     rt: &R,
     board: &Board<'_, FlightFacts>,

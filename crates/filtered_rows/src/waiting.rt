@@ -1,4 +1,4 @@
-//! Waiting for all that a row of coding tree blocks is filtered from.
+//! Waiting for all that a row of coding tree blocks needs.
 
 ghost use Rattle.std.specs.Prelude.{◌≡◌, ◌≢◌, ◌+◌, ◌-◌};
 ghost use Rattle.hv_base.specs.declared.line.Phase.TheVariants.{B, S};
@@ -25,7 +25,7 @@ use sample_lines::FlightFacts;
 use sample_words::Layout;
 use std::sync::Wait;
 
-/// Waits, where a row has sample adaptive offset added, for the rows around it as they are built.
+/// Waits, where a row is taken through all loop filters, for the rows around it as they are built.
 fn wait_beside<R: Wait, G: Gate>(
     rt: &R,
     board: &Board<'_, FlightFacts>,
@@ -57,7 +57,7 @@ fn wait_beside<R: Wait, G: Gate>(
     }
 }
 
-/// Waits for what a row needs, and for the rows that tell what slices its units and those beside them are of.
+/// Waits for what a row needs, and in the last phase for the rows as they are built that it is filtered from.
 pub(crate) fn wait_for_row<R: Wait, G: Gate>(
     rt: &R,
     board: &Board<'_, FlightFacts>,

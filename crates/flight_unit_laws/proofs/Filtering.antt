@@ -217,8 +217,8 @@ module _ (f : PlannedFlight) (planned : IsPlanned f) (k row : ℕ) (p : PictureP
         → phase_samples p (folded_at f k) V c y z ≡ vertical_samples p g.filters g.samples c y z
     unfolding phase_samples vertical_samples
     vertical_agrees c y z inside of_row =
-        vertical_row (filter_format p) whole.filters.places g.filters.places (whole.samples c) (g.samples c) c row y z
-        (is_format p in_range)
+        vertical_row (filter_format p) whole.filters.places g.filters.places (whole.samples c) (g.samples c) c row 0 y z
+        (is_format p in_range) refl
         (λ i s here.
         own.places i s (λ there.
         own_unit (line_of V k row) (i / unit_places (shape p in_range)) (s / unit_places (shape p in_range)) refl refl
@@ -257,7 +257,7 @@ module _ (f : PlannedFlight) (planned : IsPlanned f) (k row : ℕ) (p : PictureP
           inside = in_rows (j / unit_side (shape p in_range) c) (sample_row p in_range c i j there);
           unit = omega arith;
         })))
-        inside low of_row
+        inside low (omega (arith, of_row.0), omega (arith, of_row.1))
 
   -- sample adaptive offset
   module _ (own : AgreeWhereUsed f (line_of S k row) 0 k p (folded_at f k) g) (v : Samples)

@@ -1,6 +1,7 @@
 //! Lines of samples of final rows, out of the words of a board.
 
 ghost use Rattle.std.specs.Prelude.{◌≡◌, ◌+◌, ◌*◌, ◌<◌, ◌≤◌, ℕ, pos, ◌+ℤ◌, ◌≤ℤ◌, length, min};
+ghost use Rattle.hv_base.specs.declared.line.Phase.TheVariants.{S};
 ghost use Rattle.header_types.specs.declared.sps.PictureFormat.{PictureFormat};
 ghost use Rattle.inter_pred.specs.Passes.{at};
 ghost use Rattle.progress_words.specs.Passes.{IsPassOf, Knows, view};
@@ -81,6 +82,7 @@ fn unit_line(
     requires own { IsPassOf board.now pass.old }
     requires flight { IsOfFlight board.now.flight layout.now }
     requires sizes { unit.now.sizes ≡ layout.now }
+    requires phase { unit.now.line.phase ≡ S }
     requires seen { unit.now.unit < seen_of (view pass.old) (number_at unit.now) }
     requires component { c < 3 }
     requires line { line < height_at unit.now c }
@@ -128,6 +130,7 @@ fn words_line(
     requires own { IsPassOf board.now pass.old }
     requires flight { IsOfFlight board.now.flight layout.now }
     requires sizes { unit.now.sizes ≡ layout.now }
+    requires phase { unit.now.line.phase ≡ S }
     requires seen { unit.now.unit < seen_of (view pass.old) (number_at unit.now) }
     requires component { c < 3 }
     requires line { line < height_at unit.now c }

@@ -1,5 +1,6 @@
 -- The places that the filters of a row of coding tree blocks ask for.
-use Rattle.std.proofs.Common.{◌≡◌, ℕ, ◌+◌, ◌-◌, ◌*◌, ◌/◌, ◌%◌, ◌<◌, ◌≤◌, subst, sym, arith}
+use Rattle.std.proofs.Common.{◌≡◌, ℕ, ◌+◌, ◌-◌, ◌*◌, ◌/◌, ◌%◌, ◌<◌, ◌≤◌, refl, ap, subst, sym, arith}
+use Rattle.spec_deblocking.specs.declared.place.Place.{Place}
 use Rattle.spec_deblocking.specs.declared.place.Plane.{Plane}
 use Rattle.spec_deblocking.specs.declared.place.Plane.TheVariants.{Luma, Chroma}
 use Rattle.spec_deblocking.specs.Places.{side}
@@ -8,6 +9,7 @@ use Rattle.filter_locality_laws.specs.Rows.{IsFilterFormat, IsPlaceOfRow}
 use Rattle.filter_locality_laws.proofs.Sizes.{row_is}
 use Rattle.loop_filters.specs.declared.component.Component.{Component}
 use Rattle.loop_filters.specs.Formats.{IsComponent, IsFormat}
+use Rattle.row_filters.specs.Known.{AreKept, ArePlaces}
 
 pub whole : (format : FilterFormat) → IsFormat format → IsFilterFormat format
 whole format is = record {
@@ -24,33 +26,46 @@ module _ (format : FilterFormat) (k : Component) (row : ℕ) (is : IsFormat form
       let r = row_is format k.c row (whole format is) in
       subst (λ s. s * row % 8 ≡ 0) (sym of.size) r.top
 
-  -- the places of a line of the row
-  pub own_places : (y : ℕ) → k.size * row ≤ y → y < k.size * row + k.size → IsPlaceOfRow format row 0 (y / side k.plane)
-  own_places y low high =
+  -- the place of a line of the row or of four lines beside it, and the other lines of that place
+  pub line_place : (y : ℕ) → k.size * row ≤ y + 4 → y < k.size * row + k.size + 4
+      → IsPlaceOfRow format row 2 (y / side k.plane)
+  line_place y low high =
       let r = row_is format k.c row (whole format is) in
       let a = rw of.size at low in
       let b = rw of.size at high in
-      subst (λ (p : Plane). IsPlaceOfRow format row 0 (y / side p)) (sym of.plane) (r.here y a b)
+      subst (λ (p : Plane). IsPlaceOfRow format row 2 (y / side p)) (sym of.plane) (r.near 4 y refl a b)
 
-  -- and those that stand at most one place beside the row
-  pub near_places : (s : ℕ) → k.size * row ≤ side k.plane * s + side k.plane
-      → side k.plane * s ≤ k.size * row + k.size → IsPlaceOfRow format row 1 s
-  near_places s low high =
+  -- the places on both sides of the horizontal edge that such a line stands at
+  pub before_edge : (y : ℕ) → k.size * row ≤ y + 4 → y < k.size * row + k.size + 4 → 0 < (y + 4) / 8
+      → IsPlaceOfRow format row 1 ((8 * ((y + 4) / 8) - 1) / side k.plane)
+  before_edge y low high some =
       let r = row_is format k.c row (whole format is) in
-      let a = rw (of.size, of.plane) at low in
-      let b = rw (of.size, of.plane) at high in
-      r.beside s a b
+      let a = rw of.size at low in
+      let b = rw of.size at high in
+      subst (λ (p : Plane). IsPlaceOfRow format row 1 ((8 * ((y + 4) / 8) - 1) / side p)) (sym of.plane)
+      (r.before y a b some)
 
--- the places on both sides of the horizontal edge that a line of a row stands at
-pub before_edge : (plane : Plane) (top size y : ℕ) → top % 8 ≡ 0 → size % 8 ≡ 0 → top ≤ y → y < top + size
-    → 0 < (y + 4) / 8
-    → (top ≤ side plane * ((8 * ((y + 4) / 8) - 1) / side plane) + side plane)
-    × (side plane * ((8 * ((y + 4) / 8) - 1) / side plane) ≤ top + size)
-before_edge Luma top size y a b c d some = (omega arith, omega arith)
-before_edge (Chroma offset) top size y a b c d some = (omega arith, omega arith)
+  pub behind_edge : (y : ℕ) → k.size * row ≤ y + 4 → y < k.size * row + k.size + 4
+      → IsPlaceOfRow format row 1 (8 * ((y + 4) / 8) / side k.plane)
+  behind_edge y low high =
+      let r = row_is format k.c row (whole format is) in
+      let a = rw of.size at low in
+      let b = rw of.size at high in
+      subst (λ (p : Plane). IsPlaceOfRow format row 1 (8 * ((y + 4) / 8) / side p)) (sym of.plane) (r.behind y a b)
 
-pub behind_edge : (plane : Plane) (top size y : ℕ) → top % 8 ≡ 0 → size % 8 ≡ 0 → top ≤ y → y < top + size
-    → (top ≤ side plane * (8 * ((y + 4) / 8) / side plane) + side plane)
-    × (side plane * (8 * ((y + 4) / 8) / side plane) ≤ top + size)
-behind_edge Luma top size y a b c d = (omega arith, omega arith)
-behind_edge (Chroma offset) top size y a b c d = (omega arith, omega arith)
+-- places that are known two rows of places beside a row are known one beside it, and so is whether its own are kept
+pub fewer_places : (format : FilterFormat) (row : ℕ) (places known : ℕ → ℕ → Place)
+    → ArePlaces format row 2 places known → ArePlaces format row 1 places known
+fewer_places format row places known are i s less lower at =
+    are i s less lower (omega (arith, at.0), omega (arith, at.1))
+
+pub kept_places : (format : FilterFormat) (row : ℕ) (places known : ℕ → ℕ → Place)
+    → ArePlaces format row 2 places known → AreKept format row places known
+kept_places format row places known are i s less lower at =
+    ap (λ (p : Place). p.kept) (are i s less lower (omega (arith, at.0), omega (arith, at.1)))
+
+-- the other lines of a line's place
+pub same_place : (plane : Plane) (first end y j : ℕ) → first % 4 ≡ 0 → end % 4 ≡ 0 → first ≤ y → y < end
+    → side plane * (y / side plane) ≤ j → j < side plane * (y / side plane) + side plane → (first ≤ j) × (j < end)
+same_place Luma first end y j a b low high c d = (omega arith, omega arith)
+same_place (Chroma offset) first end y j a b low high c d = (omega arith, omega arith)

@@ -3,6 +3,7 @@ use Rattle.std.proofs.Common.{◌≡◌, ℕ, ◌+◌, ◌-◌, ◌*◌, ◌/◌
 use Rattle.std.proofs.Common.{List, get_or, length, take, drop, refl, sym, ap, ◌∙◌, arith}
 use Rattle.std.specs.Prelude.{min}
 use Rattle.std.proofs.lemmas.Bool.Decides.{nat_tests}
+use Rattle.std.proofs.lemmas.List.{length-drop, length-take-le}
 use Rattle.std.proofs.Math.Nat.{mul-le-mul_left}
 use borrow.Rule.Slice.PartMut.{put_mid}
 use Rattle.spec_deblocking.specs.declared.place.Place.{Place}
@@ -94,6 +95,60 @@ module _ (k : Component) (row above own : ℕ) (samples : List ℕ) (first : abo
       told i j left (omega (arith, few)) ∙ ap (f i) line)
       column (omega (arith, first, low)) (omega (arith, first, count, low, high))
       ∙ ap (f x) back
+
+-- the lines of a row with one on each side, among those with four on each side
+module _ (k : Component) (row above count : ℕ) (samples : List ℕ)
+    (first : above ≡ min (k.size * row) 4 - min (k.size * row) 1)
+    (is : count ≡ end_line k row 1 - first_line k row 1) (begins : k.size * row < k.height)
+    (many : length samples ≡ count_of k row 4) where
+  abbrev all : ℕ
+  all = end_line k row 4 - first_line k row 4
+
+  among_fit : above + count ≤ all
+  among_fit = omega (arith, first, is, begins)
+
+  -- they are in memory, so many of them
+  pub among_inside : k.width * (above + count) ≤ length samples
+  among_inside =
+      let le : k.width * (above + count) ≤ k.width * all = mul-le-mul_left k.width among_fit in
+      omega (arith, le, many)
+
+  pub among_count : length (take (k.width * (above + count) - k.width * above) (drop (k.width * above) samples))
+      ≡ count_of k row 1
+  among_count =
+      let e : k.width * (above + count) ≡ k.width * above + k.width * count = grind arith in
+      let f : k.width * count ≡ count_of k row 1 = ap (λ n. k.width * n) is in
+      let inside = among_inside in
+      length-take-le (k.width * (above + count) - k.width * above) (drop (k.width * above) samples)
+      (omega (arith, length-drop (k.width * above) samples, inside))
+      ∙ omega (arith, e, f)
+
+  -- before
+  pub among_before : (f : ℕ → ℕ → ℕ) → HoldLines k row 4 f samples → HoldLines k row 1 f
+      (take (k.width * (above + count) - k.width * above) (drop (k.width * above) samples))
+  among_before f held x y column low high =
+      let line : above + (y - first_line k row 1) ≡ y - first_line k row 4 = omega (arith, first, low) in
+      part_sample k.width above (above + count) x (y - first_line k row 1) _ samples (omega arith) column
+      (omega (arith, is, low, high)) refl
+      ∙ ap (λ (l : ℕ). at k.width samples x l) line
+      ∙ held x y column (omega (arith, low)) (omega (arith, high))
+
+  -- and behind
+  pub among_behind : (f : ℕ → ℕ → ℕ) (out : List ℕ) → length out ≡ k.width * (above + count) - k.width * above
+      → HoldRow k row 1 f out
+      → HoldRow k row 4 f (put_mid (k.width * above) (k.width * (above + count) - k.width * above) samples out)
+  among_behind f out size held x y column low high =
+      let fit = among_fit in
+      let some : above < all = omega (arith, first, begins) in
+      let line : y - first_line k row 4 - above ≡ y - first_line k row 1 = omega (arith, first, low) in
+      own_written k.width above (above + count) all _ samples out (λ i l. at k.width out i (l - above)) x
+      (y - first_line k row 4) some fit (omega arith) refl many size
+      (λ i j left few.
+      let back : j ≡ above + j - above = omega arith in
+      ap (λ (l : ℕ). at k.width out i l) back)
+      column (omega (arith, first, low)) (omega (arith, first, is, low, high))
+      ∙ ap (λ (l : ℕ). at k.width out x l) line
+      ∙ held x y column low high
 
 -- lines that are copied
 pub copied : (k : Component) (row : ℕ) (samples lines : List ℕ) (f : ℕ → ℕ → ℕ) → length samples ≡ count_of k row 1

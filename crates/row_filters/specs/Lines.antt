@@ -41,3 +41,16 @@ row_around component row beside = record {
   top = component.size * row;
   bottom = end_line component row beside;
 }
+
+-- the same lines with four on each side, all of them as the row's own
+abbrev pub all_lines : Component → ℕ → Row
+all_lines component row = record {
+  plane = component.plane;
+  bit_depth = component.depth;
+  width = component.width;
+  height = component.height;
+  first = first_line component row 4;
+  end = end_line component row 4;
+  top = first_line component row 4;
+  bottom = end_line component row 4;
+}

@@ -2,7 +2,7 @@
 
 ghost use Rattle.std.specs.Prelude.{◌≡◌, ◌<◌, ◌≤◌, ◌+◌, ◌-◌, ◌*◌, ◌^◌, ◌%◌, min, ℕ};
 ghost use Rattle.loop_filters.specs.Formats.{IsPlane};
-ghost use Rattle.row_filters.specs.Lines.{end_line, first_line, row_around};
+ghost use Rattle.row_filters.specs.Lines.{all_lines, end_line, first_line, row_around};
 
 use deblock::Row;
 use loop_filters::Component;
@@ -27,5 +27,19 @@ pub(crate) fn row_around(component: &Component, row: usize, beside: usize) -> Ro
         end,
         top,
         bottom: end,
+    }
+}
+
+/// The same lines with four on each side, all of them as the row's own.
+pub(crate) fn all_lines(component: &Component, row: usize) -> Row
+    requires component { IsPlane component.now }
+    requires row { component.now.size * row < component.now.height }
+    requires size { component.now.size ≤ 64 }
+    ensures { result ≡ all_lines component.now row }
+{
+    let around = row_around(component, row, 4);
+    Row {
+        top: around.first,
+        ..around
     }
 }

@@ -1,7 +1,7 @@
 -- Words of samples that are written one behind the other.
-use Rattle.std.proofs.Common.{◌≡◌, ◌≢◌, ℕ, zero, suc, ◌+◌, ◌<◌, arith, ap, ◌∙◌, refl, subst, sym}
+use Rattle.std.proofs.Common.{◌≡◌, ℕ, zero, suc, ◌+◌, ◌<◌, arith, ap, ◌∙◌, refl, subst, sym}
 use Rattle.hv_base.specs.declared.line.Phase.{Phase}
-use Rattle.hv_base.specs.declared.line.Phase.TheVariants.{B, V, H, S}
+use Rattle.hv_base.specs.declared.line.Phase.TheVariants.{S}
 use Rattle.sample_words.specs.declared.sizes.FlightSizes.{FlightSizes}
 use Rattle.sample_words.specs.Contents.{component_words, components_before, unit_width}
 use Rattle.sample_words.specs.Sizes.{filtered_words, sample_words}
@@ -24,18 +24,19 @@ component_next s width height (suc zero) few = omega arith
 component_next s width height (suc (suc zero)) few = omega arith
 component_next s width height (suc (suc (suc c))) few = absurd (omega (arith, few))
 
--- in the phases of the loop filters all components are the unit
-phase_all : (s : FlightSizes) (phase : Phase) (height unit : ℕ) → phase ≢ B
-    → components_before s (unit_width s phase unit) height 3 ≡ phase_words s phase height unit
+-- behind all loop filters all components are the unit
+final_all : (s : FlightSizes) (height unit : ℕ)
+    → components_before s (unit_width s S unit) height 3 ≡ phase_words s S height unit
 unfolding filtered_words sample_words
-phase_all s B height unit other = absurd (other refl)
-phase_all s V height unit other = omega arith
-phase_all s H height unit other = omega arith
-phase_all s S height unit other = omega arith
+final_all s height unit = omega arith
 
-pub components_all : (at : UnitAt) → at.line.phase ≢ B
+pub components_all : (at : UnitAt) → at.line.phase ≡ S
     → components_before at.sizes (luma_width at) (luma_height at) 3 ≡ words_at at
-components_all at other = phase_all at.sizes at.line.phase (luma_height at) at.unit other
+components_all at final =
+    subst
+    (λ (p : Phase). components_before at.sizes (unit_width at.sizes p at.unit) (luma_height at) 3
+    ≡ phase_words at.sizes p (luma_height at) at.unit)
+    (sym final) (final_all at.sizes (luma_height at) at.unit)
 
 module _ {F : Type 0} where
   run_more : (v : View F) (n k : ℕ) → writing_run (writing_run v n) k ≡ writing_run v (n + k)

@@ -1,6 +1,7 @@
 //! Lines of a unit, laid among those of its picture.
 
-ghost use Rattle.std.specs.Prelude.{ℕ, ◌≡◌, ◌+◌, ◌*◌, ◌<◌, ◌≤◌, length, slice_index};
+ghost use Rattle.std.specs.Prelude.{ℕ, ◌≡◌, ◌+◌, ◌*◌, ◌<◌, ◌≤◌, length, slice_index, true};
+ghost use Rattle.sample_words.specs.Words.{has_words};
 ghost use Rattle.progress_words.specs.Passes.{IsPassOf, Knows, view};
 ghost use Rattle.progress_words.specs.Views.{seen_of};
 ghost use Rattle.line_words.specs.Places.{number_at};
@@ -42,6 +43,7 @@ pub(crate) fn lay_lines(
     requires own { IsPassOf board.now pass.old }
     requires flight { IsOfFlight board.now.flight layout.now }
     requires place { at.now.sizes ≡ layout.now }
+    requires words { has_words at.now.line.phase ≡ true }
     requires seen { at.now.unit < seen_of (view pass.old) (number_at at.now) }
     requires component { lines.c < 3 }
     requires inside { lines.first + lines.count ≤ height_at at.now lines.c }

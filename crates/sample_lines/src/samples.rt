@@ -1,7 +1,8 @@
 //! Samples of a line out of the words of their unit.
 
-ghost use Rattle.std.specs.Prelude.{ℕ, ◌≡◌, ◌+◌, ◌*◌, ◌<◌, ◌≤◌, length, slice_index};
+ghost use Rattle.std.specs.Prelude.{ℕ, ◌≡◌, ◌+◌, ◌*◌, ◌<◌, ◌≤◌, length, slice_index, true};
 ghost use Rattle.sample_words.specs.Sizes.{samples_a_word};
+ghost use Rattle.sample_words.specs.Words.{has_words};
 ghost use Rattle.progress_words.specs.Passes.{IsPassOf, Knows, view};
 ghost use Rattle.progress_words.specs.Views.{seen_of};
 ghost use Rattle.line_words.specs.Places.{number_at};
@@ -17,7 +18,8 @@ use progress_words::{Board, Pass};
 use sample_words::Layout;
 
 /// Samples of a line of a component of a unit that the pass has seen counted, from the first sample of a word of the
-/// line on. Words have four samples in a flight of more than 8 bits a sample, else eight.
+/// line on: of a coding tree unit as it is built, or of a row behind all loop filters. Words have four samples in a
+/// flight of more than 8 bits a sample, else eight.
 pub fn read_samples(
     board: &Board<'_, FlightFacts>,
     pass: &mut Pass<FlightFacts>,
@@ -31,6 +33,7 @@ pub fn read_samples(
     requires own { IsPassOf board.now pass.old }
     requires flight { IsOfFlight board.now.flight layout.now }
     requires place { at.now.sizes ≡ layout.now }
+    requires words { has_words at.now.line.phase ≡ true }
     requires seen { at.now.unit < seen_of (view pass.old) (number_at at.now) }
     requires component { c < 3 }
     requires line { line < height_at at.now c }

@@ -1,6 +1,7 @@
 //! Whole lines of samples out of the words of their unit.
 
 ghost use Rattle.std.specs.Prelude.{ℕ, ◌≡◌, ◌+◌, ◌*◌, ◌<◌, ◌≤◌, length, slice_index};
+ghost use Rattle.hv_base.specs.declared.line.Phase.TheVariants.{S};
 ghost use Rattle.progress_words.specs.Passes.{IsPassOf, Knows, view};
 ghost use Rattle.progress_words.specs.Views.{seen_of};
 ghost use Rattle.line_words.specs.Places.{number_at};
@@ -15,8 +16,8 @@ use line_words::UnitPlace;
 use progress_words::{Board, Pass};
 use sample_words::Layout;
 
-/// Whole lines of a component of a unit that the pass has seen counted, one after the other, from a line of the unit
-/// on: as many as are asked for.
+/// Whole lines of a component of a row behind all loop filters that the pass has seen counted, one after the other,
+/// from a line of the row on: as many as are asked for.
 pub fn read_lines(
     board: &Board<'_, FlightFacts>,
     pass: &mut Pass<FlightFacts>,
@@ -30,6 +31,7 @@ pub fn read_lines(
     requires own { IsPassOf board.now pass.old }
     requires flight { IsOfFlight board.now.flight layout.now }
     requires place { at.now.sizes ≡ layout.now }
+    requires phase { at.now.line.phase ≡ S }
     requires seen { at.now.unit < seen_of (view pass.old) (number_at at.now) }
     requires component { c < 3 }
     requires inside { first + lines ≤ height_at at.now c }

@@ -1,6 +1,7 @@
 //! Lines of samples into the words of their unit.
 
 ghost use Rattle.std.specs.Prelude.{ℕ, ◌≡◌, ◌+◌, ◌*◌, ◌<◌, ◌≤◌, length, slice_index};
+ghost use Rattle.hv_base.specs.declared.line.Phase.TheVariants.{S};
 ghost use Rattle.sample_words.specs.Contents.{component_words, components_before};
 ghost use Rattle.sample_words.specs.Sizes.{line_words};
 ghost use Rattle.progress_words.specs.Passes.{IsPassOf, Knows, view};
@@ -20,8 +21,8 @@ use line_words::UnitPlace;
 use progress_words::{Board, Pass};
 use sample_words::Layout;
 
-/// Writes all lines of a component of the next unit of the line held, whose words are the next ones. The samples are
-/// those of the lines, one after the other.
+/// Writes all lines of a component of a row behind all loop filters, which is the next unit of the line held, and whose
+/// words are the next ones. The samples are those of the lines, one after the other.
 pub fn write_lines(
     board: &Board<'_, FlightFacts>,
     pass: &mut Pass<FlightFacts>,
@@ -34,6 +35,7 @@ pub fn write_lines(
     requires flight { IsOfFlight board.now.flight layout.now }
     requires place { at.now.sizes ≡ layout.now }
     requires next { IsNext (flight_meaning (flight_in board.now.flight)) (view pass.old) (number_at at.now) }
+    requires phase { at.now.line.phase ≡ S }
     requires unit { seen_of (view pass.old) (number_at at.now) ≡ at.now.unit }
     requires component { c < 3 }
     requires written { (view pass.old).written
@@ -66,6 +68,7 @@ fn write_line(
     requires flight { IsOfFlight board.now.flight layout.now }
     requires place { at.now.sizes ≡ layout.now }
     requires next { IsNext (flight_meaning (flight_in board.now.flight)) (view pass.old) (number_at at.now) }
+    requires phase { at.now.line.phase ≡ S }
     requires unit { seen_of (view pass.old) (number_at at.now) ≡ at.now.unit }
     requires component { c < 3 }
     requires line { line < height_at at.now c }

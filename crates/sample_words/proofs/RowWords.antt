@@ -1,18 +1,16 @@
--- The words of a row: those of its coding tree units, and of the row in each phase of the loop filters.
-use Rattle.std.proofs.Common.{◌≡◌, refl, ℕ, ◌+◌, ◌-◌, ◌*◌, ◌<◌, ◌≤◌, Bool, cond, inl, inr}
+-- The words of a row: those of its coding tree units, and of the row behind all loop filters.
+use Rattle.std.proofs.Common.{◌≡◌, refl, ℕ, ◌+◌, ◌-◌, ◌<◌, ◌≤◌, Bool, cond, inl, inr}
 use Rattle.std.proofs.Common.{arith, ap}
-use Rattle.std.proofs.Common.{sym, ◌∙◌, subst}
+use Rattle.std.proofs.Common.{◌∙◌, subst}
 use Rattle.std.proofs.lemmas.Bool.{cases_lt, lt-ltb, le-ltb, ne_eqb}
-use Rattle.std.proofs.Math.Nat.{mul-le-mul_right}
 use Rattle.hv_base.specs.declared.line.Phase.{Phase}
 use Rattle.hv_base.specs.declared.line.Phase.TheVariants.{B, V, H, S}
 use Rattle.sample_words.specs.declared.sizes.FlightSizes.{FlightSizes}
 use Rattle.sample_words.specs.declared.unit_word.UnitWord.{UnitWord}
 use Rattle.sample_words.specs.Sizes.{IsFlight, columns, ctb_size, height_of, width_of, common_words, carry_words}
 use Rattle.sample_words.specs.Sizes.{tree_words, tree_start, built_words, filtered_words, row_words, phase_start}
-use Rattle.sample_words.specs.Words.{line_units, phase_words, start_in_phase, unit_word, phase_at, part_at, column_at}
-use Rattle.sample_words.specs.Words.{tree_word_at, filtered_word_at, row_word_at}
-use Rattle.sample_words.proofs.Parts.{found_part, in_part, next_part}
+use Rattle.sample_words.specs.Words.{line_units, phase_words, start_in_phase, unit_word, column_at}
+use Rattle.sample_words.specs.Words.{tree_word_at, row_word_at}
 use Rattle.sample_words.proofs.Columns.{begins, more_words, column_of, found_column, in_column, below_columns}
 use Rattle.sample_words.proofs.Extents.{some_columns, whole_columns, some_common}
 
@@ -68,28 +66,20 @@ row_found_tree s picture row column index below lt =
     let t = lt-ltb offset (built_words s (height_of s row)) (omega arith) in
     rw t (ap (tree_word_at s picture row) e ∙ tree_found s picture row column index below lt)
 
--- a word of phase k behind the first
-row_found_filtered : (s : FlightSizes) (picture row k index : ℕ) → k < 3 → index < filtered_words s (height_of s row)
-    → row_word_at s picture row (built_words s (height_of s row) + (k * filtered_words s (height_of s row) + index))
-    ≡ unit_word (phase_at (k + 1)) picture row 0 index
-unfolding row_word_at filtered_word_at
-row_found_filtered s picture row k index below lt =
-    let size : ℕ = filtered_words s (height_of s row) in
-    let offset : ℕ = built_words s (height_of s row) + (k * size + index) in
+-- a word of the row behind all loop filters
+row_found_filtered : (s : FlightSizes) (picture row index : ℕ)
+    → row_word_at s picture row (built_words s (height_of s row) + 0 + index) ≡ unit_word S picture row 0 index
+unfolding row_word_at
+row_found_filtered s picture row index =
+    let offset : ℕ = built_words s (height_of s row) + 0 + index in
     let t = le-ltb offset (built_words s (height_of s row)) (omega arith) in
-    let e : offset - built_words s (height_of s row) ≡ k * size + index = omega arith in
-    let f = found_part size 3 k index (omega arith) below (λ _. lt) in
-    let i : k * size + index - k * size ≡ index = omega arith in
-    rw (t, e, f) (ap (unit_word (phase_at (k + 1)) picture row 0) i)
+    let e : offset - built_words s (height_of s row) ≡ index = omega arith in
+    rw t (ap (unit_word S picture row 0) e)
 
-filtered_below : (s : FlightSizes) (height k index : ℕ) → k < 3 → index < filtered_words s height
-    → built_words s height + (k * filtered_words s height + index) < row_words s height
+filtered_below : (s : FlightSizes) (height index : ℕ) → index < filtered_words s height
+    → built_words s height + 0 + index < row_words s height
 unfolding row_words
-filtered_below s height k index below lt =
-    let size : ℕ = filtered_words s height in
-    let le : (k + 1) * size ≤ 3 * size = mul-le-mul_right size (omega arith) in
-    let e = next_part k size in
-    omega arith
+filtered_below s height index lt = omega (arith, lt)
 
 -- where a word of a unit stands in its row
 abbrev pub offset_in_row : FlightSizes → Phase → ℕ → ℕ → ℕ → ℕ
@@ -100,24 +90,11 @@ pub row_found : (s : FlightSizes) (phase : Phase) (picture row unit index : ℕ)
     → row_word_at s picture row (offset_in_row s phase (height_of s row) unit index)
     ≡ unit_word phase picture row unit index
 row_found s B picture row unit index below lt = row_found_tree s picture row unit index below lt
-row_found s V picture row unit index below lt =
-    let u : unit ≡ 0 = omega arith in
-    let e : built_words s (height_of s row) + 0 + index
-    ≡ built_words s (height_of s row) + (0 * filtered_words s (height_of s row) + index) = omega arith in
-    ap (row_word_at s picture row) e ∙ row_found_filtered s picture row 0 index (omega arith) lt
-    ∙ ap (λ k. unit_word V picture row k index) (sym u)
-row_found s H picture row unit index below lt =
-    let u : unit ≡ 0 = omega arith in
-    let e : built_words s (height_of s row) + filtered_words s (height_of s row) + 0 + index
-    ≡ built_words s (height_of s row) + (1 * filtered_words s (height_of s row) + index) = omega arith in
-    ap (row_word_at s picture row) e ∙ row_found_filtered s picture row 1 index (omega arith) lt
-    ∙ ap (λ k. unit_word H picture row k index) (sym u)
+row_found s V picture row unit index below lt = absurd (omega (arith, lt))
+row_found s H picture row unit index below lt = absurd (omega (arith, lt))
 row_found s S picture row unit index below lt =
-    let u : unit ≡ 0 = omega arith in
-    let e : built_words s (height_of s row) + 2 * filtered_words s (height_of s row) + 0 + index
-    ≡ built_words s (height_of s row) + (2 * filtered_words s (height_of s row) + index) = omega arith in
-    ap (row_word_at s picture row) e ∙ row_found_filtered s picture row 2 index (omega arith) lt
-    ∙ ap (λ k. unit_word S picture row k index) (sym u)
+    let u : 0 ≡ unit = omega (arith, below) in
+    row_found_filtered s picture row index ∙ ap (λ k. unit_word S picture row k index) u
 
 built_below : (s : FlightSizes) (height offset : ℕ) → offset < built_words s height → offset < row_words s height
 unfolding row_words
@@ -128,9 +105,9 @@ pub row_below : (s : FlightSizes) (phase : Phase) (height unit index : ℕ) → 
 row_below s B height unit index below lt =
     let b = tree_below s height unit index below lt in
     built_below s height (0 + tree_start s height unit + index) (omega arith)
-row_below s V height unit index below lt = let b = filtered_below s height 0 index (omega arith) lt in omega arith
-row_below s H height unit index below lt = let b = filtered_below s height 1 index (omega arith) lt in omega arith
-row_below s S height unit index below lt = let b = filtered_below s height 2 index (omega arith) lt in omega arith
+row_below s V height unit index below lt = absurd (omega (arith, lt))
+row_below s H height unit index below lt = absurd (omega (arith, lt))
+row_below s S height unit index below lt = filtered_below s height index lt
 
 -- a word of a row, found by its offset
 pub record IsInRow (s : FlightSizes) (picture row offset : ℕ) (u : UnitWord) : Type 0 where
@@ -161,61 +138,17 @@ tree_owned s picture row offset flight lt =
     let b = is.start in
     record { picture_is = refl; row_is = refl; unit = is.column; index = i; offset_is = omega arith }
 
--- the three phases
-filtered_owned_at : (s : FlightSizes) (picture row k offset index : ℕ) → k < 3
-    → index < filtered_words s (height_of s row)
-    → offset ≡ built_words s (height_of s row) + (k * filtered_words s (height_of s row) + index)
-    → IsInRow s picture row offset (unit_word (phase_at (k + 1)) picture row 0 index)
-filtered_owned_at s picture row k offset index below lt e = elim (cases_lt k 1) [
-  | inl zero ↦
-      let same : k ≡ 0 = omega arith in
-      let e0 = rw same at e in
-      rw same (record {
-        picture_is = refl;
-        row_is = refl;
-        unit = omega arith;
-        index = lt;
-        offset_is = omega (arith, e0);
-      })
-  | inr some ↦ elim (cases_lt k 2) [
-    | inl one ↦
-        let same : k ≡ 1 = omega arith in
-        let e1 = rw same at e in
-        rw same (record {
-          picture_is = refl;
-          row_is = refl;
-          unit = omega arith;
-          index = lt;
-          offset_is = omega (arith, e1);
-        })
-    | inr two ↦
-        let same : k ≡ 2 = omega arith in
-        let e2 = rw same at e in
-        rw same (record {
-          picture_is = refl;
-          row_is = refl;
-          unit = omega arith;
-          index = lt;
-          offset_is = omega (arith, e2);
-        })
-  ]
-]
-
 filtered_owned : (s : FlightSizes) (picture row offset : ℕ) → built_words s (height_of s row) ≤ offset
     → offset < row_words s (height_of s row)
-    → IsInRow s picture row offset (filtered_word_at s picture row (offset - built_words s (height_of s row)))
-unfolding filtered_word_at row_words
-filtered_owned s picture row offset le lt =
-    let size : ℕ = filtered_words s (height_of s row) in
-    let from : ℕ = offset - built_words s (height_of s row) in
-    let is = in_part size 3 size from (omega arith) (omega arith) (omega arith) in
-    let k : ℕ = part_at size 3 from in
-    let start = is.start in
-    let i : from - k * size < size = elim (cases_lt (k + 1) 3) [
-      | inl more ↦ is.inside more
-      | inr none ↦ let below = is.part in is.end (omega arith)
-    ] in
-    filtered_owned_at s picture row k offset (from - k * size) is.part i (omega arith)
+    → IsInRow s picture row offset (unit_word S picture row 0 (offset - built_words s (height_of s row)))
+unfolding row_words
+filtered_owned s picture row offset le lt = record {
+  picture_is = refl;
+  row_is = refl;
+  unit = omega arith;
+  index = omega (arith, le, lt);
+  offset_is = omega (arith, le);
+}
 
 pub row_owned : (s : FlightSizes) (picture row offset : ℕ) → IsFlight s → offset < row_words s (height_of s row)
     → IsInRow s picture row offset (row_word_at s picture row offset)

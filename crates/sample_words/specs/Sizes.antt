@@ -73,7 +73,7 @@ tree_words s height column = common_words s (width_of s column) height + (contex
 abbrev pub tree_start : FlightSizes → ℕ → ℕ → ℕ
 tree_start s height column = column * common_words s (ctb_size s) height + (if nat_lt 1 column then 20 else 0)
 
--- the words of a row of so many lines: of its coding tree units, and of the row in one phase of the loop filters
+-- the words of a row of so many lines: of its coding tree units, and of the row behind all loop filters
 unfoldable pub built_words : FlightSizes → ℕ → ℕ
 built_words s height = tree_start s height (columns s - 1) + tree_words s height (columns s - 1)
 
@@ -81,15 +81,15 @@ unfoldable pub filtered_words : FlightSizes → ℕ → ℕ
 filtered_words s height = sample_words s s.width height
 
 unfoldable pub row_words : FlightSizes → ℕ → ℕ
-row_words s height = built_words s height + 3 * filtered_words s height
+row_words s height = built_words s height + filtered_words s height
 
 -- the words of a picture: all rows but the last have as many
 unfoldable pub picture_words : FlightSizes → ℕ
 picture_words s = (rows s - 1) * row_words s (ctb_size s) + row_words s (height_of s (rows s - 1))
 
--- the words of the units of a phase, and of the phases before it, in a row of so many lines
+-- the words of the phases before one in a row of so many lines
 abbrev pub phase_start : FlightSizes → ℕ → Phase → ℕ
 phase_start s height B = 0
 phase_start s height V = built_words s height
-phase_start s height H = built_words s height + filtered_words s height
-phase_start s height S = built_words s height + 2 * filtered_words s height
+phase_start s height H = built_words s height
+phase_start s height S = built_words s height

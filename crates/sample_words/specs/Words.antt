@@ -1,7 +1,8 @@
 -- Which word belongs to what. First stand the words that many threads write, eight words apart: a count for each line,
--- the ticket, the least fault. Behind them stand pictures, in each its rows, in each row its phases, in each phase its
--- units.
-use Rattle.std.specs.Prelude.{◌≡◌, ℕ, ◌+◌, ◌-◌, ◌*◌, ◌/◌, ◌%◌, ◌<◌, ◌==◌, min, nat_lt, if◌then◌else◌}
+-- the ticket, the least fault. Behind them stand pictures, in each its rows, in each row the coding tree units of phase
+-- B and the row behind all loop filters, phase S.
+use Rattle.std.specs.Prelude.{◌≡◌, ℕ, ◌+◌, ◌-◌, ◌*◌, ◌/◌, ◌%◌, ◌<◌, ◌==◌, min, nat_lt, if◌then◌else◌, Bool, true}
+use Rattle.std.specs.Prelude.{false}
 use Rattle.hv_base.specs.declared.line.Line.{Line}
 use Rattle.hv_base.specs.declared.line.Phase.{Phase}
 use Rattle.hv_base.specs.declared.line.Phase.TheVariants.{B, V, H, S}
@@ -27,7 +28,7 @@ pub record IsLine (s : FlightSizes) (l : Line) : Type 0 where
   pub picture : l.picture < s.pictures
   pub row : l.row < rows s
 
--- the units of a line, and the words of one of them
+-- the units of a line, and the words of one of them: a row behind vertical or horizontal edges alone has none
 abbrev pub line_units : FlightSizes → Phase → ℕ
 line_units s B = columns s
 line_units s V = 1
@@ -36,12 +37,19 @@ line_units s S = 1
 
 abbrev pub phase_words : FlightSizes → Phase → ℕ → ℕ → ℕ
 phase_words s B height unit = tree_words s height unit
-phase_words s V height unit = filtered_words s height
-phase_words s H height unit = filtered_words s height
+phase_words s V height unit = 0
+phase_words s H height unit = 0
 phase_words s S height unit = filtered_words s height
 
 abbrev pub unit_words : FlightSizes → Line → ℕ → ℕ
 unit_words s l unit = phase_words s l.phase (height_of s l.row) unit
+
+-- whether the units of a phase have words
+abbrev pub has_words : Phase → Bool
+has_words B = true
+has_words V = false
+has_words H = false
+has_words S = true
 
 -- a word of a unit of the flight
 pub record IsUnitWord (s : FlightSizes) (u : UnitWord) : Type 0 where
@@ -115,22 +123,17 @@ abbrev pub unit_word : Phase → ℕ → ℕ → ℕ → ℕ → UnitWord
 unit_word phase picture row unit index =
     record { line = record { phase = phase; picture = picture; row = row }; unit = unit; index = index }
 
--- the word at an offset in the coding tree units of a row, in a phase of the loop filters, in a row, in a picture
+-- the word at an offset in the coding tree units of a row, in a row, in a picture
 unfoldable pub tree_word_at : FlightSizes → ℕ → ℕ → ℕ → UnitWord
 tree_word_at s picture row offset =
     let column : ℕ = column_at s (height_of s row) offset in
     unit_word B picture row column (offset - tree_start s (height_of s row) column)
 
-unfoldable pub filtered_word_at : FlightSizes → ℕ → ℕ → ℕ → UnitWord
-filtered_word_at s picture row offset =
-    let k : ℕ = part_at (filtered_words s (height_of s row)) 3 offset in
-    unit_word (phase_at (k + 1)) picture row 0 (offset - k * filtered_words s (height_of s row))
-
 unfoldable pub row_word_at : FlightSizes → ℕ → ℕ → ℕ → UnitWord
 row_word_at s picture row offset =
     if nat_lt offset (built_words s (height_of s row))
     then tree_word_at s picture row offset
-    else filtered_word_at s picture row (offset - built_words s (height_of s row))
+    else unit_word S picture row 0 (offset - built_words s (height_of s row))
 
 unfoldable pub picture_word_at : FlightSizes → ℕ → ℕ → UnitWord
 picture_word_at s picture offset =

@@ -14,9 +14,10 @@ use std::marker::Model;
 
 /// How the pictures of a flight lie in words. First stand the words that many threads write, eight words apart: a count
 /// for each line, the ticket, the least fault. Behind them stands picture after picture, in each row after row of
-/// coding tree blocks, in each row phase after phase, in phase B unit after unit. A unit's words follow one another:
-/// lines of luma samples, of Cb and of Cr; and in phase B the vectors of its places of 4x4 luma samples, row after row,
-/// their modes, two words of offsets, the contexts behind a row's second unit, and what its last one carries on.
+/// coding tree blocks, in each row first phase B, unit after unit, then phase S; phases V and H have no words. A unit's
+/// words follow one another: lines of luma samples, of Cb and of Cr; and in phase B the vectors of its places of 4x4
+/// luma samples, row after row, their modes, two words of offsets, the contexts behind a row's second unit, and what
+/// its last one carries on.
 #[derive(Clone, Copy)]
 pub struct Layout {
     sizes: FlightSizes,
@@ -190,7 +191,7 @@ impl Layout {
         self.tree_start(height, last) + self.tree_words(height, last)
     }
 
-    /// The words of a row of so many lines in a phase of the loop filters.
+    /// The words of a row of so many lines behind all loop filters.
     #[tactic(auto, unfolding(crate::specs::Sizes::filtered_words))]
     fn filtered_words(&self, height: u64) -> u64
         requires { height ≤ 64 }
@@ -207,7 +208,7 @@ impl Layout {
         ensures value { result ≡ row_words self.now height }
         ensures few { result ≤ 405275712 }
     {
-        self.built_words(height) + 3 * self.filtered_words(height)
+        self.built_words(height) + self.filtered_words(height)
     }
 
     /// The words of the rows above one.
@@ -318,7 +319,7 @@ impl Layout {
         }
     }
 
-    /// How many words a unit has.
+    /// How many words a unit has: a row in phase V or H has none.
     pub fn unit_words(&self, line: Line, unit: u64) -> u64
         requires line { IsLine self.now line }
         requires unit { unit < line_units self.now line.phase }
@@ -328,8 +329,7 @@ impl Layout {
         let height = self.line_height(line);
         match line.phase {
             Phase::B => self.tree_words(height, unit),
-            Phase::V => self.filtered_words(height),
-            Phase::H => self.filtered_words(height),
+            Phase::V | Phase::H => 0,
             Phase::S => self.filtered_words(height),
         }
     }
@@ -382,9 +382,7 @@ impl Layout {
         let height = self.line_height(line);
         match line.phase {
             Phase::B => self.tree_start(height, unit),
-            Phase::V => self.built_words(height),
-            Phase::H => self.built_words(height) + self.filtered_words(height),
-            Phase::S => self.built_words(height) + 2 * self.filtered_words(height),
+            Phase::V | Phase::H | Phase::S => self.built_words(height),
         }
     }
 }

@@ -2,7 +2,7 @@
 
 use hv_base::Line;
 
-/// A word of a unit of work: of a coding tree unit, or of a row that a loop filter has gone through.
+/// A word of a unit of work: of a coding tree unit, or of a row behind all loop filters.
 #[derive(Clone, Copy)]
 pub struct UnitWord {
     /// The line of the unit.

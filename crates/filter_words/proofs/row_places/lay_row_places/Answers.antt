@@ -1,4 +1,4 @@
-use Rattle.std.proofs.Common.{◌≡◌, ◌+◌, ◌-◌, ◌/◌, arith, length, refl, subst, ap, ◌∙◌}
+use Rattle.std.proofs.Common.{◌≡◌, ◌+◌, ◌-◌, ◌/◌, min, arith, length, refl, subst, ap, ◌∙◌}
 use Rattle.sample_words.specs.Sizes.{height_of}
 use Rattle.progress_words.specs.Passes.{view}
 use Rattle.line_words.proofs.Words.{knows_as_much, still_of}
@@ -15,7 +15,7 @@ use Rattle.filter_words.proofs.row_places.lay_row_places.Goals as goal
 pub lay_line_places-requires-clause-seen : goal.lay_line_places-requires-clause-seen
 lay_line_places-requires-clause-seen c =
     row_beside c.args.board.now.flight c.args.layout.now (view c.args.pass.now) (view c.args.pass.now) c.args.line
-    c.args.beside c.args.line.row refl c.requires.seen c.requires.row (omega arith) (omega arith)
+    (min c.args.beside 1) c.args.line.row refl c.requires.seen c.requires.row (omega arith) (omega arith)
 
 pub lay_line_places-requires-clause-room : goal.lay_line_places-requires-clause-room
 lay_line_places-requires-clause-room c =
@@ -30,7 +30,7 @@ lay_above-requires-clause-own c =
 pub lay_above-requires-clause-seen : goal.lay_above-requires-clause-seen
 lay_above-requires-clause-seen c =
     still_seen c.args.board.now.flight c.args.layout.now (view c.args.pass.now) (view c.lay_line_places.new.pass)
-    c.args.line c.args.beside c.lay_line_places.ensures.same.1 c.requires.seen
+    c.args.line (min c.args.beside 1) c.lay_line_places.ensures.same.1 c.requires.seen
 
 pub lay_above-requires-clause-room : goal.lay_above-requires-clause-room
 lay_above-requires-clause-room c =
@@ -52,7 +52,7 @@ lay_below-requires-clause-seen c =
     knows_as_much c.args.pass.now c.lay_line_places.new.pass c.lay_above.new.pass c.lay_line_places.ensures.same
     c.lay_above.ensures.same in
     still_seen c.args.board.now.flight c.args.layout.now (view c.args.pass.now) (view c.lay_above.new.pass) c.args.line
-    c.args.beside first.1 c.requires.seen
+    (min c.args.beside 1) first.1 c.requires.seen
 
 pub lay_below-requires-clause-room : goal.lay_below-requires-clause-room
 lay_below-requires-clause-room c =

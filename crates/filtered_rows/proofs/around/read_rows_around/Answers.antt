@@ -1,10 +1,11 @@
 use Rattle.std.proofs.Common.{◌≡◌, ℕ, ◌-◌, ◌∙◌, refl, arith, ap, sym, subst}
+use Rattle.hv_base.specs.declared.line.Phase.TheVariants.{B}
 use Rattle.line_words.proofs.Words.{knows_as_much}
 use Rattle.deblock.specs.Windows.{at}
 use Rattle.row_filters.specs.Lines.{end_line, first_line}
 use Rattle.sample_lines.specs.FactsOfFlights.{flight_in}
 use Rattle.sample_lines.specs.FactsOfFlights.{samples_at}
-use Rattle.filtered_rows.specs.Components.{AreRowsCounted}
+use Rattle.filtered_rows.specs.Components.{AreRowsBuilt}
 use Rattle.filtered_rows.proofs.Beside.{lower_part, own_part, upper_part}
 use Rattle.filtered_rows.proofs.Laying.{all_laid}
 use Rattle.filtered_rows.proofs.Sides.{in_range}
@@ -27,7 +28,7 @@ lay_part-requires-2-clause-part c = λ less.
 
 pub lay_part-requires-2-clause-seen : goal.lay_part-requires-2-clause-seen
 lay_part-requires-2-clause-seen c =
-    subst (λ v. AreRowsCounted c.args.layout.now v c.args.line) (sym c.lay_part.ensures.same.1) c.requires.seen
+    subst (λ v. AreRowsBuilt c.args.layout.now v c.args.line) (sym c.lay_part.ensures.same.1) c.requires.seen
 
 pub lay_part-requires-3-clause-part : goal.lay_part-requires-3-clause-part
 lay_part-requires-3-clause-part c = λ less.
@@ -38,7 +39,7 @@ lay_part-requires-3-clause-part c = λ less.
 
 pub lay_part-requires-3-clause-seen : goal.lay_part-requires-3-clause-seen
 lay_part-requires-3-clause-seen c =
-    subst (λ v. AreRowsCounted c.args.layout.now v c.args.line)
+    subst (λ v. AreRowsBuilt c.args.layout.now v c.args.line)
     (sym (c.lay_part-2.ensures.same.1 ∙ c.lay_part.ensures.same.1)) c.requires.seen
 
 pub returns-clause-same : goal.returns-clause-same
@@ -60,7 +61,7 @@ returns-clause-value c = λ x y column low high.
     let last : c.min.result ≡ end_line k row c.args.beside = omega (arith, below, top) in
     ap (λ (n : ℕ). at k.width c.lay_part-3.new.out x (y - n)) (sym first)
     ∙ all_laid k.width c.saturating_sub.result c.row_top-top.result c.min-end.result c.min.result
-    (samples_at (flight_in c.args.board.now.flight) c.args.line.picture c.args.line.phase k.c)
+    (samples_at (flight_in c.args.board.now.flight) c.args.line.picture B k.c)
     c.args.out.now c.lay_part.new.out c.lay_part-2.new.out c.lay_part-3.new.out (omega (arith, above))
     (omega (arith, end, inside)) (omega (arith, end, below)) c.lay_part.ensures.value c.lay_part-2.ensures.value
     c.lay_part-3.ensures.value x y column (omega (arith, low, first)) (omega (arith, high, last))

@@ -6,7 +6,7 @@ use Rattle.line_words.specs.Places.{UnitAt}
 use Rattle.sample_lines.specs.FactsOfFlights.{flight_in}
 use Rattle.sample_lines.specs.Lines.{height_at, sample_of, width_at}
 use Rattle.filtered_rows.proofs.Own.{own_held, own_inside, own_size, own_told, own_whole}
-use Rattle.filtered_rows.proofs.Sides.{at_is, in_range, row_there}
+use Rattle.filtered_rows.proofs.Sides.{at_is, in_range, offset_other, row_there}
 use Rattle.filtered_rows.proofs.components.write_row.Goals as goal
 
 pub row_top-top-requires-clause-row : goal.row_top-top-requires-clause-row
@@ -47,8 +47,8 @@ write_lines-requires-clause-whole c =
     c.min.ensures ∙ ap (λ (n : ℕ). min k.size (k.height - n)) top in
     let s = c.args.layout.now in
     let is = in_range c.args.board.now.flight s c.requires.flight in
-    let same = at_is s u c.requires.place c.line-line.ensures.unit c.requires.phase in
-    own_whole s k is c.requires.component u.line c.requires.phase c.min.result count _
+    let same = at_is s u c.requires.place c.line-line.ensures.unit (offset_other u.line.phase c.requires.phase) in
+    own_whole s k is c.requires.component u.line (offset_other u.line.phase c.requires.phase) c.min.result count _
     (own_size k u.line.row c.args.beside c.min-above.result c.min.result c.args.lines.now first count begins
     c.requires.room)
     ∙ ap (λ (v : UnitAt). width_at v k.c * height_at v k.c) (sym same)
@@ -69,12 +69,12 @@ write_lines-requires-clause-value c =
     let s = c.args.layout.now in
     let f = flight_in c.args.board.now.flight in
     let is = in_range c.args.board.now.flight s c.requires.flight in
-    let same = at_is s u c.requires.place c.line-line.ensures.unit c.requires.phase in
+    let same = at_is s u c.requires.place c.line-line.ensures.unit (offset_other u.line.phase c.requires.phase) in
     let part : List ℕ =
     take (k.width * (c.min-above.result + c.min.result) - k.width * c.min-above.result)
     (drop (k.width * c.min-above.result) c.args.lines.now) in
     subst (λ (v : UnitAt). (x y : ℕ) → x < width_at v k.c → y < height_at v k.c
     → get_or part (width_at v k.c * y + x) 0 ≡ sample_of f v k.c x y) (sym same)
-    (own_told s k is c.requires.component u.line c.requires.phase c.min.result count f part
+    (own_told s k is c.requires.component u.line (offset_other u.line.phase c.requires.phase) c.min.result count f part
     (own_held k u.line.row c.args.beside c.min-above.result c.min.result c.args.lines.now first count begins
     c.requires.room _ c.requires.value))

@@ -14,7 +14,7 @@ sample_index-first-requires-clause-word c =
 pub read_words-requires-clause-inside : goal.read_words-requires-clause-inside
 read_words-requires-clause-inside c =
     let must = c.requires in
-    samples_within c.args.at.now c.args.layout.now must.place c.args.c c.args.line c.args.word
+    samples_within c.args.at.now c.args.layout.now must.place must.words c.args.c c.args.line c.args.word
     (length c.args.out.now) c.sample_index-first.result must.component must.line must.inside
     c.sample_index-first.ensures.value
 

@@ -1,5 +1,6 @@
-use Rattle.std.proofs.Common.{◌≡◌, ◌∙◌, ℕ, ◌*◌, ◌<◌, arith, rules, sym, subst, length}
+use Rattle.std.proofs.Common.{◌≡◌, ◌∙◌, ℕ, ◌*◌, ◌<◌, ap, arith, rules, sym, subst, length}
 use Rattle.sample_words.specs.Sizes.{line_words, samples_a_word}
+use Rattle.sample_words.specs.Words.{has_words}
 use Rattle.progress_words.specs.Passes.{Knows, view}
 use Rattle.line_words.specs.Passes.{writing_run}
 use Rattle.sample_lines.specs.Lines.{width_at}
@@ -35,8 +36,8 @@ write_words-requires-clause-inside c =
     let s = c.args.layout.now in
     let whole = must.whole in
     let none : samples_a_word s * 0 ≡ 0 = omega arith in
-    samples_within c.args.at.now s must.place c.args.c c.args.line 0 (length c.args.samples.now)
-    c.sample_index-first.result must.component must.line (omega (arith, whole, none))
+    samples_within c.args.at.now s must.place (ap has_words must.phase) c.args.c c.args.line 0
+    (length c.args.samples.now) c.sample_index-first.result must.component must.line (omega (arith, whole, none))
     c.sample_index-first.ensures.value
 
 pub returns-then-is_empty : goal.returns-then-is_empty

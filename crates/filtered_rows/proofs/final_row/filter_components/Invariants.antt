@@ -3,7 +3,7 @@ use Rattle.sample_words.specs.Contents.{components_before}
 use Rattle.progress_words.specs.Passes.{Knows, view}
 use Rattle.line_words.specs.Passes.{writing_run}
 use Rattle.sample_lines.specs.Lines.{luma_height, luma_width}
-use Rattle.filtered_rows.proofs.phases.filter_components.Given as goal
+use Rattle.filtered_rows.proofs.final_row.filter_components.Given as goal
 
 abbrev pub invariant-loop-c : goal.invariant-loop-c
 invariant-loop-c l = record {

@@ -15,12 +15,11 @@ use Rattle.sample_lines.specs.FactsOfFlights.{flight_in}
 use Rattle.sample_lines.specs.Lines.{luma_height, luma_width}
 use Rattle.sample_lines.proofs.WrittenWords.{component_next, components_all, knows_more}
 use Rattle.filtered_rows.specs.Components.{IsFormatAt}
-use Rattle.filtered_rows.specs.Phases.{lines_beside}
 use Rattle.filtered_rows.proofs.Formats.{is_format, sides_of}
-use Rattle.filtered_rows.proofs.Room.{copy_room, room_of, samples_still}
+use Rattle.filtered_rows.proofs.Room.{copy_room, room_of, rows_still}
 use Rattle.filtered_rows.proofs.Sides.{row_there}
 use Rattle.filtered_rows.proofs.Views.{next_written, seen_written}
-use Rattle.filtered_rows.proofs.phases.filter_components.Goals as goal
+use Rattle.filtered_rows.proofs.final_row.filter_components.Goals as goal
 
 pub component_of-component-requires-clause-format : goal.component_of-component-requires-clause-format
 component_of-component-requires-clause-format c =
@@ -39,47 +38,45 @@ count_of-count-requires-clause-row c =
     let row = ap (λ (m : Line). m.row) c.line-line.ensures.value in
     subst (λ (n : ℕ). n < rows c.args.layout.now) (sym row) there.row
 
-pub slice_bounds-filter_component-end : goal.slice_bounds-filter_component-end
-slice_bounds-filter_component-end c =
-    let few = c.lines_beside-beside.ensures.few in
+pub slice_bounds-final_component-end : goal.slice_bounds-final_component-end
+slice_bounds-final_component-end c =
     let same = c.loop-c.invariant.lines in
     let all = c.requires.lines in
     let inside : c.count_of-count.result ≤ length c.loop-c.lines =
     room_of c.args.format.now c.component_of-component.result c.component_of-component.ensures.component
-    c.count_of-count.result c.lines_beside-beside.result 72 (length c.loop-c.lines) c.count_of-count.ensures.few
-    (omega (arith, few)) (omega (arith, same, all)) in
+    c.count_of-count.result 4 72 (length c.loop-c.lines) c.count_of-count.ensures.few
+    (omega arith) (omega (arith, same, all)) in
     inside
 
-pub slice_bounds-filter_component-end-in-loop-c : goal.slice_bounds-filter_component-end-in-loop-c
-slice_bounds-filter_component-end-in-loop-c c =
-    let few = c.lines_beside-beside.ensures.few in
+pub slice_bounds-final_component-end-in-loop-c : goal.slice_bounds-final_component-end-in-loop-c
+slice_bounds-final_component-end-in-loop-c c =
     let same = c.loop-c.invariant.lines in
     let all = c.requires.lines in
     let inside : c.count_of-count.result ≤ length c.loop-c.lines =
     room_of c.args.format.now c.component_of-component.result c.component_of-component.ensures.component
-    c.count_of-count.result c.lines_beside-beside.result 72 (length c.loop-c.lines) c.count_of-count.ensures.few
-    (omega (arith, few)) (omega (arith, same, all)) in
+    c.count_of-count.result 4 72 (length c.loop-c.lines) c.count_of-count.ensures.few
+    (omega arith) (omega (arith, same, all)) in
     sym (length-take-le c.count_of-count.result c.loop-c.lines inside)
 
-pub filter_component-requires-clause-copy : goal.filter_component-requires-clause-copy
-filter_component-requires-clause-copy c =
+pub final_component-requires-clause-copy : goal.final_component-requires-clause-copy
+final_component-requires-clause-copy c =
     let same = c.loop-c.invariant.copy in
     let all = c.requires.copy in
     copy_room c.args.format.now c.component_of-component.result c.component_of-component.ensures.component
     c.args.at.now.line.row (length c.loop-c.copy) (omega (arith, same, all))
 
-pub filter_component-requires-clause-next : goal.filter_component-requires-clause-next
-filter_component-requires-clause-next c =
+pub final_component-requires-clause-next : goal.final_component-requires-clause-next
+final_component-requires-clause-next c =
     next_written (flight_meaning (flight_in c.args.board.now.flight)) (view c.args.pass.now) (view c.loop-c.pass)
     (number_at c.args.at.now) _ c.loop-c.invariant.knows.1 c.requires.next
 
-pub filter_component-requires-clause-unit : goal.filter_component-requires-clause-unit
-filter_component-requires-clause-unit c =
+pub final_component-requires-clause-unit : goal.final_component-requires-clause-unit
+final_component-requires-clause-unit c =
     seen_written (view c.args.pass.now) (view c.loop-c.pass) (number_at c.args.at.now) _ c.args.at.now.unit
     c.loop-c.invariant.knows.1 c.requires.unit
 
-pub filter_component-requires-clause-written : goal.filter_component-requires-clause-written
-filter_component-requires-clause-written c =
+pub final_component-requires-clause-written : goal.final_component-requires-clause-written
+final_component-requires-clause-written c =
     let s = c.args.layout.now in
     let u = c.args.at.now in
     let now = ap (λ v. v.written) c.loop-c.invariant.knows.1 in
@@ -88,40 +85,41 @@ filter_component-requires-clause-written c =
     c.component_of-component.ensures.c in
     omega (arith, now, none, which)
 
-pub filter_component-requires-clause-seen : goal.filter_component-requires-clause-seen
-filter_component-requires-clause-seen c =
-    let l = c.args.at.now.line in
-    samples_still l.phase c.args.layout.now (view c.args.pass.now) (view c.loop-c.pass) l.picture l.row
+pub final_component-requires-clause-seen : goal.final_component-requires-clause-seen
+final_component-requires-clause-seen c =
+    rows_still c.args.layout.now (view c.args.pass.now) (view c.loop-c.pass) c.args.at.now.line
     (λ n. ap (λ v. seen_of v n) c.loop-c.invariant.knows.1) c.requires.seen
 
-pub filter_component-requires-clause-format : goal.filter_component-requires-clause-format
-filter_component-requires-clause-format c =
+pub final_component-requires-clause-format : goal.final_component-requires-clause-format
+final_component-requires-clause-format c =
     subst (λ (g : FilterFormat). IsFormatAt (flight_in c.args.board.now.flight) c.args.at.now.line.picture g)
     (sym c.requires.places) c.requires.format
 
-pub filter_component-requires-clause-component : goal.filter_component-requires-clause-component
-filter_component-requires-clause-component c =
+pub final_component-requires-clause-component : goal.final_component-requires-clause-component
+final_component-requires-clause-component c =
     subst (λ (g : FilterFormat). IsComponent g c.component_of-component.result) (sym c.requires.places)
     c.component_of-component.ensures.component
 
-pub filter_component-requires-clause-room : goal.filter_component-requires-clause-room
-filter_component-requires-clause-room c =
+pub final_component-requires-clause-known : goal.final_component-requires-clause-known
+final_component-requires-clause-known c = c.requires.known.0
+
+pub final_component-requires-clause-units : goal.final_component-requires-clause-units
+final_component-requires-clause-units c =
+    c.requires.known.1 c.component_of-component.result.c c.component_of-component.ensures.component.c
+
+pub final_component-requires-clause-room : goal.final_component-requires-clause-room
+final_component-requires-clause-room c =
     let u = c.args.at.now in
     let k = c.component_of-component.result in
     let row = ap (λ (m : Line). m.row) c.line-line.ensures.value in
-    let beside : c.lines_beside-beside.result ≡ lines_beside u.line.phase =
-    c.lines_beside-beside.ensures.value ∙ ap (λ (m : Line). lines_beside m.phase) c.line-line.ensures.value in
-    let is : c.count_of-count.result ≡ count_of k u.line.row (lines_beside u.line.phase) =
-    c.count_of-count.ensures.value
-    ∙ (ap (λ (n : ℕ). count_of k n c.lines_beside-beside.result) row
-    ∙ ap (λ (n : ℕ). count_of k u.line.row n) beside) in
-    let few = c.lines_beside-beside.ensures.few in
+    let is : c.count_of-count.result ≡ count_of k u.line.row 4 =
+    c.count_of-count.ensures.value ∙ ap (λ (n : ℕ). count_of k n 4) row in
     let same = c.loop-c.invariant.lines in
     let all = c.requires.lines in
     let inside : c.count_of-count.result ≤ length c.loop-c.lines =
     room_of c.args.format.now c.component_of-component.result c.component_of-component.ensures.component
-    c.count_of-count.result c.lines_beside-beside.result 72 (length c.loop-c.lines) c.count_of-count.ensures.few
-    (omega (arith, few)) (omega (arith, same, all)) in
+    c.count_of-count.result 4 72 (length c.loop-c.lines) c.count_of-count.ensures.few
+    (omega arith) (omega (arith, same, all)) in
     length-take-le c.count_of-count.result c.loop-c.lines inside ∙ is
 
 pub loop-c-preserved : goal.loop-c-preserved
@@ -133,10 +131,10 @@ loop-c-preserved c =
     let words = ap (λ (m : ℕ). component_words s (luma_width u) (luma_height u) m) which in
     let next = component_next s (luma_width u) (luma_height u) n (search rules) in
     record {
-      knows = knows_more c.args.pass.now c.loop-c.pass c.filter_component.new.pass
+      knows = knows_more c.args.pass.now c.loop-c.pass c.final_component.new.pass
           (components_before s (luma_width u) (luma_height u) n) _
           (components_before s (luma_width u) (luma_height u) (n + 1)) c.loop-c.invariant.knows
-          c.filter_component.ensures (omega (arith, next, words));
+          c.final_component.ensures (omega (arith, next, words));
       lines = search rules;
       copy = search rules;
     }
