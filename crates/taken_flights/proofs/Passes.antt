@@ -129,6 +129,11 @@ module _ {b : Place FlightFacts} {s : FlightSizes} {p : Pass FlightFacts} {n : �
         few = omega (arith, few, splits, less);
       }
 
+-- one of two was split off
+pub may_take_one : {b : Place FlightFacts} {s : FlightSizes} {p : Pass FlightFacts} → MayTake b s p 2
+    → (q : Pass FlightFacts) → Knows p q (kept_part (view p)) → MayTake b s q 1
+may_take_one may q kept = may_take_more may q kept 1 (omega arith) (omega arith)
+
 -- what two passes have seen is sound together
 greater_sound : (m : Meaning) (l x y n : ℕ) → n ≡ max x y → AllSound m l x → AllSound m l y → AllSound m l n
 greater_sound m l x y n e first second k less =

@@ -2,8 +2,8 @@
 use Rattle.std.specs.Prelude.{ℕ, ◌≡◌, ◌+◌, ◌-◌, ◌/◌, ◌%◌, ◌<◌, ◌≤◌, true, List, Some, length, slice_get}
 use Rattle.hv_base.specs.declared.line.Phase.TheVariants.{S}
 use Rattle.plan_types.specs.declared.picture_plan.PicturePlan.{PicturePlan}
-use Rattle.picture_buffer.specs.Motion.{FieldPlaces, HasPlaces}
-use Rattle.picture_buffer.specs.Planes.{HasSides, PictureSamples}
+use Rattle.picture_buffer.specs.Motion.{FieldPlaces, HasPlaces, motions_of}
+use Rattle.picture_buffer.specs.Planes.{HasSides, PictureSamples, samples_of}
 use Rattle.taken_pictures.specs.PictureBuild.{decoded_of}
 use Rattle.board_core.specs.Places.{line_of}
 use Rattle.sample_words.specs.declared.sizes.FlightSizes.{FlightSizes}
@@ -23,7 +23,7 @@ use Rattle.taken_pictures.specs.FlightFacts.{flight_in}
 use Rattle.taken_pictures.specs.FlightFacts.{IsOfFlight}
 use Rattle.taken_pictures.specs.FlightFacts.{StopsByRule}
 use Rattle.flight_workers.specs.FlightWaits.{AreAllKnown}
-use Rattle.taken_pictures.specs.Pictures.{HasSeenMore, held_picture}
+use Rattle.taken_pictures.specs.Pictures.{HasSeenMore, IsPictureSeen, held_picture}
 
 -- planes and a motion field, into which a picture is taken
 abbrev pub Part : Type 0
@@ -44,6 +44,17 @@ AreSized plans parts =
 abbrev pub IsDecoded : PlannedFlight → ℕ → PicturePlan → Part → Type 0
 IsDecoded f picture p part =
     decoded_of (held_picture p.sps.format part.0 part.1) ≡ known_decoded (pictures_before f picture) p
+
+-- planes of its size hold its samples, and a field of its size its motion
+pub record HoldsSamples (f : PlannedFlight) (picture : ℕ) (p : PicturePlan) (planes : PictureSamples) : Type 0 where
+  pub sides : HasSides planes p.sps.format.pic_width_in_luma_samples p.sps.format.pic_height_in_luma_samples
+  pub samples : (c x y : ℕ)
+      → samples_of planes c x y ≡ (known_decoded (pictures_before f picture) p).samples c x y
+
+pub record HoldsMotion (f : PlannedFlight) (picture : ℕ) (p : PicturePlan) (field : FieldPlaces) : Type 0 where
+  pub places : HasPlaces field (p.sps.format.pic_width_in_luma_samples / 4)
+      (p.sps.format.pic_height_in_luma_samples / 4)
+  pub motion : (x y : ℕ) → motions_of field x y ≡ (known_decoded (pictures_before f picture) p).motions x y
 
 -- of parts for the pictures from one on the first so many do
 abbrev pub AreDecoded : PlannedFlight → ℕ → List PicturePlan → List Part → ℕ → Type 0
@@ -90,6 +101,13 @@ pub record HasLookedOn (b : Place FlightFacts) (p q : Pass FlightFacts) : Type 0
   pub own : IsPassOf b q
   pub known : AreAllKnown b.flight (view q)
   pub kept : HasSeenMore (view p) (view q)
+
+-- it has seen all that stands in the picture at a place of a flight, which has this plan
+pub record MayRead (b : Place FlightFacts) (s : FlightSizes) (k : ℕ) (plan : PicturePlan) (p : Pass FlightFacts)
+    : Type 0 where
+  pub look : MayLook b s p
+  pub picture : slice_get (flight_in b.flight).pictures k ≡ Some plan
+  pub seen : IsPictureSeen s (view p) k
 
 -- a pass that has come back from the work on a flight, from which so many may be split off
 pub record MayTake (b : Place FlightFacts) (s : FlightSizes) (p : Pass FlightFacts) (workers : ℕ) : Type 0 where

@@ -1,16 +1,17 @@
 //! All shares of the pictures of a flight.
 
-ghost use Rattle.std.specs.Prelude.{◌≡◌, ◌+◌, ◌-◌, ◌/◌, ◌≤◌};
+ghost use Rattle.std.specs.Prelude.{◌≡◌, ◌+◌, ◌-◌, ◌/◌, ◌≤◌, length};
 ghost use Rattle.std.specs.Thread.{IsSync};
 ghost use Rattle.taken_pictures.specs.FlightFacts.{flight_in};
 ghost use Rattle.flight_workers.specs.Working.{IsGathered};
 ghost use Rattle.taken_flights.specs.Taken.{AreParts, AreTaken, HasLookedOn, MayLook, MayTake};
 
+use crate::pairs::take_by_two;
 use crate::shares::take_share;
 use hv_io::Gate;
 use picture_buffer::{MotionField, Planes};
 use plan_types::PicturePlan;
-use progress_words::{Board, Pass};
+use progress_words::{Board, Pass, Waited};
 use sample_words::Layout;
 use std::sync::Wait;
 use std::thread::{Threads, join_mut};
@@ -70,8 +71,11 @@ fn fan<R: Threads + Wait + Sync, G: Gate + Sync>(
     ensures gathered { IsGathered board.now pass.old pass.new }
     ensures taken { AreTaken (flight_in board.now.flight) first plans.now parts.old parts.new result }
 {
-    if workers == 1 || parts.len() < 2 {
+    if workers == 1 || parts.len() == 0 {
         return take_alone(rt, gate, board, layout, plans, first, pass, parts);
+    }
+    if parts.len() == 1 {
+        return take_last(rt, gate, board, layout, plans, first, pass, parts);
     }
     let share = share_of(parts.len(), workers);
     let next = first + share as u32;
@@ -164,6 +168,31 @@ fn take_alone<R: Wait, G: Gate>(
     let count = take_share(rt, gate, board, layout, plans, first, &mut other, parts);
     board.join(pass, other);
     count
+}
+
+/// One picture, by two passes.
+fn take_last<R: Threads + Wait, G: Gate>(
+    rt: &R,
+    gate: &G,
+    board: &Board<'_, FlightFacts>,
+    layout: &Layout,
+    plans: &[PicturePlan],
+    picture: u32,
+    pass: &mut Pass<FlightFacts>,
+    parts: &mut [(Planes, MotionField)],
+) -> u32
+    requires may { MayTake board.now layout.now pass.old 2 }
+    requires one { length parts.old ≡ 1 }
+    requires parts { AreParts (flight_in board.now.flight) picture plans.now parts.old }
+    ensures gathered { IsGathered board.now pass.old pass.new }
+    ensures taken { AreTaken (flight_in board.now.flight) picture plans.now parts.old parts.new result }
+{
+    let plan = &plans[0];
+    let part = &mut parts[0];
+    match take_by_two(rt, gate, board, layout, plan, picture, pass, part) {
+        Waited::Ready => 1,
+        Waited::Stopped => 0,
+    }
 }
 
 /// How many pictures of so many the first of some threads takes.

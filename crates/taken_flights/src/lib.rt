@@ -3,6 +3,7 @@
 
 mod fan;
 mod laws;
+mod pairs;
 mod shares;
 
 pub use fan::{Taken, take_pictures};

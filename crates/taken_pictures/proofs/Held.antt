@@ -53,9 +53,7 @@ module _ (f : PlannedFlight) (k : ℕ) (p : PicturePlan) (has : slice_get f.pict
       ap (λ o. samples_by o (folded_at f k) S c x y) has
       ∙ ap (λ (u : DecodedUnits). phase_samples p u S c x y) folded_is
 
-  module _ (s : FlightSizes) (sized : s ≡ flight_sizes p.sps (length f.pictures)) (sizes : IsFlight s)
-      (planes : PictureSamples) (field : FieldPlaces) (sides : HasSides planes s.width s.height)
-      (places : HasPlaces field (s.width / 4) (s.height / 4)) where
+  module _ (s : FlightSizes) (sized : s ≡ flight_sizes p.sps (length f.pictures)) (sizes : IsFlight s) where
     wide : p.sps.format.pic_width_in_luma_samples ≡ s.width
     wide = sym (ap (λ (t : FlightSizes). t.width) sized)
 
@@ -77,14 +75,15 @@ module _ (f : PlannedFlight) (k : ℕ) (p : PicturePlan) (has : slice_get f.pict
     unfolding picture_shape
     place_is x y = λ t. nat_lt x (wide t / 4) && nat_lt y (high t / 4)
 
-    samples_there : ((c x y : ℕ) → has_sample (picture_shape p.sps p.pps) c x y ≡ true
+    pub samples_there : (planes : PictureSamples) → HasSides planes s.width s.height
+        → ((c x y : ℕ) → has_sample (picture_shape p.sps p.pps) c x y ≡ true
         → (known_decoded (pictures_before f k) p).samples c x y
         ≡ phase_samples p (known_folded (pictures_before f k) p) S c x y)
         → ((c x y : ℕ) → c < 3 → x < component_side c s.width → y < component_side c s.height
         → samples_of planes c x y ≡ samples_at f k S c x y)
         → (c x y : ℕ) → samples_of planes c x y ≡ (known_decoded (pictures_before f k) p).samples c x y
     unfolding decoded_by samples_filtered
-    samples_there last taken c x y =
+    samples_there planes sides last taken c x y =
         let across : Bool = nat_lt x (component_side c s.width) in
         let down : Bool = nat_lt y (component_side c s.height) in
         elim (cases_Bool (nat_lt c 3 && (across && down))) [
@@ -100,10 +99,11 @@ module _ (f : PlannedFlight) (k : ℕ) (p : PicturePlan) (has : slice_get f.pict
               ∙ sym (none_filtered (has_sample (picture_shape p.sps p.pps) c x y) _ (test_is c x y ∙ out))
         ]
 
-    motion_there : ((x y : ℕ) → x < s.width / 4 → y < s.height / 4 → motions_of field x y ≡ (folded_at f k).motions x y)
+    pub motion_there : (field : FieldPlaces) → HasPlaces field (s.width / 4) (s.height / 4)
+        → ((x y : ℕ) → x < s.width / 4 → y < s.height / 4 → motions_of field x y ≡ (folded_at f k).motions x y)
         → (x y : ℕ) → motions_of field x y ≡ (known_decoded (pictures_before f k) p).motions x y
     unfolding decoded_by
-    motion_there taken x y =
+    motion_there field places taken x y =
         elim (cases_Bool (nat_lt x (s.width / 4) && nat_lt y (s.height / 4))) [
           | inl here ↦
               let inside = both (nat_lt x (s.width / 4)) (nat_lt y (s.height / 4)) here in
@@ -116,18 +116,15 @@ module _ (f : PlannedFlight) (k : ℕ) (p : PicturePlan) (has : slice_get f.pict
               ∙ ap (λ (u : DecodedUnits). u.motions x y) folded_is)
         ]
 
-    pub held_is : ((c x y : ℕ) → has_sample (picture_shape p.sps p.pps) c x y ≡ true
-        → (known_decoded (pictures_before f k) p).samples c x y
-        ≡ phase_samples p (known_folded (pictures_before f k) p) S c x y)
-        → ((c x y : ℕ) → c < 3 → x < component_side c s.width → y < component_side c s.height
-        → samples_of planes c x y ≡ samples_at f k S c x y)
-        → ((x y : ℕ) → x < s.width / 4 → y < s.height / 4
-        → motions_of field x y ≡ (folded_at f k).motions x y)
-        → decoded_of (held_picture p.sps.format planes field) ≡ known_decoded (pictures_before f k) p
-    unfolding decoded_by
-    held_is last samples motions = λ t.
-        record {
-          format = p.sps.format;
-          samples = λ c x y. samples_there last samples c x y t;
-          motions = λ x y. motion_there motions x y t;
-        }
+-- planes with its samples and a field with its motion hold a picture
+pub held_is : (f : PlannedFlight) (k : ℕ) (p : PicturePlan) (planes : PictureSamples) (field : FieldPlaces)
+    → ((c x y : ℕ) → samples_of planes c x y ≡ (known_decoded (pictures_before f k) p).samples c x y)
+    → ((x y : ℕ) → motions_of field x y ≡ (known_decoded (pictures_before f k) p).motions x y)
+    → decoded_of (held_picture p.sps.format planes field) ≡ known_decoded (pictures_before f k) p
+unfolding decoded_by
+held_is f k p planes field samples motion = λ t.
+    record {
+      format = p.sps.format;
+      samples = λ c x y. samples c x y t;
+      motions = λ x y. motion x y t;
+    }

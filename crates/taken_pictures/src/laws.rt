@@ -4,7 +4,6 @@ ghost use Rattle.std.specs.Prelude.{◌≡◌, ℕ, ◌+◌, ◌/◌, ◌<◌, S
 ghost use Rattle.plan_types.specs.declared.picture_plan.PicturePlan.{PicturePlan};
 ghost use Rattle.picture_buffer.specs.Motion.{FieldPlaces, HasPlaces, motions_of};
 ghost use Rattle.picture_buffer.specs.Planes.{HasSides, PictureSamples, samples_of};
-ghost use Rattle.sample_lines.specs.FactsOfFlights.{decoded_of};
 ghost use Rattle.hv_base.specs.declared.line.Phase.TheVariants.{S};
 ghost use Rattle.sample_words.specs.declared.unit_content.UnitContent.TheVariants.{Modes, Vectors};
 ghost use Rattle.sample_words.specs.declared.sizes.FlightSizes.{FlightSizes};
@@ -16,7 +15,6 @@ ghost use Rattle.sample_lines.specs.FactsOfFlights.{FlightFacts};
 ghost use Rattle.sample_lines.specs.FactsOfFlights.{flight_in};
 ghost use Rattle.sample_lines.specs.FactsOfFlights.{IsOfFlight, samples_at};
 ghost use Rattle.taken_pictures.specs.Kept.{kept_by};
-ghost use Rattle.taken_pictures.specs.Pictures.{held_picture};
 ghost use Rattle.taken_pictures.specs.Places.{IsTreeUnit, address_at, column_at, row_at, word_in};
 
 use row_above_laws::{
@@ -43,19 +41,28 @@ pub(crate) fn words_tell_the_motion_of_their_places()
     values_fit_their_words();
 }
 
-/// Planes and a field of a picture's sizes that hold its samples behind all loop filters and its motion, inside the
-/// picture, hold the decoded picture that its known units make.
-pub(crate) fn planes_and_fields_hold_their_pictures()
+/// Planes of a picture's size that hold its samples behind all loop filters hold those of the decoded picture that its
+/// known units make.
+pub(crate) fn planes_hold_their_samples()
     ensures { (facts : FlightFacts) (s : FlightSizes) (k : ℕ) (p : PicturePlan) (planes : PictureSamples)
-        (field : FieldPlaces) → IsOfFlight facts s → slice_get (flight_in facts).pictures k ≡ Some p
-        → HasSides planes s.width s.height → HasPlaces field (s.width / 4) (s.height / 4)
+        → IsOfFlight facts s → slice_get (flight_in facts).pictures k ≡ Some p → HasSides planes s.width s.height
         → ((c x y : ℕ) → c < 3 → x < component_side c s.width → y < component_side c s.height
         → samples_of planes c x y ≡ samples_at (flight_in facts) k S c x y)
-        → ((x y : ℕ) → x < s.width / 4 → y < s.height / 4
-        → motions_of field x y ≡ (folded_at (flight_in facts) k).motions x y)
-        → decoded_of (held_picture p.sps.format planes field)
-        ≡ known_decoded (pictures_before (flight_in facts) k) p }
+        → (c x y : ℕ)
+        → samples_of planes c x y ≡ (known_decoded (pictures_before (flight_in facts) k) p).samples c x y }
 {
     decoded_samples_are_of_the_last_phase();
+    pictures_have_the_sizes_of_their_flight();
+}
+
+/// A field of a picture's size that holds its motion holds that of the decoded picture that its known units make.
+pub(crate) fn fields_hold_their_motion()
+    ensures { (facts : FlightFacts) (s : FlightSizes) (k : ℕ) (p : PicturePlan) (field : FieldPlaces)
+        → IsOfFlight facts s → slice_get (flight_in facts).pictures k ≡ Some p
+        → HasPlaces field (s.width / 4) (s.height / 4)
+        → ((x y : ℕ) → x < s.width / 4 → y < s.height / 4
+        → motions_of field x y ≡ (folded_at (flight_in facts) k).motions x y)
+        → (x y : ℕ) → motions_of field x y ≡ (known_decoded (pictures_before (flight_in facts) k) p).motions x y }
+{
     pictures_have_the_sizes_of_their_flight();
 }

@@ -17,4 +17,4 @@ pub use row_motion::take_row_motion;
 pub use row_samples::take_row_samples;
 pub use sample_lines::FlightFacts;
 pub use seen_rows::see_picture;
-pub use whole_pictures::take_picture;
+pub use whole_pictures::{take_motion, take_picture, take_samples};

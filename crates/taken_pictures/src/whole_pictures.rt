@@ -1,8 +1,8 @@
 //! Whole pictures of a flight, out of the words of their rows.
 
-ghost use Rattle.std.specs.Prelude.{◌≡◌, ◌/◌, Some, slice_get};
-ghost use Rattle.picture_buffer.specs.Motion.{HasPlaces};
-ghost use Rattle.picture_buffer.specs.Planes.{HasSides};
+ghost use Rattle.std.specs.Prelude.{◌≡◌, ℕ, ◌/◌, Some, slice_get};
+ghost use Rattle.picture_buffer.specs.Motion.{HasPlaces, motions_of};
+ghost use Rattle.picture_buffer.specs.Planes.{HasSides, samples_of};
 ghost use Rattle.sample_lines.specs.FactsOfFlights.{decoded_of};
 ghost use Rattle.spec_flights.specs.Pictures.{known_decoded, pictures_before};
 ghost use Rattle.progress_words.specs.Passes.{IsPassOf, Knows, view};
@@ -12,7 +12,7 @@ ghost use Rattle.sample_lines.specs.FactsOfFlights.{flight_in};
 ghost use Rattle.sample_lines.specs.FactsOfFlights.{IsOfFlight};
 ghost use Rattle.taken_pictures.specs.Pictures.{IsPictureSeen, held_picture};
 
-use crate::laws::planes_and_fields_hold_their_pictures;
+use crate::laws::{fields_hold_their_motion, planes_hold_their_samples};
 use crate::picture_lines::{built_line, final_line};
 use crate::row_motion::take_row_motion;
 use crate::row_samples::take_row_samples;
@@ -52,13 +52,67 @@ pub fn take_picture(
         ≡ known_decoded (pictures_before (flight_in board.now.flight) picture) plan.now }
     ensures same { Knows pass.old pass.new (view pass.old) }
 {
+    take_samples(board, pass, layout, plan, picture, planes);
+    take_motion(board, pass, layout, plan, picture, field);
+}
+
+/// Takes its samples alone.
+pub fn take_samples(
+    board: &Board<'_, FlightFacts>,
+    pass: &mut Pass<FlightFacts>,
+    layout: &Layout,
+    plan: &PicturePlan,
+    picture: u32,
+    planes: &mut Planes,
+)
+    requires own { IsPassOf board.now pass.old }
+    requires flight { IsOfFlight board.now.flight layout.now }
+    requires picture { slice_get (flight_in board.now.flight).pictures picture ≡ Some plan.now }
+    requires seen { IsPictureSeen layout.now (view pass.old) picture }
+    requires sides { HasSides planes.old plan.now.sps.format.pic_width_in_luma_samples
+        plan.now.sps.format.pic_height_in_luma_samples }
+    ensures sides { HasSides planes.new plan.now.sps.format.pic_width_in_luma_samples
+        plan.now.sps.format.pic_height_in_luma_samples }
+    ensures samples { (c x y : ℕ) → samples_of planes.new c x y
+        ≡ (known_decoded (pictures_before (flight_in board.now.flight) picture) plan.now).samples c x y }
+    ensures same { Knows pass.old pass.new (view pass.old) }
+{
     pictures_have_the_sizes_of_their_flight();
-    planes_and_fields_hold_their_pictures();
+    planes_hold_their_samples();
     let rows = layout.rows() as u32;
     for row in 0..rows {
         let last = final_line(picture, row);
         let at = UnitPlace::new(layout, last, 0);
         take_row_samples(board, pass, layout, &at, planes);
+    }
+}
+
+/// Takes the motion of its places alone.
+pub fn take_motion(
+    board: &Board<'_, FlightFacts>,
+    pass: &mut Pass<FlightFacts>,
+    layout: &Layout,
+    plan: &PicturePlan,
+    picture: u32,
+    field: &mut MotionField,
+)
+    requires own { IsPassOf board.now pass.old }
+    requires flight { IsOfFlight board.now.flight layout.now }
+    requires picture { slice_get (flight_in board.now.flight).pictures picture ≡ Some plan.now }
+    requires seen { IsPictureSeen layout.now (view pass.old) picture }
+    requires known { AreAllSound (flight_meaning (flight_in board.now.flight)) (view pass.old) }
+    requires places { HasPlaces field.old (plan.now.sps.format.pic_width_in_luma_samples / 4)
+        (plan.now.sps.format.pic_height_in_luma_samples / 4) }
+    ensures places { HasPlaces field.new (plan.now.sps.format.pic_width_in_luma_samples / 4)
+        (plan.now.sps.format.pic_height_in_luma_samples / 4) }
+    ensures motion { (x y : ℕ) → motions_of field.new x y
+        ≡ (known_decoded (pictures_before (flight_in board.now.flight) picture) plan.now).motions x y }
+    ensures same { Knows pass.old pass.new (view pass.old) }
+{
+    pictures_have_the_sizes_of_their_flight();
+    fields_hold_their_motion();
+    let rows = layout.rows() as u32;
+    for row in 0..rows {
         let built = built_line(picture, row);
         take_row_motion(board, pass, layout, plan, built, field);
     }

@@ -1,172 +1,32 @@
-use Rattle.std.proofs.Common.{◌≡◌, ℕ, ◌*◌, ◌<◌, ◌≤◌, refl, ap, sym, subst, ◌∙◌, arith, slice_get}
-use Rattle.hv_base.specs.declared.line.Line.{Line}
-use Rattle.hv_base.specs.declared.line.Phase.TheVariants.{B, S}
-use Rattle.picture_buffer.specs.Motion.{motions_of}
-use Rattle.picture_buffer.specs.Planes.{samples_of}
-use Rattle.board_core.specs.Places.{line_of}
-use Rattle.sample_words.specs.Sizes.{columns, rows}
-use Rattle.sample_words.specs.Words.{line_number}
-use Rattle.spec_flights.specs.Pictures.{folded_at}
-use Rattle.progress_words.specs.Passes.{view}
-use Rattle.progress_words.specs.Views.{seen_of}
-use Rattle.line_words.specs.Places.{UnitAt, number_at}
 use Rattle.line_words.proofs.Words.{knows_as_much}
+use Rattle.progress_words.specs.Passes.{view}
 use Rattle.sample_lines.specs.FactsOfFlights.{flight_meaning}
 use Rattle.sample_lines.specs.FactsOfFlights.{flight_in}
-use Rattle.sample_lines.specs.FactsOfFlights.{samples_at}
-use Rattle.taken_pictures.specs.Rows.{first_line, side_places}
+use Rattle.taken_pictures.proofs.Held.{held_is}
 use Rattle.taken_pictures.proofs.Passes.{stays_known, stays_own}
-use Rattle.taken_pictures.proofs.Pictures.{final_unit, picture_inside, picture_line, places_in, places_out, row_seen}
-use Rattle.taken_pictures.proofs.Pictures.{sides_in}
-use Rattle.taken_pictures.proofs.Pictures.{sides_out, unit_at}
-use Rattle.taken_pictures.proofs.Places.{sizes_of}
-use Rattle.taken_pictures.proofs.Sides.{line_before_end, no_lines, place_before_end}
-use Rattle.taken_pictures.proofs.Taken.{lines_more, places_more, with_line, with_row}
+use Rattle.taken_pictures.proofs.Pictures.{row_seen}
 use Rattle.taken_pictures.proofs.whole_pictures.take_picture.Goals as goal
 
-pub loop-row-init : goal.loop-row-init
-loop-row-init c =
-    let facts = c.args.board.now.flight in
-    let s = c.args.layout.now in
-    let must = c.requires in
-    record {
-      knows = (refl, refl);
-      sides = sides_in facts s c.args.picture c.args.plan.now must.flight must.picture c.args.planes.now must.sides;
-      places = places_in facts s c.args.picture c.args.plan.now must.flight must.picture c.args.field.now must.places;
-      samples = λ k x y few column line above. absurd (no_lines s k y above);
-      motions = λ i j across down above. absurd (omega (arith, above));
-    }
+pub take_motion-requires-clause-own : goal.take_motion-requires-clause-own
+take_motion-requires-clause-own c =
+    stays_own c.args.pass.now c.take_samples.new.pass c.take_samples.ensures.same c.args.board.now c.requires.own
 
-pub new-at-requires-clause-line : goal.new-at-requires-clause-line
-new-at-requires-clause-line c =
-    let s = c.args.layout.now in
-    let test = c.loop-row-test.true in
-    let count = c.rows-rows.ensures.value in
-    picture_line s c.final_line-last.result S c.args.picture c.loop-row.row c.final_line-last.ensures
-    (picture_inside c.args.board.now.flight s c.args.picture c.args.plan.now c.requires.flight c.requires.picture)
-    (omega (arith, test, count))
+pub take_motion-requires-clause-seen : goal.take_motion-requires-clause-seen
+take_motion-requires-clause-seen c = λ row less.
+    row_seen c.args.layout.now (view c.args.pass.now) (view c.take_samples.new.pass) c.args.picture row
+    c.take_samples.ensures.same.1 c.requires.seen less
 
-pub new-at-requires-clause-unit : goal.new-at-requires-clause-unit
-new-at-requires-clause-unit c =
-    final_unit c.args.layout.now c.final_line-last.result c.args.picture c.loop-row.row c.final_line-last.ensures
-
-pub take_row_samples-requires-clause-own : goal.take_row_samples-requires-clause-own
-take_row_samples-requires-clause-own c =
-    stays_own c.args.pass.now c.loop-row.pass c.loop-row.invariant.knows c.args.board.now c.requires.own
-
-pub take_row_samples-requires-clause-place : goal.take_row_samples-requires-clause-place
-take_row_samples-requires-clause-place c = ap (λ (u : UnitAt). u.sizes) c.new-at.ensures
-
-pub take_row_samples-requires-clause-phase : goal.take_row_samples-requires-clause-phase
-take_row_samples-requires-clause-phase c =
-    ap (λ (u : UnitAt). u.line.phase) c.new-at.ensures ∙ ap (λ (l : Line). l.phase) c.final_line-last.ensures
-
-pub take_row_samples-requires-clause-seen : goal.take_row_samples-requires-clause-seen
-take_row_samples-requires-clause-seen c =
-    let s = c.args.layout.now in
-    let test = c.loop-row-test.true in
-    let count = c.rows-rows.ensures.value in
-    let v = view c.loop-row.pass in
-    let seen = (row_seen s (view c.args.pass.now) v c.args.picture c.loop-row.row c.loop-row.invariant.knows.1
-    c.requires.seen (omega (arith, test, count))).final in
-    subst (λ (u : UnitAt). u.unit < seen_of v (number_at u))
-    (sym (c.new-at.ensures ∙ ap (λ (l : Line). unit_at s l 0) c.final_line-last.ensures))
-    (omega (arith, seen))
-
-pub take_row_motion-requires-clause-own : goal.take_row_motion-requires-clause-own
-take_row_motion-requires-clause-own c =
-    stays_own c.args.pass.now c.take_row_samples.new.pass
-    (knows_as_much c.args.pass.now c.loop-row.pass c.take_row_samples.new.pass c.loop-row.invariant.knows
-    c.take_row_samples.ensures.same)
-    c.args.board.now c.requires.own
-
-pub take_row_motion-requires-clause-line : goal.take_row_motion-requires-clause-line
-take_row_motion-requires-clause-line c =
-    let s = c.args.layout.now in
-    let test = c.loop-row-test.true in
-    let count = c.rows-rows.ensures.value in
-    picture_line s c.built_line-built.result B c.args.picture c.loop-row.row c.built_line-built.ensures
-    (picture_inside c.args.board.now.flight s c.args.picture c.args.plan.now c.requires.flight c.requires.picture)
-    (omega (arith, test, count))
-
-pub take_row_motion-requires-clause-phase : goal.take_row_motion-requires-clause-phase
-take_row_motion-requires-clause-phase c = ap (λ (l : Line). l.phase) c.built_line-built.ensures
-
-pub take_row_motion-requires-clause-picture : goal.take_row_motion-requires-clause-picture
-take_row_motion-requires-clause-picture c =
-    ap (λ (l : Line). slice_get (flight_in c.args.board.now.flight).pictures l.picture) c.built_line-built.ensures
-    ∙ c.requires.picture
-
-pub take_row_motion-requires-clause-seen : goal.take_row_motion-requires-clause-seen
-take_row_motion-requires-clause-seen c =
-    let s = c.args.layout.now in
-    let test = c.loop-row-test.true in
-    let count = c.rows-rows.ensures.value in
-    let v = view c.take_row_samples.new.pass in
-    let knows = knows_as_much c.args.pass.now c.loop-row.pass c.take_row_samples.new.pass c.loop-row.invariant.knows
-    c.take_row_samples.ensures.same in
-    let seen = (row_seen s (view c.args.pass.now) v c.args.picture c.loop-row.row knows.1 c.requires.seen
-    (omega (arith, test, count))).built in
-    subst (λ (l : Line). columns s ≤ seen_of v (line_number s l)) (sym c.built_line-built.ensures) seen
-
-pub take_row_motion-requires-clause-known : goal.take_row_motion-requires-clause-known
-take_row_motion-requires-clause-known c =
-    stays_known c.args.pass.now c.take_row_samples.new.pass
-    (knows_as_much c.args.pass.now c.loop-row.pass c.take_row_samples.new.pass c.loop-row.invariant.knows
-    c.take_row_samples.ensures.same)
+pub take_motion-requires-clause-known : goal.take_motion-requires-clause-known
+take_motion-requires-clause-known c =
+    stays_known c.args.pass.now c.take_samples.new.pass c.take_samples.ensures.same
     (flight_meaning (flight_in c.args.board.now.flight)) c.requires.known
-
-pub loop-row-preserved : goal.loop-row-preserved
-loop-row-preserved c =
-    let i = c.loop-row.invariant in
-    let f = flight_in c.args.board.now.flight in
-    let s = c.args.layout.now in
-    let k : ℕ = c.args.picture in
-    let row : ℕ = c.loop-row.row in
-    let knows = knows_as_much c.args.pass.now c.loop-row.pass c.take_row_samples.new.pass i.knows
-    c.take_row_samples.ensures.same in
-    let final : c.new-at.result ≡ unit_at s (line_of S k row) 0 =
-    c.new-at.ensures ∙ ap (λ (l : Line). unit_at s l 0) c.final_line-last.ensures in
-    record {
-      knows = knows_as_much c.args.pass.now c.take_row_samples.new.pass c.take_row_motion.new.pass knows
-          c.take_row_motion.ensures.same;
-      sides = c.take_row_samples.ensures.sides;
-      places = c.take_row_motion.ensures.sides;
-      samples = λ n x y few column line.
-          lines_more s n row y (samples_at f k S n x y) (samples_of c.loop-row.planes n x y)
-          (samples_of c.take_row_samples.new.planes n x y) (i.samples n x y few column line)
-          (c.take_row_samples.ensures.samples n x y few column line
-          ∙ ap (λ (u : UnitAt). with_row f s u (samples_of c.loop-row.planes) n x y) final);
-      motions = λ x y across down.
-          places_more s row y ((folded_at f k).motions x y) (motions_of c.loop-row.field x y)
-          (motions_of c.take_row_motion.new.field x y) (i.motions x y across down)
-          (c.take_row_motion.ensures.places x y across down
-          ∙ ap (λ (l : Line). with_line f s l (motions_of c.loop-row.field) x y) c.built_line-built.ensures);
-    }
-
-pub returns-clause-sides : goal.returns-clause-sides
-returns-clause-sides c =
-    sides_out c.args.board.now.flight c.args.layout.now c.args.picture c.args.plan.now c.requires.flight
-    c.requires.picture c.loop-row.planes c.loop-row.invariant.sides
-
-pub returns-clause-places : goal.returns-clause-places
-returns-clause-places c =
-    places_out c.args.board.now.flight c.args.layout.now c.args.picture c.args.plan.now c.requires.flight
-    c.requires.picture c.loop-row.field c.loop-row.invariant.places
 
 pub returns-clause-picture : goal.returns-clause-picture
 returns-clause-picture c =
-    let facts = c.args.board.now.flight in
-    let s = c.args.layout.now in
-    let i = c.loop-row.invariant in
-    let count = c.rows-rows.ensures.value in
-    let all : rows s ≡ c.loop-row.row = omega (arith, c.loop-row-test.false, c.loop-row.auto.row-end, count) in
-    c.planes_and_fields_hold_their_pictures.ensures facts s c.args.picture c.args.plan.now c.loop-row.planes
-    c.loop-row.field c.requires.flight c.requires.picture i.sides i.places
-    (λ n x y few column line.
-    i.samples n x y few column line
-    (subst (λ (m : ℕ). y < first_line s n m) all (line_before_end s n y line)))
-    (λ x y across down.
-    i.motions x y across down
-    (subst (λ (m : ℕ). y < side_places s * m) all
-    (place_before_end s y (sizes_of facts s c.requires.flight) down)))
+    held_is (flight_in c.args.board.now.flight) c.args.picture c.args.plan.now c.take_samples.new.planes
+    c.take_motion.new.field c.take_samples.ensures.samples c.take_motion.ensures.motion
+
+pub returns-clause-same : goal.returns-clause-same
+returns-clause-same c =
+    knows_as_much c.args.pass.now c.take_samples.new.pass c.take_motion.new.pass c.take_samples.ensures.same
+    c.take_motion.ensures.same

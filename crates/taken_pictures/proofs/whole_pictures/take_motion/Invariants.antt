@@ -1,23 +1,15 @@
 use Rattle.std.proofs.Common.{◌≡◌, ℕ, ◌*◌, ◌/◌, ◌<◌}
-use Rattle.hv_base.specs.declared.line.Phase.TheVariants.{S}
 use Rattle.picture_buffer.specs.Motion.{HasPlaces, motions_of}
-use Rattle.picture_buffer.specs.Planes.{HasSides, samples_of}
-use Rattle.sample_words.specs.Contents.{component_side}
 use Rattle.spec_flights.specs.Pictures.{folded_at}
 use Rattle.progress_words.specs.Passes.{Knows, view}
 use Rattle.sample_lines.specs.FactsOfFlights.{flight_in}
-use Rattle.sample_lines.specs.FactsOfFlights.{samples_at}
-use Rattle.taken_pictures.specs.Rows.{first_line, side_places}
-use Rattle.taken_pictures.proofs.whole_pictures.take_picture.Given as goal
+use Rattle.taken_pictures.specs.Rows.{side_places}
+use Rattle.taken_pictures.proofs.whole_pictures.take_motion.Given as goal
 
 abbrev pub invariant-loop-row : goal.invariant-loop-row
 invariant-loop-row l = record {
   knows : Knows l.fn.pass l.pass (view l.fn.pass);
-  sides : HasSides l.planes l.layout.width l.layout.height;
   places : HasPlaces l.field (l.layout.width / 4) (l.layout.height / 4);
-  samples : (c x y : ℕ) → c < 3 → x < component_side c l.layout.width → y < component_side c l.layout.height
-      → y < first_line l.layout c l.row
-      → samples_of l.planes c x y ≡ samples_at (flight_in l.board.flight) l.picture S c x y;
   motions : (i j : ℕ) → i < l.layout.width / 4 → j < l.layout.height / 4 → j < side_places l.layout * l.row
       → motions_of l.field i j ≡ (folded_at (flight_in l.board.flight) l.picture).motions i j;
 }
