@@ -7,8 +7,8 @@ use header_types::PictureFormat;
 use plan_types::PicturePlan;
 
 /// The most luma samples of pictures that are decoded together, but for one picture that has more. It bounds the memory
-/// of a board: two pictures of 1920x1080, one of 3840x2160.
-const MOST_LUMA_SAMPLES: u64 = 1 << 22;
+/// of a board: four pictures of 1920x1080, one of 3840x2160.
+const MOST_LUMA_SAMPLES: u64 = 1 << 23;
 
 /// How many of these pictures, which are of one size, are decoded together at most.
 pub(crate) fn most_together(pictures: &[PicturePlan]) -> usize
