@@ -45,7 +45,7 @@ impl Flight {
     }
 
     /// Takes the first `count` pictures out, as a flight of their own; all where there are no more. `Err` is want of
-    /// memory.
+    /// memory: some of these pictures are then lost, and nothing is said of those that are left.
     pub fn take_first(&mut self, count: usize) -> Result<Flight, AllocError>
         ensures first { IfOk result (λ first. first ≡ take count self.old) }
         ensures left { OnOk result (self.new ≡ drop count self.old) }

@@ -24,7 +24,7 @@ pub struct BuiltUnit {
 }
 
 impl BuiltUnit {
-    /// Of no unit yet: it has no sample and no motion, refers to no picture, and gives the loop filters nothing.
+    /// Of no unit yet: it has no sample and no motion, refers to no picture, and no edge of it has a strength.
     #[inline(always)]
     pub fn new() -> BuiltUnit
         ensures samples { (c column line : ℕ) → held result.samples c column line ≡ None }
